@@ -1,0 +1,131 @@
+//! A text's items: how a journal's text is cut into pieces, by its lines.
+ghost use Rattle.std.specs.Prelude.{◌≡◌, ◌≤◌, ◌+◌, IfOk, length};
+ghost use Rattle.std.specs.List.{AllByRecursion};
+ghost use Rattle.hl_base.specs.Items.{items_of};
+ghost use Rattle.hl_base.specs.Pieces.{IsWithin, goes_on, closes, lines_left, bytes_left};
+
+use crate::fault::Memory;
+use crate::line::{closes_block, is_indented, is_remark, kind_of, line_at};
+use crate::list::List;
+use std::alloc::Global;
+
+/// What a piece of a text is.
+#[derive(Clone, Copy, Debug, PartialEq, Eq)]
+pub enum Kind {
+    /// Lines that are blank or whose first character after white space is `;`, `#` or `*`.
+    Gap,
+    /// A line `comment` and all lines through `end comment`, or through the end of the text.
+    Block,
+    /// A line that begins with a digit, and the indented lines after it.
+    Entry,
+    /// Any other line, and the indented lines after it.
+    Head,
+    /// Indented lines that belong to nothing.
+    Stray,
+}
+
+/// One piece of a text: where it begins, in bytes, how many bytes it has, the number of its first line,
+/// counted from 1, and what it is.
+#[derive(Clone, Copy, Debug, PartialEq, Eq)]
+pub struct Piece {
+    pub at: u64,
+    pub len: u64,
+    pub line: u64,
+    pub kind: Kind,
+}
+
+/// Cuts a text into its items: from the front, the next piece is the first kind that fits.
+pub fn cut_items(alloc: Global, text: &[u8]) -> Result<List<Piece>, Memory>
+    ensures cut { IfOk result (λ pieces. pieces ≡ items_of text.now) }
+    // Each lies in the text, and its lines are counted below its end.
+    ensures within { IfOk result (λ pieces. AllByRecursion (IsWithin (length text.now)) pieces) }
+{
+    let mut pieces = Vec::new(alloc);
+    let mut at = 0;
+    let mut line = 1;
+    while at < text.len() {
+        let (first, first_end) = line_at(text, at);
+        let kind = kind_of(first);
+        let (end, lines) = piece_end(text, first_end, kind);
+        pieces.push(Piece {
+            at: at as u64,
+            len: (end - at) as u64,
+            line,
+            kind,
+        })?;
+        at = end;
+        line += 1 + lines;
+    }
+    Ok(List::from_vec(pieces))
+}
+
+/// Where a piece ends whose first line ends at `start`, and how many lines it takes after that.
+fn piece_end(text: &[u8], start: usize, kind: Kind) -> (usize, u64)
+    requires { start ≤ length text.now }
+    ensures end { result.0 ≡ start + bytes_left kind text.now start }
+    ensures lines { result.1 ≡ lines_left kind text.now start }
+    ensures bounds { (start + result.1 ≤ result.0) × (result.0 ≤ length text.now) }
+{
+    let mut end = start;
+    let mut lines = 0;
+    while end < text.len() {
+        let (line, next) = line_at(text, end);
+        if !goes_on(kind, line) {
+            return (end, lines);
+        }
+        end = next;
+        lines += 1;
+        if closes(kind, line) {
+            return (end, lines);
+        }
+    }
+    (end, lines)
+}
+
+/// Whether a piece of the kind takes the line.
+fn goes_on(kind: Kind, line: &[u8]) -> bool
+    ensures { result ≡ goes_on kind line.now }
+{
+    match kind {
+        Kind::Gap => is_remark(line),
+        Kind::Block => true,
+        Kind::Entry | Kind::Head | Kind::Stray => is_indented(line),
+    }
+}
+
+/// Whether the line is the last of a piece of the kind.
+fn closes(kind: Kind, line: &[u8]) -> bool
+    ensures { result ≡ closes kind line.now }
+{
+    match kind {
+        Kind::Block => closes_block(line),
+        Kind::Gap | Kind::Entry | Kind::Head | Kind::Stray => false,
+    }
+}
+
+#[cfg(test)]
+mod tests {
+    use super::*;
+    use std::test::Fail;
+
+    #[test]
+    fn cuts_each_kind(rt: HostRuntime) -> Result<(), Fail> {
+        let text = b"; a\n\n  x\n2024 a\n  b\n\t; c\ncomment\n2024\nend comment\t\nP 1\r\n y\n";
+        let pieces = cut_items(rt.alloc(), text)?;
+        let expected = [
+            (0, 5, 1, Kind::Gap),
+            (5, 4, 3, Kind::Stray),
+            (9, 16, 4, Kind::Entry),
+            (25, 26, 7, Kind::Block),
+            (51, 8, 10, Kind::Head),
+        ];
+        assert_eq!(rt; pieces.len(), expected.len());
+        for (piece, (at, len, line, kind)) in pieces.as_slice().iter().zip(&expected) {
+            assert_eq!(rt; piece.at, *at);
+            assert_eq!(rt; piece.len, *len);
+            assert_eq!(rt; piece.line, *line);
+            assert_eq!(rt; piece.kind, *kind);
+        }
+        Ok(())
+    }
+}
