@@ -1,6 +1,6 @@
 -- How far a piece goes.
 use Rattle.std.specs.Prelude.{ℕ, ◌+◌, ◌≤◌, Bool, true, false, List, length, take, drop}
-use Rattle.std.specs.List.{concat}
+use Rattle.std.specs.List.{concat, sum_by}
 use Rattle.hl_base.specs.declared.items.Kind.{Kind}
 use Rattle.hl_base.specs.declared.items.Kind.TheVariants.{Gap, Block, Entry, Head, Stray}
 use Rattle.hl_base.specs.declared.items.Piece.{Piece}
@@ -11,6 +11,10 @@ use Rattle.hl_base.specs.Items.{is_remark, is_indented, closes_block, lines_more
 pub record IsWithin (size : ℕ) (piece : Piece) : Type 0 where
   pub bytes : piece.at + piece.len ≤ size
   pub lines : piece.line + piece.len ≤ size + 1
+
+-- the bytes of some pieces
+abbrev pub bytes_in : List Piece → ℕ
+bytes_in pieces = sum_by (λ p. p.len) pieces
 
 -- the bytes of the first n lines
 abbrev pub span : ℕ → List (List ℕ) → ℕ

@@ -2,7 +2,7 @@
 ghost use Rattle.std.specs.Prelude.{◌≡◌, ◌≤◌, ◌+◌, IfOk, length};
 ghost use Rattle.std.specs.List.{AllByRecursion};
 ghost use Rattle.hl_base.specs.Items.{items_of};
-ghost use Rattle.hl_base.specs.Pieces.{IsWithin, goes_on, closes, lines_left, bytes_left};
+ghost use Rattle.hl_base.specs.Pieces.{IsWithin, bytes_in, goes_on, closes, lines_left, bytes_left};
 
 use crate::fault::Memory;
 use crate::line::{closes_block, is_indented, is_remark, kind_of, line_at};
@@ -39,6 +39,8 @@ pub fn cut_items(alloc: Global, text: &[u8]) -> Result<List<Piece>, Memory>
     ensures cut { IfOk result (λ pieces. pieces ≡ items_of text.now) }
     // Each lies in the text, and its lines are counted below its end.
     ensures within { IfOk result (λ pieces. AllByRecursion (IsWithin (length text.now)) pieces) }
+    // They cover the text.
+    ensures whole { IfOk result (λ pieces. bytes_in pieces ≡ length text.now) }
 {
     let mut pieces = Vec::new(alloc);
     let mut at = 0;

@@ -1,9 +1,10 @@
 use Rattle.hl_base.specs.declared.items.Piece.{Piece}
 use Rattle.std.proofs.Common.{◌≡◌, ◌+◌, ◌-◌, ◌++◌, List, [], ◌∷◌, subst, length, drop, ap, sym, ◌∙◌, arith, rules, append_assoc, append-nil}
 use Rattle.std.specs.List.{AllByRecursion}
+use Rattle.std.proofs.lemmas.List.Sums.{sum_by-append}
 use Rattle.hl_base.specs.Lines.{first_line, lines_of}
 use Rattle.hl_base.specs.Items.{kind_of, cut_from, items_of}
-use Rattle.hl_base.specs.Pieces.{IsWithin, lines_left, bytes_left}
+use Rattle.hl_base.specs.Pieces.{IsWithin, bytes_in, lines_left, bytes_left}
 use Rattle.hl_base.proofs.CutLemmas.{cut_step, each_push, cut_end}
 use Rattle.hl_base.proofs.items.cut_items.Goals as goal
 
@@ -29,6 +30,11 @@ loop-at-preserved c =
           ∙ ap (λ ps. c.loop-at.pieces.items ++ piece ∷ ps) tail
           ∙ ap (λ ps. c.loop-at.pieces.items ++ ps) (sym step)
           ∙ c.loop-at.invariant.cut;
+      covered =
+          let joined : bytes_in c.push.new.self.items ≡ bytes_in c.loop-at.pieces.items + bytes_in (piece ∷ []) =
+          ap bytes_in c.in_ok-push.ensures.items ∙ sum_by-append (λ (p : Piece). p.len) c.loop-at.pieces.items (piece ∷ []) in
+          let last : bytes_in (piece ∷ []) ≡ end - c.loop-at.at = omega arith in
+          omega (arith, joined, last, c.loop-at.invariant.covered, c.piece_end-end.ensures.bounds, c.line_at-first_end.ensures.bounds);
       each =
           let F : List Piece → Type 0 = λ ps. AllByRecursion (IsWithin (length text)) ps in
           subst F (sym c.in_ok-push.ensures.items)
