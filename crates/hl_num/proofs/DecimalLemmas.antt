@@ -1,0 +1,62 @@
+-- Facts on integers, powers of ten and units.
+use Rattle.std.proofs.Common.{ℕ, ℤ, pos, negsuc, ◌≡◌, ◌+◌, ◌-◌, ◌*◌, ◌^◌, ◌<◌, ◌≤◌, ◌+ℤ◌, ◌*ℤ◌, neg_ℤ, refl, sym, ap, ◌∙◌, arith, lit<, unsigned_abs, zero, suc, zero-mul}
+use Rattle.std.proofs.lemmas.Int.{unsigned_abs-mul}
+use Rattle.std.proofs.lemmas.Nat.{pow-add}
+use Rattle.std.proofs.Math.Nat.{pow-le-pow_right, mul_assoc, mul-le-mul_left}
+use borrow.Author.Differences.{up, down, product_is, sum_is_lem, same_in}
+use Rattle.hl_num.specs.Decimal.{Decimal, units_of, mantissa_at}
+
+pub up-mul : (a : ℤ) (n : ℕ) → up (a *ℤ pos n) ≡ up a * n
+up-mul a n = omega (arith, (product_is a (pos n)).0)
+
+pub down-mul : (a : ℤ) (n : ℕ) → down (a *ℤ pos n) ≡ down a * n
+down-mul a n = omega (arith, (product_is a (pos n)).1)
+
+-- a product distributes over a sum
+pub mul-add : (a b : ℤ) (n : ℕ) → (a +ℤ b) *ℤ pos n ≡ a *ℤ pos n +ℤ b *ℤ pos n
+mul-add a b n =
+    let scaled = ap (λ (x : ℕ). x * n) (sum_is_lem a b) in
+    same_in _ _ (omega (arith, scaled, up-mul (a +ℤ b) n, down-mul (a +ℤ b) n, up-mul a n, down-mul a n, up-mul b n, down-mul b n, sum_is_lem (a *ℤ pos n) (b *ℤ pos n)))
+
+pub neg-mul : (k n : ℕ) → neg_ℤ (pos k) *ℤ pos n ≡ neg_ℤ (pos (k * n))
+neg-mul zero n = rw zero-mul refl
+neg-mul (suc k) n = refl
+
+-- two factors one after the other are one
+pub mul-mul : (a : ℤ) (m n : ℕ) → a *ℤ pos m *ℤ pos n ≡ a *ℤ pos (m * n)
+mul-mul (pos a) m n = ap pos (mul_assoc a m n)
+mul-mul (negsuc a) m n = neg-mul (suc a * m) n ∙ ap (λ (k : ℕ). neg_ℤ (pos k)) (mul_assoc (suc a) m n)
+
+-- a power of ten that an exponent of at most 38 gives fits 127 bits
+pub pow_ten_below : (k : ℕ) → k ≤ 38 → 10 ^ k < 2 ^ 127
+pow_ten_below k h =
+    let small : 10 ^ k ≤ 10 ^ 38 = pow-le-pow_right {n = 10} (lit< tt) h in
+    let top : 10 ^ 38 < 2 ^ 127 = lit< tt in
+    omega (arith, small, top)
+
+-- more places leave the value as it is
+pub units_of-mantissa_at : (d : Decimal) (p : ℕ) → d.places ≤ p → p ≤ 36 → mantissa_at d p *ℤ pos (10 ^ (36 - p)) ≡ units_of d
+units_of-mantissa_at d p more few =
+    let split : 36 - d.places ≡ (p - d.places) + (36 - p) = omega arith in
+    mul-mul d.mantissa (10 ^ (p - d.places)) (10 ^ (36 - p))
+    ∙ ap (λ (n : ℕ). d.mantissa *ℤ pos n) (sym (pow-add 10 (p - d.places) (36 - p)) ∙ ap (λ (k : ℕ). 10 ^ k) (sym split))
+
+-- the sum of the mantissas at one number of places is the exact sum
+pub units_of-sum : (a b : Decimal) (p : ℕ) → a.places ≤ p → b.places ≤ p → p ≤ 36 → (mantissa_at a p +ℤ mantissa_at b p) *ℤ pos (10 ^ (36 - p)) ≡ units_of a +ℤ units_of b
+units_of-sum a b p more more_still few =
+    mul-add (mantissa_at a p) (mantissa_at b p) (10 ^ (36 - p))
+    ∙ ap (λ (x : ℤ). x +ℤ mantissa_at b p *ℤ pos (10 ^ (36 - p))) (units_of-mantissa_at a p more few)
+    ∙ ap (λ (x : ℤ). units_of a +ℤ x) (units_of-mantissa_at b p more_still few)
+
+-- a value is zero exactly where its mantissa is
+pub zero-from_units : (m : ℤ) (n : ℕ) → 0 < n → m *ℤ pos n ≡ pos 0 → m ≡ pos 0
+zero-from_units m n positive none =
+    unsigned_abs-zero m (zero-from_product (unsigned_abs m) n positive (sym (unsigned_abs-mul m (pos n)) ∙ ap unsigned_abs none))
+  where
+    zero-from_product : (a k : ℕ) → 0 < k → a * k ≡ 0 → a ≡ 0
+    zero-from_product zero k h e = refl
+    zero-from_product (suc a) k h e = absurd (omega (arith, mul-le-mul_left (suc a) h))
+
+    unsigned_abs-zero : (z : ℤ) → unsigned_abs z ≡ 0 → z ≡ pos 0
+    unsigned_abs-zero (pos a) e = ap pos e
+    unsigned_abs-zero (negsuc a) e = absurd (omega arith)

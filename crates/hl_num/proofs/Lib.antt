@@ -1,0 +1,9 @@
+pub mod CompareLemmas
+pub mod DecimalLaws
+pub mod DecimalLemmas
+pub mod NearestLaws
+pub mod PrintingLemmas
+pub mod ReadBackLaws
+pub mod ReadingLemmas
+pub mod RoundingLemmas
+pub mod TrimLemmas

@@ -1,0 +1,5 @@
+pub mod Decimal
+pub mod Groups
+pub mod Printing
+pub mod Reading
+pub mod Rounding
