@@ -1,0 +1,9 @@
+pub mod CalendarRows
+pub mod CivilDays
+pub mod DateRows
+pub mod Inverse
+pub mod UnitLaws
+pub mod SplitLaws
+pub mod OccurrenceLaws
+pub mod TextLaws
+pub mod PeriodRows
