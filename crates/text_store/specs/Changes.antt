@@ -1,0 +1,32 @@
+-- The records of changes.
+use Rattle.std.specs.Prelude.{ℕ, ◌<◌, ◌^◌, List, ◌++◌, length}
+use Rattle.std.specs.Int.{w32, w64, to_le_bytes}
+use Rattle.hl_base.specs.declared.change.Latest.{Latest}
+use Rattle.hl_base.specs.declared.change.Splice.{Splice as Part}
+use Rattle.text_store.specs.declared.change.Change.{Change}
+use Rattle.text_store.specs.declared.change.Change.TheVariants.{Splice, Whole, Import}
+
+-- a splice: its place and how many bytes it removes in eight bytes each, and the bytes that it inserts
+abbrev pub splice_payload : Part → List ℕ
+splice_payload splice = to_le_bytes w64 splice.at ++ to_le_bytes w64 splice.removed ++ splice.inserted
+
+-- an import's state: the length of its name in four bytes, the name, and the day and the count in four each
+abbrev pub mark_payload : Latest → List ℕ
+mark_payload latest = to_le_bytes w32 (length latest.name) ++ latest.name ++ to_le_bytes w32 latest.day ++ to_le_bytes w32 latest.count
+
+-- S for a splice, T for the whole text, I for an import
+abbrev pub kind_of : Change → ℕ
+kind_of (Splice splice) = 83
+kind_of (Whole text) = 84
+kind_of (Import latest splice) = 73
+
+abbrev pub payload_of : Change → List ℕ
+payload_of (Splice splice) = splice_payload splice
+payload_of (Whole text) = text
+payload_of (Import latest splice) = mark_payload latest ++ splice_payload splice
+
+-- an import's name has fewer than 2^32 bytes
+abbrev pub HasShortName : Change → Type 0
+HasShortName (Splice splice) = Unit {0}
+HasShortName (Whole text) = Unit {0}
+HasShortName (Import latest splice) = length latest.name < 2 ^ 32
