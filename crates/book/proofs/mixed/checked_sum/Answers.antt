@@ -1,0 +1,10 @@
+use Rattle.std.proofs.Common.{sym, subst, ◌≤◌, ap}
+use Rattle.hl_num.specs.Decimal.{Decimal}
+use Rattle.book.proofs.Added.{plus_from}
+use Rattle.book.proofs.mixed.checked_sum.Goals as goal
+
+pub returns-clause-value : goal.returns-clause-value
+returns-clause-value c =
+    let a = subst (λ (d : Decimal). d.places ≤ 36) c.a.view_is c.a.invariant.places_bound in
+    let b = subst (λ (d : Decimal). d.places ≤ 36) c.b.view_is c.b.invariant.places_bound in
+    plus_from c.args.a c.args.b c.in_ok-sum.sum a b c.in_ok-sum.ensures.value c.in_ok-sum.ensures.places

@@ -1,0 +1,11 @@
+pub mod Accounts
+pub mod Bounds
+pub mod Entries
+pub mod Mixed
+pub mod Noted
+pub mod Order
+pub mod Places
+pub mod Postings
+pub mod Printed
+pub mod Style
+pub mod Sums

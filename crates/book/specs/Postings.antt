@@ -1,0 +1,55 @@
+-- Postings, transactions and items, as lists.
+use Rattle.std.specs.Prelude.{ℕ, Bool, true, false, List, [], ◌∷◌, ◌++◌, Option, Some, None}
+use Rattle.std.specs.List.{flat_map, list_all}
+use Rattle.std.specs.Str.{bytes_eq}
+use Rattle.book.specs.declared.amount.Amount.{Amount}
+use Rattle.book.specs.declared.transaction.Posting.{Posting}
+use Rattle.book.specs.declared.transaction.Txn.{Txn}
+use Rattle.book.specs.declared.transaction.Side.{Side}
+use Rattle.book.specs.declared.transaction.Mark.TheVariants.{Unmarked}
+use Rattle.book.specs.declared.item.Placed.{Placed}
+use Rattle.book.specs.declared.item.Item.{Item}
+use Rattle.book.specs.declared.item.Item.TheVariants as item
+
+-- a posting of an account that says nothing else
+abbrev pub plain_posting : ℕ → Side → List ℕ → Posting
+plain_posting line side account = record {
+  line = line;
+  mark = Unmarked;
+  side = side;
+  account = account;
+  amount = None;
+  cost = None;
+  wanted = None;
+  filled = false;
+  costed = false;
+  comment = [];
+  tags = [];
+  day = None;
+}
+
+-- the postings of some transactions, in order
+abbrev pub postings_of : List Txn → List Posting
+postings_of txns = flat_map (λ t. t.postings) txns
+
+-- the transaction that an item is
+abbrev pub txn_in : Item → List Txn
+txn_in item.Gap = []
+txn_in (item.Txn t) = t ∷ []
+
+-- the transactions among some items, in order
+abbrev pub txns_of : List Placed → List Txn
+txns_of items = flat_map (λ placed. txn_in placed.item) items
+
+abbrev pub has_symbol : List ℕ → Option Amount → Bool
+has_symbol symbol None = false
+has_symbol symbol (Some a) = bytes_eq a.symbol symbol
+
+abbrev pub all_have : Option Amount → List Posting → Bool
+all_have None ps = false
+all_have (Some a) ps = list_all (λ p. has_symbol a.symbol p.amount) ps
+
+-- there is a posting, and all have one symbol
+abbrev pub have_one_symbol : List Posting → Bool
+have_one_symbol [] = false
+have_one_symbol (p ∷ ps) = all_have p.amount (p ∷ ps)
