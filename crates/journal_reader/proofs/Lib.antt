@@ -1,0 +1,9 @@
+pub mod Lines
+pub mod Ascii
+pub mod Digits
+pub mod Parts
+pub mod Reading
+pub mod Gaps
+pub mod Whole
+pub mod Small
+pub mod Laws
