@@ -1,0 +1,4 @@
+pub mod Balanced
+pub mod Check
+pub mod First
+pub mod Load
