@@ -1,0 +1,5 @@
+pub mod Final
+pub mod Holding
+pub mod Reading
+pub mod Rows
+pub mod Totals

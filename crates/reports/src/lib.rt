@@ -1,0 +1,9 @@
+//! What a report is made of, and the sums that it shows.
+#![tactic(auto)]
+
+pub mod cells;
+mod kept;
+#[cfg(test)]
+mod tests;
+
+pub use cells::{CellRow, Cells, Job, ReportFault, make_cells};
