@@ -1,0 +1,2 @@
+pub mod BalanceList
+pub mod Shown

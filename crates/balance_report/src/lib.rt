@@ -1,0 +1,12 @@
+//! The layouts of a balance report.
+#![tactic(auto)]
+
+mod balance_list;
+mod lines;
+mod printed;
+mod shown;
+
+pub use balance_list::balance_text;
+
+#[cfg(test)]
+mod tests;
