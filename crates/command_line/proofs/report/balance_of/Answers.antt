@@ -1,0 +1,19 @@
+use Rattle.std.proofs.Common.{◌≡◌, ℕ, List, Result, Ok, refl, ap, sym, ◌∙◌}
+use Rattle.book.specs.Postings.{postings_of}
+use Rattle.book.specs.Style.{style_in, style_of}
+use Rattle.balancing.specs.Load.{load}
+use Rattle.reports.specs.Cells.{rows_of, totals_of}
+use Rattle.balance_report.specs.BalanceList.{balance_list}
+use Rattle.command_line.specs.Output.{loaded_outcome, book_list}
+use Rattle.command_line.proofs.report.balance_of.Goals as goal
+
+pub returns-in-Ok : goal.returns-in-Ok
+returns-in-Ok c =
+    let items = c.args.items in
+    let book = c.in-Ok.book in
+    let loads : load items ≡ Ok book = c.in-Ok.ensures.answer in
+    let texts : book_list items book ≡ c.in_ok-book_list-in-Ok.field-0 =
+    ap (λ its. book_list its book) (sym c.as_slice.ensures)
+    ∙ (λ i. balance_list (λ symbol. sym (c.in_ok-styles.ensures symbol) i) (rows_of (postings_of book.txns)) (totals_of (postings_of book.txns)))
+    ∙ sym c.in_ok-book_list-in-Ok.ensures in
+    record { found = rw loads (refl, texts) }

@@ -1,0 +1,70 @@
+-- What a command answers to a text on its input.
+use Rattle.std.specs.Prelude.{ℕ, ◌+◌, List, [], ◌∷◌, nat_lt, Option, Some, None, Result, Ok, Err, if◌then◌else◌, length, codes}
+use Rattle.std.specs.Str.{bytes_eq}
+use Rattle.hl_base.specs.Items.{items_of}
+use Rattle.book.specs.declared.fault.Fault.{Fault}
+use Rattle.book.specs.declared.item.Placed.{Placed}
+use Rattle.book.specs.declared.item.Book.{Book}
+use Rattle.book.specs.Postings.{postings_of}
+use Rattle.book.specs.Style.{style_of}
+use Rattle.journal_reader.specs.Items.{reading}
+use Rattle.balancing.specs.Load.{load}
+use Rattle.reports.specs.Cells.{rows_of, totals_of}
+use Rattle.balance_report.specs.BalanceList.{balance_list}
+use Rattle.command_line.specs.Errors.{usage_line, usage_word_line, fault_line, limit_line}
+
+-- what is written: the standard output and the error output, and the exit status
+pub record Outcome : Type 0 where
+  pub output : List ℕ
+  pub error : List ℕ
+  pub status : ℕ
+
+abbrev pub written : List ℕ → Outcome
+written output = record { output = output; error = []; status = 0 }
+
+abbrev pub refused : ℕ → List ℕ → Outcome
+refused status line = record { output = []; error = line; status = status }
+
+-- the most bytes and items that a text may have
+abbrev pub most_bytes : ℕ
+most_bytes = 16777216
+
+abbrev pub most_items : ℕ
+most_items = 200000
+
+-- the error line of words that have no reading: the one word that reads is `balance`
+abbrev pub usage_after : List (List ℕ) → Option (List ℕ)
+usage_after [] = None
+usage_after (word ∷ words) = Some (usage_word_line word)
+
+abbrev pub usage_of : List (List ℕ) → Option (List ℕ)
+usage_of [] = Some usage_line
+usage_of (word ∷ words) = if bytes_eq word (codes "balance") then usage_after words else Some (usage_word_line word)
+
+-- the balance list of a book, in the styles of the text's items
+abbrev pub book_list : List Placed → Book → List ℕ
+book_list items book = balance_list (style_of items) (rows_of (postings_of book.txns)) (totals_of (postings_of book.txns))
+
+abbrev pub loaded_outcome : List Placed → Result Book Fault → Outcome
+loaded_outcome items (Ok book) = written (book_list items book)
+loaded_outcome items (Err fault) = refused 1 (fault_line fault)
+
+abbrev pub read_outcome : Result (List Placed) Fault → Outcome
+read_outcome (Ok items) = loaded_outcome items (load items)
+read_outcome (Err fault) = refused 1 (fault_line fault)
+
+-- The limits of a text are judged first, its bytes before its items; then its items are read; then they are loaded.
+-- A text of too many bytes is told as one byte above the limit.
+abbrev pub report_outcome : List ℕ → Outcome
+report_outcome text =
+    if nat_lt most_bytes (length text) then refused 7 (limit_line (most_bytes + 1) most_bytes)
+    else if nat_lt most_items (length (items_of text)) then refused 7 (limit_line (length (items_of text)) most_items)
+    else read_outcome (reading text)
+
+abbrev pub told_outcome : Option (List ℕ) → List ℕ → Outcome
+told_outcome None text = report_outcome text
+told_outcome (Some line) text = refused 2 line
+
+-- What the words answer to a text: their reading is judged before the text.
+abbrev pub outcome : List (List ℕ) → List ℕ → Outcome
+outcome words text = told_outcome (usage_of words) text

@@ -1,0 +1,9 @@
+//! What the program does with its words: the commands, their answers and their exit statuses.
+#![tactic(auto)]
+
+mod errors;
+mod program;
+mod refusal;
+mod report;
+
+pub use program::{Status, run};

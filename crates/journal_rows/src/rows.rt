@@ -1,0 +1,244 @@
+//! Worked rows of `balance`: what it must answer to small texts.
+use crate::case::{Case, Seen, answer};
+use std::alloc::Global;
+use std::process::Abort;
+use std::test::Fail;
+
+/// The 68 bytes of one entry.
+const BREAD: &[u8] = b"2024-01-05 bread\n    expenses:food  10 EUR\n    assets:cash  -10 EUR\n";
+
+fn told(alloc: Global, words: &[&str], text: &[u8]) -> Result<Seen, Fail> {
+    Ok(answer(
+        alloc,
+        &Case {
+            words,
+            text,
+            read_fails: &[],
+            write_fails: &[],
+            error_fails: &[],
+        },
+    )?)
+}
+
+fn expect(rt: &impl Abort, seen: &Seen, status: u8, output: &[u8], error: &[u8], what: &str) {
+    assert_eq!(rt; seen.status, status, "status of {what}");
+    assert_eq!(rt; seen.output.as_slice(), output, "output of {what}");
+    assert_eq!(rt; seen.error.as_slice(), error, "error of {what}");
+}
+
+#[test]
+fn lists_balances(rt: HostRuntime) -> Result<(), Fail> {
+    for (what, text, output) in [
+        (
+            "one entry",
+            b"2024-01-05 bread\n    expenses:food  10 EUR\n    assets:cash  -10 EUR\n".as_slice(),
+            b"             -10 EUR  assets:cash\n              10 EUR  expenses:food\n--------------------\n                   0  \n".as_slice(),
+        ),
+        (
+            "no text",
+            b"".as_slice(),
+            b"--------------------\n                   0  \n".as_slice(),
+        ),
+        (
+            "two symbols in one account",
+            b"2024-01-01 a\n    x  1 EUR\n    y  -1 EUR\n2024-01-02 b\n    x  2 USD\n    y  -2 USD\n".as_slice(),
+            b"               1 EUR\n               2 USD  x\n              -1 EUR\n              -2 USD  y\n--------------------\n                   0  \n".as_slice(),
+        ),
+        (
+            "more decimals later",
+            b"2024-01-01 a\n    x  10 EUR\n    y  -10 EUR\n2024-01-02 b\n    x  0.5 EUR\n    y  -0.5 EUR\n".as_slice(),
+            b"            10.5 EUR  x\n           -10.5 EUR  y\n--------------------\n                   0  \n".as_slice(),
+        ),
+        (
+            "a sum of zero",
+            b"2024-01-01 a\n    x  1.00 EUR\n    y  -1.00 EUR\n2024-01-02 b\n    x  -1 EUR\n    z  1 EUR\n".as_slice(),
+            b"           -1.00 EUR  y\n            1.00 EUR  z\n--------------------\n                   0  \n".as_slice(),
+        ),
+        (
+            "part by part",
+            b"2024-01-01 a\n    a1  1 E\n    a:b  1 E\n    a  1 E\n    b  -3 E\n".as_slice(),
+            b"                 1 E  a\n                 1 E  a:b\n                 1 E  a1\n                -3 E  b\n--------------------\n                   0  \n".as_slice(),
+        ),
+        (
+            "no last line end",
+            b"2024-01-05 bread\n    expenses:food  10 EUR\n    assets:cash  -10 EUR".as_slice(),
+            b"             -10 EUR  assets:cash\n              10 EUR  expenses:food\n--------------------\n                   0  \n".as_slice(),
+        ),
+        (
+            "blank lines around",
+            b"\n \t\r\n2024-01-05 bread\n    expenses:food  10 EUR\n    assets:cash  -10 EUR\n\n\n".as_slice(),
+            b"             -10 EUR  assets:cash\n              10 EUR  expenses:food\n--------------------\n                   0  \n".as_slice(),
+        ),
+        (
+            "the first and the last day",
+            b"0001-01-01 a\n    x  1 E\n    y  -1 E\n9999-12-31 b\n    x  1 E\n    y  -1 E\n".as_slice(),
+            b"                 2 E  x\n                -2 E  y\n--------------------\n                   0  \n".as_slice(),
+        ),
+        (
+            "a wide amount",
+            b"2024-01-01 a\n    x  123456789012345.12 LONGSYMBOL\n    y  -123456789012345.12 LONGSYMBOL\n".as_slice(),
+            b" 123456789012345.12 LONGSYMBOL  x\n-123456789012345.12 LONGSYMBOL  y\n------------------------------\n                             0  \n".as_slice(),
+        ),
+    ] {
+        let seen = told(rt.alloc(), &["balance"], text)?;
+        expect(&rt, &seen, 0, output, b"", what);
+    }
+    Ok(())
+}
+
+#[test]
+fn refuses_texts(rt: HostRuntime) -> Result<(), Fail> {
+    for (what, text, error) in [
+        (
+            "unbalanced",
+            b"2024-01-05 bread\n    expenses:food  10 EUR\n    assets:cash  -11 EUR\n".as_slice(),
+            b"error: line 1: unbalanced -1 EUR\n".as_slice(),
+        ),
+        (
+            "unbalanced by decimals",
+            b"2024-01-01 a\n    x  0.50 E\n    y  1 E\n".as_slice(),
+            b"error: line 1: unbalanced 1.50 E\n".as_slice(),
+        ),
+        (
+            "the earlier day decides",
+            b"2024-02-01 a\n    x  1 E\n2024-01-01 b\n    x  2 E\n".as_slice(),
+            b"error: line 3: unbalanced 2 E\n".as_slice(),
+        ),
+        (
+            "on one day the first decides",
+            b"2024-01-01 a\n    x  1 E\n2024-01-01 b\n    x  2 E\n".as_slice(),
+            b"error: line 1: unbalanced 1 E\n".as_slice(),
+        ),
+        (
+            "a form that isn't built comes first",
+            b"2024-01-01 a\n    x  1 E\nP 2024-01-01 A 1 E\n".as_slice(),
+            b"error: line 3: not built\n".as_slice(),
+        ),
+        (
+            "no such day",
+            b"2023-02-29 a\n    x  1 E\n    y  -1 E\n".as_slice(),
+            b"error: line 1: not built\n".as_slice(),
+        ),
+        (
+            "year zero",
+            b"0000-01-01 a\n    x  1 E\n    y  -1 E\n".as_slice(),
+            b"error: line 1: not built\n".as_slice(),
+        ),
+        (
+            "a blank line below the head",
+            b"2024-01-01 a\n\n    x  1 E\n    y  -1 E\n".as_slice(),
+            b"error: line 1: not built\n".as_slice(),
+        ),
+        (
+            "two symbols in one entry",
+            b"2024-01-01 a\n    x  1 E\n    y  -1 F\n".as_slice(),
+            b"error: line 1: not built\n".as_slice(),
+        ),
+        (
+            "a third line that isn't a posting",
+            b"2024-01-01 a\n    x  1 E\n    y -1 E\n".as_slice(),
+            b"error: line 3: not built\n".as_slice(),
+        ),
+        (
+            "sixteen digits",
+            b"2024-01-01 a\n    x  1234567890123456 E\n".as_slice(),
+            b"error: line 2: not built\n".as_slice(),
+        ),
+        (
+            "three decimals",
+            b"2024-01-01 a\n    x  1.234 E\n".as_slice(),
+            b"error: line 2: not built\n".as_slice(),
+        ),
+        (
+            "an empty part",
+            b"2024-01-01 a\n    x::y  1 E\n".as_slice(),
+            b"error: line 2: not built\n".as_slice(),
+        ),
+        (
+            "a comment line",
+            b"; a\n".as_slice(),
+            b"error: line 1: not built\n".as_slice(),
+        ),
+        (
+            "a line end of two bytes",
+            b"2024-01-01 a\r\n    x  0 E\n".as_slice(),
+            b"error: line 1: not built\n".as_slice(),
+        ),
+    ] {
+        let seen = told(rt.alloc(), &["balance"], text)?;
+        expect(&rt, &seen, 1, b"", error, what);
+    }
+    Ok(())
+}
+
+#[test]
+fn refuses_words(rt: HostRuntime) -> Result<(), Fail> {
+    for (words, error) in [
+        ([].as_slice(), b"error: usage\n".as_slice()),
+        (["bal"].as_slice(), b"error: usage: bal\n".as_slice()),
+        (
+            ["balance", "-N"].as_slice(),
+            b"error: usage: -N\n".as_slice(),
+        ),
+        (
+            ["balance", "balance"].as_slice(),
+            b"error: usage: balance\n".as_slice(),
+        ),
+    ] {
+        let seen = told(rt.alloc(), words, BREAD)?;
+        expect(&rt, &seen, 2, b"", error, "words");
+    }
+    Ok(())
+}
+
+#[test]
+fn tells_faults_of_the_outside(rt: HostRuntime) -> Result<(), Fail> {
+    for (read_fails, write_fails, error_fails, status, error) in [
+        (
+            [1].as_slice(),
+            [].as_slice(),
+            [].as_slice(),
+            3,
+            b"error: read fault\n".as_slice(),
+        ),
+        (
+            [2].as_slice(),
+            [].as_slice(),
+            [].as_slice(),
+            3,
+            b"error: read fault\n".as_slice(),
+        ),
+        (
+            [].as_slice(),
+            [1].as_slice(),
+            [].as_slice(),
+            4,
+            b"error: write fault\n".as_slice(),
+        ),
+        (
+            [].as_slice(),
+            [1].as_slice(),
+            [1].as_slice(),
+            4,
+            b"".as_slice(),
+        ),
+        (
+            [1].as_slice(),
+            [].as_slice(),
+            [1].as_slice(),
+            4,
+            b"".as_slice(),
+        ),
+    ] {
+        let case = Case {
+            words: &["balance"],
+            text: BREAD,
+            read_fails,
+            write_fails,
+            error_fails,
+        };
+        let seen = answer(rt.alloc(), &case)?;
+        expect(&rt, &seen, status, b"", error, "a fault");
+    }
+    Ok(())
+}
