@@ -1,19 +1,19 @@
 -- What stands at a symbol in lists of entries.
-use Rattle.std.proofs.Common.{◌≡◌, ℕ, zero, suc, ◌+◌, ◌<◌, ◌≤◌, Bool, true, false, cond, List, [], ◌∷◌, length, get_or, set, Option, Some, None, unwrap_or, refl, ap, ◌∙◌, sym, arith}
+use Rattle.std.proofs.Common.{◌≡◌, ℕ, zero, suc, ◌<◌, ◌≤◌, true, false, cond, List, [], ◌∷◌, length, get_or, Option, Some, unwrap_or, refl, ap, ◌∙◌, sym, arith}
 use Rattle.std.specs.declared.cmp.Ordering.TheVariants.{Less, Equal, Greater}
-use Rattle.std.specs.Ordering.{nat_cmp, is_eq, eq_by_cmp}
+use Rattle.std.specs.Ordering.{nat_cmp, eq_by_cmp}
 use Rattle.std.specs.Cmp.Lexicographic.{slice_cmp, nat_list_cmp_total}
-use Rattle.std.specs.List.{insert, AllByRecursion}
+use Rattle.std.specs.List.{AllByRecursion}
 use Rattle.std.specs.Str.{bytes_eq}
 use Rattle.std.specs.FinMap.{IsAntisymmetric, slice_cmp-IsAntisymmetric, nat_cmp-IsAntisymmetric}
-use Rattle.std.specs.FinMap.Entries.{by_order, find, put, is_sorted-put}
+use Rattle.std.specs.FinMap.Entries.{by_order, put, is_sorted-put}
 use Rattle.std.proofs.lemmas.Cmp.{nat_list_eq_equiv}
 use Rattle.std.proofs.lemmas.Map.Text.{is_eq-slice_cmp}
 use Rattle.book.specs.declared.style.Style.{Style}
 use Rattle.book.specs.Style.{default_style, style_in}
-use Rattle.book.specs.Entries.{IsRising, AreStyles, held}
+use Rattle.book.specs.Entries.{AreStyles, held}
 use Rattle.book.specs.Places.{IsPlace, IsGap}
-use Rattle.book.proofs.Places.{find-at, put-at, find-gap, put-gap}
+use Rattle.book.proofs.Places.{find-at, find-gap}
 
 -- only equal texts tie
 pub text_ties : IsAntisymmetric (slice_cmp nat_cmp)

@@ -1,5 +1,5 @@
 -- What is gathered from postings is what their amounts say.
-use Rattle.std.proofs.Common.{◌≡◌, ℕ, zero, suc, ◌+◌, ◌<◌, ◌≤◌, max, Bool, true, false, cond, List, [], ◌∷◌, ◌++◌, length, get_or, set, take, Option, Some, None, IfSome, unwrap_or, refl, ap, ◌∙◌, sym, subst, arith}
+use Rattle.std.proofs.Common.{◌≡◌, ℕ, ◌≤◌, max, true, false, cond, List, [], ◌∷◌, ◌++◌, get_or, set, Option, Some, None, IfSome, unwrap_or, refl, ap, ◌∙◌, sym, arith}
 use Rattle.std.specs.declared.cmp.Ordering.{Ordering}
 use Rattle.std.specs.declared.cmp.Ordering.TheVariants.{Less, Equal, Greater}
 use Rattle.std.specs.Ordering.{nat_cmp, is_eq, eq_by_cmp}
@@ -11,7 +11,6 @@ use Rattle.std.specs.FinMap.Entries.{find-put, find_tied, put}
 use Rattle.std.proofs.lemmas.List.Sums.{fold-append}
 use Rattle.std.proofs.lemmas.Grind.{flat_map-append}
 use Rattle.std.proofs.lemmas.List.{append-nil}
-use Rattle.std.proofs.lemmas.Bool.Decides.{nat_tests}
 use Rattle.book.specs.declared.amount.Amount.{Amount}
 use Rattle.book.specs.declared.style.Style.{Style}
 use Rattle.book.specs.declared.transaction.Posting.{Posting}
@@ -24,7 +23,7 @@ use Rattle.book.specs.Entries.{IsRising, AreStyles, held}
 use Rattle.book.specs.Places.{IsPlace, IsGap}
 use Rattle.book.specs.Noted.{style_with, wider, widened, noted, noted_all, noted_item, noted_items}
 use Rattle.book.proofs.Places.{find-at, put-at, find-gap, put-gap}
-use Rattle.book.proofs.Entries.{text_ties, tie-bytes_eq, style_in-held, few-at, AreStyles-put}
+use Rattle.book.proofs.Entries.{text_ties, tie-bytes_eq, style_in-held, AreStyles-put}
 
 -- the style of some amounts after those that gave a style
 abbrev merged : Option Style → List Amount → Option Style

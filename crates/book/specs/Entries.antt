@@ -1,5 +1,5 @@
 -- Lists of entries in the order of their symbols.
-use Rattle.std.specs.Prelude.{◌≡◌, ℕ, ◌≤◌, pos, ◌≢◌, List, Option, T}
+use Rattle.std.specs.Prelude.{ℕ, ◌≤◌, pos, ◌≢◌, List, Option, T}
 use Rattle.std.specs.List.{AllByRecursion}
 use Rattle.std.specs.Ordering.{nat_cmp}
 use Rattle.std.specs.Cmp.Lexicographic.{slice_cmp}

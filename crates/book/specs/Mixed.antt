@@ -1,5 +1,5 @@
 -- Adding to sums of several symbols.
-use Rattle.std.specs.Prelude.{◌≡◌, ℕ, pos, ◌+ℤ◌, ◌==◌, Bool, true, false, not, List, max, unsigned_abs, Option, Some, None}
+use Rattle.std.specs.Prelude.{◌≡◌, ℕ, ◌+ℤ◌, ◌==◌, Bool, true, false, not, List, max, unsigned_abs, Option, Some, None}
 use Rattle.std.specs.Ordering.{nat_cmp, eq_by_cmp}
 use Rattle.std.specs.Cmp.Lexicographic.{slice_cmp}
 use Rattle.std.specs.FinMap.Entries.{put, where_key}

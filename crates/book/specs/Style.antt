@@ -1,12 +1,9 @@
 -- How the amounts of a symbol are printed.
-use Rattle.std.specs.Prelude.{ℕ, true, false, Bool, ◌&&◌, ◌||◌, not, List, [], ◌∷◌, ◌++◌, ◌==◌, nat_le, Option, Some, None, map, filter, if◌then◌else◌, max, unwrap_or}
-use Rattle.std.specs.List.{flat_map, list_all}
+use Rattle.std.specs.Prelude.{ℕ, true, false, List, [], ◌∷◌, Option, Some, None, if◌then◌else◌, max}
+use Rattle.std.specs.List.{flat_map}
 use Rattle.std.specs.Str.{bytes_eq}
-use Rattle.hl_num.specs.Decimal.{Decimal}
 use Rattle.book.specs.declared.amount.Amount.{Amount}
-use Rattle.book.specs.declared.amount.Written.{Written}
 use Rattle.book.specs.declared.style.Style.{Style}
-use Rattle.book.specs.declared.transaction.Posting.{Posting}
 use Rattle.book.specs.declared.item.Placed.{Placed}
 use Rattle.book.specs.Postings.{txns_of, postings_of}
 

@@ -1,5 +1,5 @@
 -- Sums of amounts, exact, in units of 10^-36.
-use Rattle.std.specs.Prelude.{ℕ, ℤ, pos, ◌+◌, ◌+ℤ◌, Bool, not, List, [], ◌∷◌, ◌++◌, Option, Some, None, map, filter, if◌then◌else◌, unsigned_abs, ◌==◌}
+use Rattle.std.specs.Prelude.{ℕ, ℤ, pos, ◌+ℤ◌, Bool, not, List, [], ◌∷◌, Option, Some, None, map, filter, if◌then◌else◌, unsigned_abs, ◌==◌}
 use Rattle.std.specs.List.{flat_map}
 use Rattle.std.specs.Str.{bytes_eq}
 use Rattle.std.specs.Ordering.{nat_cmp}

@@ -1,7 +1,7 @@
 -- How a run may end.
-use Rattle.std.proofs.Common.{◌≡◌, ◌≢◌, ◌⊎◌, inl, inr, ℕ, ◌++◌, List, [], ◌∷◌, Option, Some, None, Result, Ok, Err, IfSome, refl, ap, sym, ◌∙◌, subst, arith, ◌+◌, ◌≤◌, length, take, append-nil}
+use Rattle.std.proofs.Common.{◌≡◌, ◌≢◌, ◌⊎◌, inl, inr, ℕ, List, Option, Some, None, Result, Ok, Err, IfSome, refl, ap, sym, ◌∙◌, subst, arith, append-nil}
 use Rattle.hl_base.specs.Causes.{Rose}
-use Rattle.command_line.specs.Answers.{Finds, Answers, KeepsToUsage, Refuses, IsRefusal, IsStatus, Says, Wrote, WrotePrefix, status_of, line_of}
+use Rattle.command_line.specs.Answers.{Finds, KeepsToUsage, IsRefusal, IsStatus, Says, Wrote, WrotePrefix, status_of, line_of}
 use Rattle.command_line.specs.Errors.{memory_line, read_fault_line}
 use Rattle.command_line.specs.Output.{Outcome}
 use Rattle.command_line.specs.declared.refusal.Refusal.{Refusal}

@@ -1,5 +1,5 @@
 -- What a run may answer, and what it then has written.
-use Rattle.std.specs.Prelude.{◌≡◌, ◌≢◌, ◌⊎◌, ℕ, ◌≤◌, ◌++◌, List, [], ◌∷◌, Option, Some, None, IfSome, length, take, Result, Ok, Err}
+use Rattle.std.specs.Prelude.{◌≡◌, ◌≢◌, ◌⊎◌, ℕ, ◌≤◌, ◌++◌, List, [], Option, Some, None, IfSome, length, take, Result, Ok, Err}
 use Rattle.hl_base.specs.Causes.{Rose}
 use Rattle.command_line.specs.Errors.{memory_line, read_fault_line}
 use Rattle.command_line.specs.Output.{Outcome}

@@ -1,6 +1,6 @@
-use Rattle.std.proofs.Common.{◌≡◌, ◌≢◌, ℕ, ◌<◌, ◌≤◌, length, get_or, drop, sym, ◌∙◌, ap, arith}
+use Rattle.std.proofs.Common.{◌≡◌, ◌<◌, ◌≤◌, length, sym, ◌∙◌, ap, arith}
 use Rattle.book.specs.Accounts.{account_cmp}
-use Rattle.book.proofs.Accounts.{same_more, differ_here, ends_right, ends_left, ends_both}
+use Rattle.book.proofs.Accounts.{same_more, ends_right, ends_left}
 use Rattle.book.proofs.account.compare_accounts.Goals as goal
 
 pub loop-i-preserved : goal.loop-i-preserved

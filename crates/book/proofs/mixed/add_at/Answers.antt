@@ -1,9 +1,8 @@
-use Rattle.std.proofs.Common.{◌≡◌, true, false, sym, subst, ap, ◌∙◌, IsTrue, ℕ, List, set, Vec, Global, Option, Some}
+use Rattle.std.proofs.Common.{◌≡◌, true, false, sym, subst, ap, ◌∙◌, IsTrue, ℕ, List, set, Vec, Global, Option}
 use Rattle.std.proofs.lemmas.List.{get_or_default}
 use Rattle.std.proofs.lemmas.Bool.{false≢true}
 use Rattle.hl_num.specs.declared.decimal.Range.{Range}
-use Rattle.hl_num.specs.Decimal.{Decimal, add_fits}
-use Rattle.book.specs.Entries.{held}
+use Rattle.hl_num.specs.Decimal.{Decimal}
 use Rattle.book.specs.Mixed.{plus, is_zero, fits_with}
 use Rattle.book.proofs.Added.{held-at, added-gone, added-changed, is_zero-true, is_zero-false}
 use Rattle.book.proofs.mixed.add_at.Goals as goal

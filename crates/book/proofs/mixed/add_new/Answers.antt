@@ -1,4 +1,4 @@
-use Rattle.std.proofs.Common.{◌≡◌, ◌≢◌, pos, true, false, sym, ap, ◌∙◌, IsTrue}
+use Rattle.std.proofs.Common.{◌≡◌, false, sym, ◌∙◌}
 use Rattle.std.proofs.lemmas.Bool.{false≢true}
 use Rattle.book.specs.Mixed.{is_zero}
 use Rattle.book.proofs.Added.{held-gap, added-new, added-nothing, is_zero-true, is_zero-false}

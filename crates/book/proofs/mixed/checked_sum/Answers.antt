@@ -1,4 +1,4 @@
-use Rattle.std.proofs.Common.{sym, subst, ◌≤◌, ap}
+use Rattle.std.proofs.Common.{subst, ◌≤◌}
 use Rattle.hl_num.specs.Decimal.{Decimal}
 use Rattle.book.proofs.Added.{plus_from}
 use Rattle.book.proofs.mixed.checked_sum.Goals as goal

@@ -1,4 +1,3 @@
-use Rattle.std.proofs.Common.{◌≡◌}
 use Rattle.command_line.specs.Output.{report_outcome}
 use Rattle.command_line.proofs.Endings.{never_unread}
 use Rattle.command_line.proofs.program.answer.Goals as goal

@@ -1,4 +1,4 @@
-use Rattle.std.proofs.Common.{◌≡◌, ℕ, ◌+◌, length, subst, sym, add-zero}
+use Rattle.std.proofs.Common.{ℕ, length, subst, sym, add-zero}
 use Rattle.std.proofs.lemmas.Bool.{false≢true}
 use Rattle.command_line.proofs.program.finish.Goals as goal
 

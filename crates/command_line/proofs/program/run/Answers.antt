@@ -1,4 +1,4 @@
-use Rattle.std.proofs.Common.{◌≡◌, inr, refl, ap, Err}
+use Rattle.std.proofs.Common.{inr, refl, ap, Err}
 use Rattle.command_line.proofs.Endings.{ends, never_done, unread, out_of_memory, unwritten, none_written}
 use Rattle.command_line.specs.Output.{outcome}
 use Rattle.command_line.proofs.program.run.Goals as goal

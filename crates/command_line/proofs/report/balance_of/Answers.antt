@@ -1,10 +1,9 @@
-use Rattle.std.proofs.Common.{◌≡◌, ℕ, List, Result, Ok, refl, ap, sym, ◌∙◌}
+use Rattle.std.proofs.Common.{◌≡◌, Ok, refl, ap, sym, ◌∙◌}
 use Rattle.book.specs.Postings.{postings_of}
-use Rattle.book.specs.Style.{style_in, style_of}
 use Rattle.balancing.specs.Load.{load}
 use Rattle.reports.specs.Cells.{rows_of, totals_of}
 use Rattle.balance_report.specs.BalanceList.{balance_list}
-use Rattle.command_line.specs.Output.{loaded_outcome, book_list}
+use Rattle.command_line.specs.Output.{book_list}
 use Rattle.command_line.proofs.report.balance_of.Goals as goal
 
 pub returns-in-Ok : goal.returns-in-Ok
