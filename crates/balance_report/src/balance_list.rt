@@ -1,6 +1,6 @@
 //! The balance list: a line for each amount of each account, dashes, and the total.
 ghost use Rattle.std.specs.Prelude.{◌≡◌, IfOk, map};
-ghost use Rattle.book.specs.Style.{style_in};
+ghost use Rattle.book.specs.Styles.{style_in};
 ghost use Rattle.reports.specs.Cells.{row_seen, seen};
 ghost use Rattle.balance_report.specs.BalanceList.{balance_list};
 

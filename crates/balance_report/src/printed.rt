@@ -1,6 +1,6 @@
 //! Printed amounts, each with the columns that it takes.
 ghost use Rattle.std.specs.Prelude.{◌≡◌, ◌++◌, IfOk, List, ℕ, map, max, chars, false};
-ghost use Rattle.book.specs.Style.{style_in};
+ghost use Rattle.book.specs.Styles.{style_in};
 ghost use Rattle.reports.specs.Cells.{seen};
 ghost use Rattle.balance_report.specs.BalanceList.{texts_of, first_cell, width_of, widest};
 

@@ -1,7 +1,7 @@
 //! The accounts that a balance list shows.
 ghost use Rattle.std.specs.Prelude.{◌≡◌, ◌++◌, IfOk, OnOk, List, ℕ, map};
 ghost use Rattle.std.specs.List.{flat_map};
-ghost use Rattle.book.specs.Style.{style_in};
+ghost use Rattle.book.specs.Styles.{style_in};
 ghost use Rattle.reports.specs.Cells.{row_seen};
 ghost use Rattle.balance_report.specs.BalanceList.{widest};
 ghost use Rattle.balance_report.specs.Shown.{shown_rows, shown_row};

@@ -1,5 +1,12 @@
-pub mod Balanced
-pub mod Bounds
-pub mod Exact
-pub mod First
-pub mod OneSymbol
+pub mod Adding
+mod Rows
+pub mod Causes
+pub mod Covers
+pub mod Filled
+pub mod Named
+pub mod Ordered
+pub mod Trimmed
+pub mod Turned
+pub mod Turnover
+pub mod Walked
+pub mod Whole

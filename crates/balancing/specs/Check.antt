@@ -1,28 +1,18 @@
--- What the check of a text's items needs, and what its errors mean.
-use Rattle.std.specs.Prelude.{◌≡◌, ℕ, true, List, [], ◌∷◌, Option, Some, None}
-use Rattle.book.specs.declared.amount.Amount.{Amount}
-use Rattle.book.specs.declared.transaction.Posting.{Posting}
-use Rattle.book.specs.declared.transaction.Txn.{Txn}
+-- What the errors of balancing mean.
+use Rattle.std.specs.Prelude.{Option, Some, None}
 use Rattle.book.specs.declared.fault.Fault.{Fault}
-use Rattle.book.specs.Postings.{have_one_symbol}
+use Rattle.book.specs.declared.fault.Cause.{Cause}
 use Rattle.balancing.specs.declared.fault.CheckFault.{CheckFault}
 use Rattle.balancing.specs.declared.fault.CheckFault.TheVariants as check
+use Rattle.balancing.specs.declared.fault.BalanceFault.{BalanceFault}
+use Rattle.balancing.specs.declared.fault.BalanceFault.TheVariants as balance
 
 -- the fault of the text that an error tells; want of memory tells none
 abbrev pub cause_in : CheckFault → Option Fault
 cause_in (check.Journal fault) = Some fault
 cause_in check.Memory = None
 
--- The transaction has a posting, and its postings have amounts of one symbol.
-abbrev pub HasOneSymbol : Txn → Type 0
-HasOneSymbol t = have_one_symbol t.postings ≡ true
-
--- the symbol that is written in an amount, empty where there is no amount
-abbrev pub written_symbol : Option Amount → List ℕ
-written_symbol None = []
-written_symbol (Some a) = a.symbol
-
--- the symbol of the first posting, empty where there is none
-abbrev pub symbol_of : List Posting → List ℕ
-symbol_of [] = []
-symbol_of (p ∷ ps) = written_symbol p.amount
+-- the cause that an error tells; want of memory tells none
+abbrev pub cause_of : BalanceFault → Option Cause
+cause_of (balance.Cause cause) = Some cause
+cause_of balance.Memory = None

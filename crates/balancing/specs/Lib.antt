@@ -1,4 +1,10 @@
-pub mod Balanced
 pub mod Check
-pub mod First
+pub mod Entry
+pub mod Fill
+pub mod Groups
 pub mod Load
+pub mod Settled
+pub mod Tally
+pub mod Turnover
+pub mod Values
+pub mod Walk

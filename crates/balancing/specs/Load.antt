@@ -1,62 +1,74 @@
 -- The book of a text's items, or the fault that they have.
-use Rattle.std.specs.Prelude.{ℕ, ℤ, pos, ◌+ℤ◌, List, [], ◌∷◌, nat_le, Option, Some, None, Result, Ok, Err, if◌then◌else◌}
-use Rattle.std.specs.Str.{bytes_eq}
-use Rattle.hl_num.specs.Decimal.{Decimal, mantissa_at}
-use Rattle.book.specs.declared.amount.Amount.{Amount}
+use Rattle.std.specs.Prelude.{ℕ, ◌==◌, Bool, true, false, List, [], ◌∷◌, ◌++◌, map, Option, Some, None, Result, Ok, Err, if◌then◌else◌}
+use Rattle.std.specs.List.{slice_get, flat_map}
 use Rattle.book.specs.declared.transaction.Posting.{Posting}
 use Rattle.book.specs.declared.transaction.Txn.{Txn}
 use Rattle.book.specs.declared.item.Placed.{Placed}
 use Rattle.book.specs.declared.item.Book.{Book}
 use Rattle.book.specs.declared.fault.Fault.{Fault}
-use Rattle.book.specs.declared.fault.Cause.TheVariants.{Unbalanced}
+use Rattle.book.specs.declared.fault.Cause.{Cause}
+use Rattle.book.specs.declared.fault.Cause.TheVariants as cause
 use Rattle.book.specs.Postings.{txns_of}
-use Rattle.book.specs.Sums.{mixed_of}
-use Rattle.book.specs.Bounds.{places_of}
+use Rattle.balancing.specs.Values.{Value}
+use Rattle.balancing.specs.Tally.{turnover_fits}
+use Rattle.balancing.specs.Entry.{solved, moved_by, cause_alone, with_postings}
+use Rattle.balancing.specs.Groups.{Group, groups_of, day_of}
 
--- the mantissa of an amount in a symbol, at a number of places
-abbrev pub mantissa_in : List ℕ → ℕ → Option Amount → ℤ
-mantissa_in symbol places None = pos 0
-mantissa_in symbol places (Some a) = if bytes_eq a.symbol symbol then mantissa_at a.value places else pos 0
+-- a transaction with what balancing finds
+abbrev pub settled : Txn → Txn
+settled t = with_postings t (solved t.postings)
 
-abbrev pub mantissa_sum : List ℕ → ℕ → List Posting → ℤ
-mantissa_sum symbol places [] = pos 0
-mantissa_sum symbol places (p ∷ ps) = mantissa_in symbol places p.amount +ℤ mantissa_sum symbol places ps
+-- what a posting moves, if it is of that day
+abbrev pub moved_when : ℕ → Txn → Posting → List Value
+moved_when day t p = if day_of t p == day then moved_by p else []
 
--- the exact sum in a symbol, with the greatest number of decimals of its terms
-abbrev pub exact_sum : List ℕ → List Posting → Decimal
-exact_sum symbol ps = record { mantissa = mantissa_sum symbol (places_of symbol ps) ps; places = places_of symbol ps }
+-- what a transaction's group on a day moves
+abbrev pub moved_on : ℕ → Txn → List Value
+moved_on day t = flat_map (moved_when day t) t.postings
 
--- the least symbol in which some postings don't sum to zero
-abbrev pub first_symbol : List (List ℕ × ℤ) → Option (List ℕ)
-first_symbol [] = None
-first_symbol (sum ∷ sums) = Some sum.0
+-- what is wrong with a group after others that moved so much: two missing amounts before all; then a turnover that
+-- is out of range; then what is wrong with its transaction
+abbrev pub group_cause : Bool → Option Cause → Option Cause
+group_cause fits (Some cause.TwoMissing) = Some cause.TwoMissing
+group_cause true alone = alone
+group_cause false alone = Some cause.Range
 
-abbrev pub unbalanced_in : Txn → Option (List ℕ)
-unbalanced_in t = first_symbol (mixed_of t.postings)
+abbrev pub fault_at : ℕ → Option Cause → Option Fault
+fault_at line None = None
+fault_at line (Some fault) = Some (record { line = line; cause = fault })
 
--- a transaction that isn't balanced, with the least such symbol and its sum
-abbrev pub fault_at : Txn → Option (List ℕ) → Option Fault
-fault_at t None = None
-fault_at t (Some symbol) = Some (record { line = t.line; cause = Unbalanced symbol (exact_sum symbol t.postings) })
+-- the fault of a transaction's group on a day. The first group of a transaction is the first to tell its faults
+abbrev pub group_fault : List Value → ℕ → Txn → Option Fault
+group_fault before day t = fault_at t.line (group_cause (turnover_fits (before ++ moved_on day (settled t))) (cause_alone t.postings))
 
-abbrev pub fault_of : Txn → Option Fault
-fault_of t = fault_at t (unbalanced_in t)
+abbrev pub or_else_fault : Option Fault → Option Fault → Option Fault
+or_else_fault None later = later
+or_else_fault (Some fault) later = Some fault
 
--- of two faults with their days the one of the earlier day, of one day the first
-abbrev pub earlier : ℕ → Option Fault → Option (ℕ × Fault) → Option (ℕ × Fault)
-earlier day None later = later
-earlier day (Some fault) None = Some (day, fault)
-earlier day (Some fault) (Some other) = if nat_le day other.0 then Some (day, fault) else Some other
+abbrev pub fault_of_group : List Value → ℕ → Option Txn → Option Fault
+fault_of_group before day None = None
+fault_of_group before day (Some t) = group_fault before day t
 
--- the first fault of some transactions in the order of their days, and on one day in the order of the text
-abbrev pub first_fault : List Txn → Option (ℕ × Fault)
-first_fault [] = None
-first_fault (t ∷ ts) = earlier t.day.0 (fault_of t) (first_fault ts)
+abbrev pub moved_of_group : ℕ → Option Txn → List Value
+moved_of_group day None = []
+moved_of_group day (Some t) = moved_on day (settled t)
 
-abbrev pub loaded : List Txn → Option (ℕ × Fault) → Result Book Fault
-loaded txns None = Ok (record { txns = txns })
-loaded txns (Some fault) = Err fault.1
+-- the fault of the first group that has one, after others that moved so much
+abbrev pub first_fault : List Txn → List Value → List Group → Option Fault
+first_fault txns before [] = None
+first_fault txns before (g ∷ gs) =
+    or_else_fault (fault_of_group before g.0 (slice_get txns g.1))
+    (first_fault txns (before ++ moved_of_group g.0 (slice_get txns g.1)) gs)
 
--- the book of the items of a text, or the fault of the first transaction, by day and then by its place, that has one
+abbrev pub loaded : List Txn → Option Fault → Result Book Fault
+loaded txns None = Ok (record { txns = map settled txns })
+loaded txns (Some fault) = Err fault
+
+-- the book of some transactions, or their fault
+abbrev pub book_of : List Txn → Result Book Fault
+book_of txns = loaded txns (first_fault txns [] (groups_of txns))
+
+-- the book of the items of a text: its transactions in their order, with what balancing found; or the fault of the
+-- first group, by day and then by transaction, that has one
 abbrev pub load : List Placed → Result Book Fault
-load items = loaded (txns_of items) (first_fault (txns_of items))
+load items = book_of (txns_of items)

@@ -1,12 +1,20 @@
-//! Checks that the transactions of a text balance, and makes its book.
+//! Balances transactions: finds missing amounts and costs, and makes the book of a text.
 #![tactic(auto)]
 
+mod entry;
 pub mod fault;
-pub mod laws;
-mod sum;
+mod fill;
+mod groups;
+mod judge;
+mod plan;
+mod rules;
+mod sums;
+mod tally;
 #[cfg(test)]
 mod tests;
+mod value;
 mod walk;
 
-pub use fault::CheckFault;
+pub use entry::balance_txn;
+pub use fault::{BalanceFault, CheckFault};
 pub use walk::check;

@@ -1,152 +1,164 @@
-//! Worked texts: which transaction's fault is named, with which sum.
-ghost use Rattle.std.specs.Prelude.{◌≡◌, IsSomeAnd, IfOk, codes, true};
+//! Worked transactions and texts.
+ghost use Rattle.std.specs.Prelude.{◌≡◌, IfOk};
 ghost use Rattle.std.specs.List.{AllByRecursion};
-ghost use Rattle.book.specs.Postings.{has_symbol, have_one_symbol, postings_of, txn_in};
-ghost use Rattle.book.specs.Bounds.{AreSmall, IsSmallAmount};
-ghost use Rattle.balancing.specs.Check.{HasOneSymbol};
+ghost use Rattle.book.specs.Assertions.{HasNoAssertion};
+ghost use Rattle.book.specs.Postings.{postings_of, txn_in};
+ghost use Rattle.book.specs.declared.item.Item.TheVariants as item;
 
-use crate::laws::has_a_book_where_balanced;
-use crate::{CheckFault, check};
-use book::{Amount, Cause, Fault, Item, Mark, Placed, Posting, Side, Txn, Written};
+use crate::{BalanceFault, CheckFault, balance_txn, check};
+use book::{Amount, Boxed, Cause, Cost, Item, Mark, Placed, Posting, Side, Txn, Written};
 use hl_base::{Kind, List, Memory, Piece, Text};
 use hl_num::Dec;
 use hl_time::Day;
 use std::alloc::Global;
 use std::test::Fail;
 
-fn posting(alloc: Global, mantissa: i8, places: u8) -> Result<Posting, Memory>
-    ensures small { IfOk result (λ p. IsSomeAnd p.amount IsSmallAmount) }
-    ensures symbol { IfOk result (λ p. has_symbol (codes "EUR") p.amount ≡ true) }
+fn amount(alloc: Global, mantissa: i128, places: u8, symbol: &str) -> Result<Amount, Memory> {
+    let symbol = Text::copied(alloc, symbol)?;
+    match Dec::new(mantissa, places) {
+        Some(value) => Ok(Amount {
+            symbol,
+            value,
+            shape: Written {
+                left: false,
+                spaced: true,
+                mark: None,
+                group: None,
+                first: 3,
+                rest: 3,
+            },
+        }),
+        None => Err(Memory),
+    }
+}
+
+fn posting(alloc: Global, side: Side, amount: Option<Amount>) -> Result<Posting, Memory>
+    ensures { IfOk result HasNoAssertion }
 {
-    let amount = Amount {
-        symbol: Text::copied(alloc, "EUR")?,
-        value: Dec {
-            mantissa: i128::from(mantissa),
-            places: places.min(2),
-        },
-        shape: Written {
-            left: false,
-            spaced: true,
-            mark: None,
-            group: None,
-            first: 3,
-            rest: 3,
-        },
-    };
-    Ok(Posting {
-        line: 0,
+    let account = Text::copied(alloc, "a")?;
+    let mut posting = Posting::plain(alloc, 1, side, account);
+    posting.amount = amount;
+    Ok(posting)
+}
+
+fn txn(alloc: Global, line: u64, day: u32, postings: Vec<Posting>) -> Txn
+    ensures { result.postings ≡ postings.items }
+{
+    Txn {
+        line,
+        day: Day(day),
         mark: Mark::Unmarked,
-        side: Side::Real,
-        account: Text::copied(alloc, "a")?,
-        amount: Some(amount),
-        cost: None,
-        wanted: None,
-        filled: false,
-        costed: false,
+        code: Text::new(alloc),
+        description: Text::new(alloc),
         comment: Text::new(alloc),
         tags: List::new(alloc),
-        day: None,
-    })
-}
-
-fn postings(
-    alloc: Global,
-    first: (i8, u8),
-    second: Option<(i8, u8)>,
-) -> Result<List<Posting>, Memory>
-    ensures small { IfOk result (λ ps. AreSmall 2 ps) }
-    ensures symbol { IfOk result (λ ps. have_one_symbol ps ≡ true) }
-{
-    let mut made = Vec::new(alloc);
-    made.push(posting(alloc, first.0, first.1)?)?;
-    if let Some((mantissa, places)) = second {
-        made.push(posting(alloc, mantissa, places)?)?;
+        postings: List::from_vec(postings),
     }
-    Ok(List::from_vec(made))
 }
 
-fn entry(
-    alloc: Global,
-    line: u64,
-    day: u32,
-    first: (i8, u8),
-    second: Option<(i8, u8)>,
-) -> Result<Placed, Memory>
-    ensures small { IfOk result (λ placed. AreSmall 2 (postings_of (txn_in placed.item))) }
-    ensures symbol { IfOk result (λ placed. AllByRecursion HasOneSymbol (txn_in placed.item)) }
+/// `10 A @ 0.3335 EUR` against an amount of cents.
+fn shares(alloc: Global, cents: i128) -> Result<Txn, Memory>
+    ensures { IfOk result (λ t. AllByRecursion HasNoAssertion t.postings) }
 {
-    Ok(Placed {
+    let mut first = posting(alloc, Side::Real, Some(amount(alloc, 10, 0, "A")?))?;
+    first.cost = Some(Boxed::new(alloc, Cost::Unit(amount(alloc, 3335, 4, "EUR")?))?);
+    let second = posting(alloc, Side::Real, Some(amount(alloc, cents, 2, "EUR")?))?;
+    let mut postings = Vec::new(alloc);
+    postings.push(first)?;
+    postings.push(second)?;
+    Ok(txn(alloc, 1, 10, postings))
+}
+
+/// The mantissa of the sum that isn't zero.
+fn sum_in(cause: &Cause) -> Option<i128> {
+    match cause {
+        Cause::Unbalanced { symbol: _, sum } => Some(sum.mantissa),
+        _ => None,
+    }
+}
+
+#[test]
+fn judges_a_sum_at_its_precision(rt: HostRuntime) -> Result<(), Fail> {
+    let alloc = rt.alloc();
+    assert!(rt; balance_txn(alloc, shares(alloc, -333)?).is_ok());
+    match balance_txn(alloc, shares(alloc, -332)?) {
+        Err(BalanceFault::Cause(cause)) => assert_eq!(rt; sum_in(&cause), Some(15)),
+        Err(BalanceFault::Memory) => assert!(rt; false),
+        Ok(_txn) => assert!(rt; false),
+    }
+    Ok(())
+}
+
+/// `1 C`, `2 B` and a missing amount.
+fn missing(alloc: Global) -> Result<Txn, Memory>
+    ensures { IfOk result (λ t. AllByRecursion HasNoAssertion t.postings) }
+{
+    let first = posting(alloc, Side::Real, Some(amount(alloc, 1, 0, "C")?))?;
+    let second = posting(alloc, Side::Real, Some(amount(alloc, 2, 0, "B")?))?;
+    let third = posting(alloc, Side::Real, None)?;
+    let mut postings = Vec::new(alloc);
+    postings.push(first)?;
+    postings.push(second)?;
+    postings.push(third)?;
+    Ok(txn(alloc, 1, 10, postings))
+}
+
+#[test]
+fn fills_a_missing_amount(rt: HostRuntime) -> Result<(), Fail> {
+    let alloc = rt.alloc();
+    match balance_txn(alloc, missing(alloc)?) {
+        Ok(txn) => {
+            let postings = txn.postings.as_slice();
+            assert_eq!(rt; postings.len(), 4);
+            for (posting, symbol) in postings.iter().zip(["C", "B", "B", "C"]) {
+                match &posting.amount {
+                    Some(amount) => assert_eq!(rt; amount.symbol.as_str(), symbol),
+                    None => assert!(rt; false),
+                }
+            }
+        }
+        Err(_) => assert!(rt; false),
+    }
+    Ok(())
+}
+
+fn placed(txn: Txn) -> Placed
+    ensures { result.item ≡ item.Txn txn }
+{
+    Placed {
         piece: Piece {
             at: 0,
             len: 0,
-            line,
+            line: 1,
             kind: Kind::Entry,
         },
-        item: Item::Txn(Txn {
-            line,
-            day: Day(day),
-            mark: Mark::Unmarked,
-            code: Text::new(alloc),
-            description: Text::new(alloc),
-            comment: Text::new(alloc),
-            tags: List::new(alloc),
-            postings: postings(alloc, first, second)?,
-        }),
-    })
-}
-
-/// The fault of the text of two entries.
-fn fault_of_two(alloc: Global, a: Placed, b: Placed) -> Result<Option<Fault>, Memory>
-    requires small_a { AreSmall 2 (postings_of (txn_in a.item)) }
-    requires small_b { AreSmall 2 (postings_of (txn_in b.item)) }
-    requires symbol_a { AllByRecursion HasOneSymbol (txn_in a.item) }
-    requires symbol_b { AllByRecursion HasOneSymbol (txn_in b.item) }
-{
-    let mut items = Vec::new(alloc);
-    items.push(a)?;
-    items.push(b)?;
-    let items = List::from_vec(items);
-    has_a_book_where_balanced(&items);
-    match check(alloc, items) {
-        Ok(_book) => Ok(None),
-        Err(CheckFault::Journal(fault)) => Ok(Some(fault)),
-        Err(CheckFault::Memory) => Err(Memory),
+        item: Item::Txn(txn),
     }
 }
 
-/// An entry's day, its first amount and perhaps a second one, each a mantissa and its places.
-type Entry = (u32, (i8, u8), Option<(i8, u8)>);
-
-/// The line of a fault, and the mantissa and places of its sum.
-type Want = (u64, i128, u8);
+/// An entry of that line and day.
+fn entry(alloc: Global, line: u64, day: u32, cents: i128) -> Result<Placed, Memory>
+    ensures { IfOk result (λ p. AllByRecursion HasNoAssertion (postings_of (txn_in p.item))) }
+{
+    let mut txn = shares(alloc, cents)?;
+    txn.line = line;
+    txn.day = Day(day);
+    Ok(placed(txn))
+}
 
 #[test]
 fn names_the_first_fault_by_day(rt: HostRuntime) -> Result<(), Fail> {
     let alloc = rt.alloc();
-    let rows: [(Entry, Entry, Option<Want>); 5] = [
-        ((20, (1, 0), None), (10, (2, 0), None), Some((4, 2, 0))),
-        ((10, (1, 0), None), (10, (2, 0), None), Some((1, 1, 0))),
-        (
-            (10, (50, 2), Some((1, 0))),
-            (20, (0, 0), None),
-            Some((1, 150, 2)),
-        ),
-        ((10, (0, 0), None), (20, (1, 0), Some((-100, 2))), None),
-        ((10, (0, 0), None), (20, (-1, 1), None), Some((4, -1, 1))),
-    ];
-    for (a, b, want) in rows {
-        let first = entry(alloc, 1, a.0, a.1, a.2)?;
-        let second = entry(alloc, 4, b.0, b.1, b.2)?;
-        match fault_of_two(alloc, first, second)? {
-            None => assert!(rt; want.is_none()),
-            Some(Fault { line, cause }) => match cause {
-                Cause::Unbalanced { symbol, sum } => {
-                    assert_eq!(rt; symbol.as_str(), "EUR");
-                    assert_eq!(rt; Some((line, sum.mantissa, sum.places)), want);
-                }
-                Cause::NotBuilt => assert!(rt; false),
-            },
+    let mut items = Vec::new(alloc);
+    items.push(entry(alloc, 1, 20, -332)?)?;
+    items.push(entry(alloc, 4, 10, -331)?)?;
+    match check(alloc, List::from_vec(items)) {
+        Err(CheckFault::Journal(fault)) => {
+            assert_eq!(rt; fault.line, 4);
+            assert_eq!(rt; sum_in(&fault.cause), Some(25));
         }
+        Err(CheckFault::Memory) => assert!(rt; false),
+        Ok(_book) => assert!(rt; false),
     }
     Ok(())
 }

@@ -1,11 +1,14 @@
 pub mod Accounts
+pub mod Assertions
 pub mod Bounds
 pub mod Entries
+pub mod FaultLine
 pub mod Mixed
-pub mod Noted
 pub mod Order
 pub mod Places
 pub mod Postings
 pub mod Printed
+pub mod Standing
 pub mod Style
+pub mod Styles
 pub mod Sums

@@ -34,8 +34,8 @@ postings_of txns = flat_map (λ t. t.postings) txns
 
 -- the transaction that an item is
 abbrev pub txn_in : Item → List Txn
-txn_in item.Gap = []
 txn_in (item.Txn t) = t ∷ []
+txn_in _ = []
 
 -- the transactions among some items, in order
 abbrev pub txns_of : List Placed → List Txn

@@ -1,6 +1,8 @@
 -- Amounts as they are printed.
-use Rattle.std.specs.Prelude.{ℕ, ℤ, Bool, ◌&&◌, ◌||◌, List, [], ◌∷◌, ◌++◌, ◌==◌, nat_le, Option, Some, None, if◌then◌else◌, codes}
+use Rattle.std.specs.Prelude.{ℕ, ℤ, Bool, ◌&&◌, ◌||◌, not, List, [], ◌∷◌, ◌++◌, ◌==◌, nat_le, Option, Some, None, if◌then◌else◌, codes}
 use Rattle.std.specs.List.{list_all}
+use Rattle.hl_base.specs.Items.{is_white}
+use Rattle.hl_num.specs.Reading.{is_digit}
 use Rattle.hl_num.specs.Decimal.{Decimal, units_of}
 use Rattle.hl_num.specs.Printing.{printed_units, printed_number}
 use Rattle.hl_num.specs.declared.printing.Shape.{Shape}
@@ -20,11 +22,18 @@ mark_of (Some mark) group = mark
 abbrev pub number_shape : Written → Shape
 number_shape shape = record { mark = mark_of shape.mark shape.group; group = shape.group; first = shape.first; rest = shape.rest }
 
--- what may stand in a symbol without quotes: no white space, no ASCII digit, and no ASCII punctuation but `$`, `%` and `_`
+-- ASCII punctuation
+abbrev pub is_punctuation : ℕ → Bool
+is_punctuation b =
+    (nat_le 33 b && nat_le b 47) || (nat_le 58 b && nat_le b 64) || (nat_le 91 b && nat_le b 96) || (nat_le 123 b && nat_le b 126)
+
+-- the punctuation that may stand in a symbol without quotes: `$`, `%` and `_`
+abbrev pub is_symbol_mark : ℕ → Bool
+is_symbol_mark b = (b == 36) || (b == 37) || (b == 95)
+
+-- what may stand in a symbol without quotes: no white space, no ASCII digit, and no other ASCII punctuation
 abbrev pub stands_unquoted : ℕ → Bool
-stands_unquoted b =
-    nat_le 128 b || (nat_le 65 b && nat_le b 90) || (nat_le 97 b && nat_le b 122)
-    || (b == 36) || (b == 37) || (b == 95)
+stands_unquoted b = not (is_white b || (b == 10) || is_digit b || (is_punctuation b && not (is_symbol_mark b)))
 
 -- a symbol, in double quotes where it can't stand without
 abbrev pub printed_symbol : List ℕ → List ℕ

@@ -4,21 +4,32 @@
 
 pub mod account;
 pub mod amount;
+pub mod boxed;
+pub mod directive;
 pub mod fault;
+mod fault_line;
 pub mod item;
+mod marks;
 pub mod mixed;
+mod noting;
 mod place;
 pub mod printed;
+pub mod rules;
 pub mod style;
+mod table;
 #[cfg(test)]
 mod tests;
 pub mod transaction;
 
 pub use account::compare_accounts;
 pub use amount::{Amount, Assertion, Cost, Written};
+pub use boxed::Boxed;
+pub use directive::{Directive, Price};
 pub use fault::{Cause, Fault};
+pub use fault_line::print_fault;
 pub use item::{Book, Item, Items, Placed};
 pub use mixed::{Mixed, MixedFault};
 pub use printed::{print_amount, print_plain};
+pub use rules::{AutoRule, Factor, PeriodicRule, RulePosting};
 pub use style::{Style, Styles};
 pub use transaction::{Mark, Posting, Side, Tag, Txn};

@@ -86,7 +86,11 @@ fn is_plain_word(symbol: &str) -> bool
 fn stands_unquoted(byte: u8) -> bool
     ensures { result ≡ stands_unquoted byte }
 {
-    byte >= 128 || byte.is_ascii_alphabetic() || byte == b'$' || byte == b'%' || byte == b'_'
+    match byte {
+        b'$' | b'%' | b'_' => true,
+        b' ' | b'\t' | b'\r' | b'\n' => false,
+        _ => !byte.is_ascii_digit() && !byte.is_ascii_punctuation(),
+    }
 }
 
 /// An amount as it stands in an error line: the exact number with all its decimals, a space, and the symbol.

@@ -1,17 +1,18 @@
 //! The styles in which amounts are printed.
-ghost use Rattle.std.specs.Prelude.{◌≡◌, ◌≤◌, IfOk, OnOk, List, ℕ};
-ghost use Rattle.book.specs.Style.{default_style, style_in, style_of};
-ghost use Rattle.book.specs.Entries.{AreStyles, IsRising};
-ghost use Rattle.book.specs.Places.{IsPlace};
-ghost use Rattle.book.specs.Noted.{noted, noted_all, noted_item, widened};
+ghost use Rattle.std.specs.Prelude.{◌≡◌, ◌≤◌, IfOk, OnOk, List, ℕ, [], IsTrue};
+ghost use Rattle.book.specs.Style.{default_style, style_of};
+ghost use Rattle.book.specs.Styles.{style_in, AreOf, after_item};
+ghost use Rattle.book.specs.declared.item.Item.{Item};
+ghost use Rattle.book.specs.declared.item.Item.TheVariants as kinds;
+ghost use Rattle.book.specs.Standing.{Numbered, with_number, without_number, is_free, places_from};
 
-use crate::amount::{Amount, Written};
+use crate::amount::Written;
+use crate::directive::Directive;
 use crate::item::{Item, Placed};
-use crate::place::place_of;
-use crate::transaction::Posting;
+use crate::noting::{note_all_further, note_amount, note_amounts, note_auto, note_periodic};
+use crate::table::Table;
 use hl_base::{Memory, Text};
 use std::alloc::Global;
-use std::marker::Model;
 
 /// How amounts of a symbol are printed: a shape, and a number of decimals.
 #[derive(Clone, Copy, Debug, PartialEq, Eq)]
@@ -39,126 +40,134 @@ impl Style {
     }
 }
 
-/// The styles of the symbols of a text. Contracts see a list of each symbol with its style.
+/// The styles of the symbols in some items, each of which stands under a number.
 #[derive(Debug, Drop)]
 pub struct Styles {
-    entries: Vec<(Text, Style)>,
-}
-
-impl Model for Styles {
-    ghost use Rattle.std.specs.Prelude.{List, ℕ};
-    ghost use Rattle.book.specs.declared.style.Style.{Style};
-
-    ghost Value = { List (List ℕ × Style) };
-
-    ghost use Rattle.book.specs.Entries.{AreStyles};
-
-    ghost view = { λ s. s.entries.items };
-
-    ghost invariant = { λ s. AreStyles s.entries.items };
+    pub(crate) commodities: Table,
+    pub(crate) defaults: Table,
+    pub(crate) first: Table,
+    pub(crate) second: Table,
 }
 
 impl Styles {
-    /// The styles of the symbols in the amounts of a text's transactions: the shape of the first amount, and the
-    /// greatest number of decimals.
-    pub fn of(alloc: Global, items: &[Placed]) -> Result<Styles, Memory>
-        ensures { IfOk result (λ styles. (symbol : List ℕ) → style_in styles symbol ≡ style_of items.now symbol) }
+    /// The styles of no items, which takes no memory.
+    pub fn new(alloc: Global) -> Styles
+        ensures { AreOf [] result }
     {
-        let mut entries = Vec::new(alloc);
-        for placed in items {
-            note_item(&mut entries, alloc, &placed.item)?;
+        Styles {
+            commodities: Table::new(alloc),
+            defaults: Table::new(alloc),
+            first: Table::new(alloc),
+            second: Table::new(alloc),
         }
-        Ok(Styles { entries })
     }
 
-    /// The style of a symbol; the default one where the symbol has no amount.
+    /// The styles of a text's items, each under its place, counted from 0.
+    pub fn of(alloc: Global, items: &[Placed]) -> Result<Styles, Memory>
+        ensures numbered { IfOk result (AreOf (places_from 0 items.now)) }
+        ensures styles { IfOk result (λ styles. (symbol : List ℕ) → style_in styles symbol ≡ style_of items.now symbol) }
+    {
+        let mut styles = Styles::new(alloc);
+        for (number, placed) in items.iter().enumerate() {
+            note_item(&mut styles, alloc, number as u64, &placed.item)?;
+        }
+        Ok(styles)
+    }
+
+    /// Adds an item under a number under which none stands. After an error the styles are of no use.
+    pub fn add_item(&mut self, alloc: Global, number: u64, item: &Item) -> Result<(), Memory>
+        ensures { OnOk result ((standing : Numbered Item) → AreOf standing self.old → IsTrue (is_free number standing) → AreOf (with_number number item.now standing) self.new) }
+    {
+        note_item(self, alloc, number, item)
+    }
+
+    /// Takes away the item under a number, which takes no memory.
+    pub fn remove_item(&mut self, number: u64)
+        ensures { (standing : Numbered Item) → AreOf standing self.old → AreOf (without_number number standing) self.new }
+    {
+        self.commodities.forget(number);
+        self.defaults.forget(number);
+        self.first.forget(number);
+        self.second.forget(number);
+    }
+
+    /// Styles of the same items.
+    pub fn copy(&self, alloc: Global) -> Result<Styles, Memory>
+        ensures { IfOk result (λ copy. copy ≡ self.now) }
+    {
+        Ok(Styles {
+            commodities: self.commodities.copy(alloc)?,
+            defaults: self.defaults.copy(alloc)?,
+            first: self.first.copy(alloc)?,
+            second: self.second.copy(alloc)?,
+        })
+    }
+
+    /// The style of a symbol: by the last `commodity` directive; else by the last `D` directive; else the shape of
+    /// the first amount of a transaction's posting, with their greatest number of decimals; else the same of the
+    /// amounts of costs, assertions, prices and rules; else the default one.
     pub fn style(&self, symbol: &Text) -> Style
         ensures value { result ≡ style_in self.now symbol.now }
         ensures places { result.places ≤ 36 }
     {
-        match place_of(&self.entries, symbol) {
-            Ok(at) => self.entries[at].1,
-            Err(_) => Style::default_one(),
+        if let Some(style) = self.commodities.last(symbol) {
+            return style;
         }
+        if let Some(style) = self.defaults.last(symbol) {
+            return style;
+        }
+        if let Some(style) = self.first.first(symbol) {
+            return style;
+        }
+        if let Some(style) = self.second.first(symbol) {
+            return style;
+        }
+        Style::default_one()
     }
 }
 
-/// Notes the amounts of an item.
-fn note_item(entries: &mut Vec<(Text, Style)>, alloc: Global, item: &Item) -> Result<(), Memory>
-    requires { AreStyles entries.old.items }
-    ensures noted { OnOk result (entries.new.items ≡ noted_item entries.old.items item.now) }
-    ensures kept { OnOk result (AreStyles entries.new.items) }
+/// Notes the amounts of an item under its number.
+fn note_item(styles: &mut Styles, alloc: Global, number: u64, item: &Item) -> Result<(), Memory>
+    ensures { OnOk result (styles.new ≡ after_item number styles.old item.now) }
 {
     match item {
+        Item::Txn(txn) => {
+            let postings = txn.postings.as_slice();
+            note_amounts(&mut styles.first, alloc, number, postings)?;
+            note_all_further(&mut styles.second, alloc, number, postings)
+        }
+        Item::Auto(rule) => {
+            note_auto(&mut styles.second, alloc, number, rule.postings.as_slice())
+        }
+        Item::Periodic(rule) => {
+            note_periodic(&mut styles.second, alloc, number, rule.postings.as_slice())
+        }
+        Item::Price(price) => {
+            let amount = &price.amount;
+            note_amount(&mut styles.second, alloc, number, &amount.symbol, amount)
+        }
+        Item::Directive(directive) => note_directive(styles, alloc, number, directive),
         Item::Gap => Ok(()),
-        Item::Txn(txn) => note_postings(entries, alloc, txn.postings.as_slice()),
+        Item::Block => Ok(()),
     }
 }
 
-/// Notes the amounts of some postings.
-fn note_postings(
-    entries: &mut Vec<(Text, Style)>,
+/// Notes the amount of a directive that says how a symbol is written.
+fn note_directive(
+    styles: &mut Styles,
     alloc: Global,
-    postings: &[Posting],
+    number: u64,
+    directive: &Directive,
 ) -> Result<(), Memory>
-    requires { AreStyles entries.old.items }
-    ensures noted { OnOk result (entries.new.items ≡ noted_all entries.old.items postings.now) }
-    ensures kept { OnOk result (AreStyles entries.new.items) }
+    ensures { OnOk result (styles.new ≡ after_item number styles.old (kinds.Directive directive.now)) }
 {
-    for posting in postings {
-        note_amount(entries, alloc, &posting.amount)?;
-    }
-    Ok(())
-}
-
-/// Notes an amount, if it is there.
-fn note_amount(
-    entries: &mut Vec<(Text, Style)>,
-    alloc: Global,
-    amount: &Option<Amount>,
-) -> Result<(), Memory>
-    requires { AreStyles entries.old.items }
-    ensures noted { OnOk result (entries.new.items ≡ noted entries.old.items amount.now) }
-    ensures kept { OnOk result (AreStyles entries.new.items) }
-{
-    match amount {
-        Some(amount) => note(entries, alloc, amount),
-        None => Ok(()),
-    }
-}
-
-/// Notes an amount in the style of its symbol.
-fn note(entries: &mut Vec<(Text, Style)>, alloc: Global, amount: &Amount) -> Result<(), Memory>
-    requires { AreStyles entries.old.items }
-    ensures noted { OnOk result (entries.new.items ≡ noted entries.old.items (Some amount.now)) }
-    ensures kept { OnOk result (AreStyles entries.new.items) }
-{
-    match place_of(entries, &amount.symbol) {
-        Ok(at) => {
-            widen(entries, at, &amount.symbol, amount.value.decimals());
-            Ok(())
+    match directive {
+        Directive::Commodity(symbol, Some(amount)) => {
+            note_amount(&mut styles.commodities, alloc, number, symbol, amount)
         }
-        Err(at) => {
-            let style = Style {
-                shape: amount.shape,
-                places: amount.value.decimals(),
-            };
-            let symbol = Text::copied(alloc, amount.symbol.as_str())?;
-            entries.insert(at, (symbol, style))?;
-            Ok(())
+        Directive::Default(amount) => {
+            note_amount(&mut styles.defaults, alloc, number, &amount.symbol, amount)
         }
+        _ => Ok(()),
     }
-}
-
-/// Gives the style at the place of a symbol at least that many decimals.
-fn widen(entries: &mut Vec<(Text, Style)>, at: usize, symbol: &Text, places: u8)
-    requires rising { IsRising entries.old.items }
-    requires place { IsPlace entries.old.items symbol.now at }
-    ensures { entries.new.items ≡ widened entries.old.items symbol.now places }
-{
-    let style = entries[at].1;
-    entries[at].1 = Style {
-        shape: style.shape,
-        places: style.places.max(places),
-    };
 }

@@ -2,7 +2,8 @@
 use crate::amount::{Amount, Written};
 use crate::item::{Item, Placed};
 use crate::{
-    Mark, Mixed, Posting, Side, Style, Styles, Txn, compare_accounts, print_amount, print_plain,
+    Cause, Directive, Fault, Mark, Mixed, Posting, Price, Side, Style, Styles, Txn,
+    compare_accounts, print_amount, print_fault, print_plain,
 };
 use hl_base::{Kind, List, Piece, Text};
 use hl_num::Dec;
@@ -114,35 +115,46 @@ fn amount(rt: &impl Abort, alloc: Global, mantissa: i128, places: u8) -> Result<
     })
 }
 
-#[test]
-fn gathers_styles(rt: HostRuntime) -> Result<(), Fail> {
-    let mut postings = Vec::new(rt.alloc());
-    for (mantissa, places) in [(15, 1), (150, 2)] {
-        let account = Text::copied(rt.alloc(), "assets:cash")?;
-        let mut posting = Posting::plain(rt.alloc(), 2, Side::Real, account);
-        posting.amount = Some(amount(&rt, rt.alloc(), mantissa, places)?);
+/// A transaction that moves some amounts of euros.
+fn transaction(rt: &impl Abort, alloc: Global, amounts: &[(i128, u8)]) -> Result<Txn, Fail> {
+    let mut postings = Vec::new(alloc);
+    for (mantissa, places) in amounts {
+        let account = Text::copied(alloc, "assets:cash")?;
+        let mut posting = Posting::plain(alloc, 2, Side::Real, account);
+        posting.amount = Some(amount(rt, alloc, *mantissa, *places)?);
         postings.push(posting)?;
     }
-    let txn = Txn {
+    Ok(Txn {
         line: 1,
         day: Day(7),
         mark: Mark::Unmarked,
-        code: Text::new(rt.alloc()),
-        description: Text::new(rt.alloc()),
-        comment: Text::new(rt.alloc()),
-        tags: List::new(rt.alloc()),
+        code: Text::new(alloc),
+        description: Text::new(alloc),
+        comment: Text::new(alloc),
+        tags: List::new(alloc),
         postings: List::from_vec(postings),
-    };
+    })
+}
+
+#[test]
+fn tells_the_day_of_a_posting(rt: HostRuntime) -> Result<(), Fail> {
+    let txn = transaction(&rt, rt.alloc(), &[])?;
     let mut posting = Posting::plain(rt.alloc(), 3, Side::Free, Text::new(rt.alloc()));
     assert_eq!(rt; posting.day_in(&txn).0, 7);
     posting.day = Some(Day(9));
     assert_eq!(rt; posting.day_in(&txn).0, 9);
+    Ok(())
+}
+
+#[test]
+fn gathers_styles(rt: HostRuntime) -> Result<(), Fail> {
     let piece = Piece {
         at: 0,
         len: 9,
         line: 1,
         kind: Kind::Entry,
     };
+    let txn = transaction(&rt, rt.alloc(), &[(15, 1), (150, 2)])?;
     let items = vec![in rt.alloc();
         Placed {
             piece,
@@ -155,5 +167,65 @@ fn gathers_styles(rt: HostRuntime) -> Result<(), Fail> {
     assert_eq!(rt; euro.places, 2);
     let other = styles.style(&Text::copied(rt.alloc(), "USD")?);
     assert!(rt; !other.shape.left);
+    Ok(())
+}
+
+#[test]
+fn styles_follow_their_items(rt: HostRuntime) -> Result<(), Fail> {
+    let alloc = rt.alloc();
+    let euro = Text::copied(alloc, "EUR")?;
+    let mut styles = Styles::new(alloc);
+    let price = Price {
+        day: Day(1),
+        symbol: Text::copied(alloc, "X")?,
+        amount: amount(&rt, alloc, 12345, 3)?,
+    };
+    styles.add_item(alloc, 0, &Item::Price(price))?;
+    assert_eq!(rt; styles.style(&euro).places, 3);
+    let txn = transaction(&rt, alloc, &[(15, 1)])?;
+    styles.add_item(alloc, 5, &Item::Txn(txn))?;
+    assert_eq!(rt; styles.style(&euro).places, 1);
+    let usual = Directive::Default(amount(&rt, alloc, 100, 2)?);
+    styles.add_item(alloc, 3, &Item::Directive(usual))?;
+    assert_eq!(rt; styles.style(&euro).places, 2);
+    let declared = Directive::Commodity(
+        Text::copied(alloc, "EUR")?,
+        Some(amount(&rt, alloc, 1, 0)?),
+    );
+    styles.add_item(alloc, 9, &Item::Directive(declared))?;
+    let copy = styles.copy(alloc)?;
+    styles.remove_item(9);
+    assert_eq!(rt; styles.style(&euro).places, 2);
+    styles.remove_item(3);
+    assert_eq!(rt; styles.style(&euro).places, 1);
+    styles.remove_item(5);
+    assert_eq!(rt; styles.style(&euro).places, 3);
+    assert_eq!(rt; copy.style(&euro).places, 0);
+    Ok(())
+}
+
+#[test]
+fn tells_faults(rt: HostRuntime) -> Result<(), Fail> {
+    let alloc = rt.alloc();
+    let unbalanced = Cause::Unbalanced {
+        symbol: Text::copied(alloc, "EUR")?,
+        sum: dec(&rt, 15, 3),
+    };
+    let failed = Cause::AssertionFailed {
+        wanted: amount(&rt, alloc, -100, 0)?,
+        found: amount(&rt, alloc, -700, 1)?,
+    };
+    let rows = vec![in alloc;
+        (Cause::TwoMissing, "error: line 6: two missing amounts\n"),
+        (unbalanced, "error: line 6: unbalanced 0.015 EUR\n"),
+        (
+            failed,
+            "error: line 6: assertion: wanted -100 EUR, found -70.0 EUR\n"
+        ),
+    ]?;
+    for (cause, want) in rows {
+        let line = print_fault(alloc, &Fault { line: 6, cause })?;
+        assert!(rt; line.as_slice() == want.as_bytes());
+    }
     Ok(())
 }

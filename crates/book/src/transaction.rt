@@ -3,6 +3,7 @@ ghost use Rattle.std.specs.Prelude.{◌≡◌, unwrap_or};
 ghost use Rattle.book.specs.Postings.{plain_posting};
 
 use crate::amount::{Amount, Assertion, Cost};
+use crate::boxed::Boxed;
 use hl_base::{List, Text};
 use hl_time::Day;
 use std::alloc::Global;
@@ -39,8 +40,8 @@ pub struct Posting {
     pub side: Side,
     pub account: Text,
     pub amount: Option<Amount>,
-    pub cost: Option<Cost>,
-    pub wanted: Option<Assertion>,
+    pub cost: Option<Boxed<Cost>>,
+    pub wanted: Option<Boxed<Assertion>>,
     pub filled: bool,
     pub costed: bool,
     pub comment: Text,

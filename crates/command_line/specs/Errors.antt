@@ -1,13 +1,9 @@
 -- The lines that are written to the error output.
-use Rattle.std.specs.Prelude.{ℕ, List, [], ◌∷◌, ◌++◌, codes}
+use Rattle.std.specs.Prelude.{ℕ, List, ◌++◌, codes}
 use Rattle.std.specs.Fmt.{decimal}
-use Rattle.book.specs.declared.fault.Fault.{Fault}
 use Rattle.book.specs.declared.fault.Cause.{Cause}
-use Rattle.book.specs.declared.fault.Cause.TheVariants.{NotBuilt, Unbalanced}
-use Rattle.book.specs.Printed.{plain_amount}
-
-abbrev pub ended : List ℕ → List ℕ
-ended line = line ++ (10 ∷ [])
+use Rattle.book.specs.declared.fault.Cause.TheVariants.{TooLong}
+use Rattle.book.specs.FaultLine.{ended}
 
 -- no command, or one of another word
 abbrev pub usage_line : List ℕ
@@ -15,14 +11,6 @@ usage_line = ended (codes "error: usage")
 
 abbrev pub usage_word_line : List ℕ → List ℕ
 usage_word_line word = ended (codes "error: usage: " ++ word)
-
-abbrev pub cause_text : Cause → List ℕ
-cause_text NotBuilt = codes "not built"
-cause_text (Unbalanced symbol sum) = codes "unbalanced " ++ plain_amount symbol sum
-
--- a fault of a text, with its line
-abbrev pub fault_line : Fault → List ℕ
-fault_line fault = ended (codes "error: line " ++ decimal fault.line ++ codes ": " ++ cause_text fault.cause)
 
 -- a count past its limit
 abbrev pub limit_line : ℕ → ℕ → List ℕ
@@ -36,3 +24,8 @@ write_fault_line = ended (codes "error: write fault")
 
 abbrev pub memory_line : List ℕ
 memory_line = ended (codes "error: memory")
+
+-- the exit status of a text with a fault: 7 where an entry is too long, else 1
+abbrev pub fault_status : Cause → ℕ
+fault_status TooLong = 7
+fault_status _ = 1

@@ -7,11 +7,13 @@ use Rattle.book.specs.declared.item.Placed.{Placed}
 use Rattle.book.specs.declared.item.Book.{Book}
 use Rattle.book.specs.Postings.{postings_of}
 use Rattle.book.specs.Style.{style_of}
-use Rattle.journal_reader.specs.Items.{reading}
+use Rattle.book.specs.FaultLine.{fault_line}
+use Rattle.hl_time.specs.Calendar.{year_of}
+use Rattle.journal_reader.specs.Items.{items_in}
 use Rattle.balancing.specs.Load.{load}
 use Rattle.reports.specs.Cells.{rows_of, totals_of}
 use Rattle.balance_report.specs.BalanceList.{balance_list}
-use Rattle.command_line.specs.Errors.{usage_line, usage_word_line, fault_line, limit_line}
+use Rattle.command_line.specs.Errors.{usage_line, usage_word_line, limit_line, fault_status}
 
 -- what is written: the standard output and the error output, and the exit status
 pub record Outcome : Type 0 where
@@ -47,24 +49,24 @@ book_list items book = balance_list (style_of items) (rows_of (postings_of book.
 
 abbrev pub loaded_outcome : List Placed → Result Book Fault → Outcome
 loaded_outcome items (Ok book) = written (book_list items book)
-loaded_outcome items (Err fault) = refused 1 (fault_line fault)
+loaded_outcome items (Err fault) = refused (fault_status fault.cause) (fault_line fault)
 
 abbrev pub read_outcome : Result (List Placed) Fault → Outcome
 read_outcome (Ok items) = loaded_outcome items (load items)
-read_outcome (Err fault) = refused 1 (fault_line fault)
+read_outcome (Err fault) = refused (fault_status fault.cause) (fault_line fault)
 
--- The limits of a text are judged first, its bytes before its items; then its items are read; then they are loaded.
--- A text of too many bytes is told as one byte above the limit.
-abbrev pub report_outcome : List ℕ → Outcome
-report_outcome text =
+-- The limits of a text are judged first, its bytes before its items; then its items are read, with the day's year for
+-- dates without one; then they are loaded. A text of too many bytes is told as one byte above the limit.
+abbrev pub report_outcome : ℕ → List ℕ → Outcome
+report_outcome day text =
     if nat_lt most_bytes (length text) then refused 7 (limit_line (most_bytes + 1) most_bytes)
     else if nat_lt most_items (length (items_of text)) then refused 7 (limit_line (length (items_of text)) most_items)
-    else read_outcome (reading text)
+    else read_outcome (items_in (Some (year_of day)) text)
 
-abbrev pub told_outcome : Option (List ℕ) → List ℕ → Outcome
-told_outcome None text = report_outcome text
-told_outcome (Some line) text = refused 2 line
+abbrev pub told_outcome : Option (List ℕ) → ℕ → List ℕ → Outcome
+told_outcome None day text = report_outcome day text
+told_outcome (Some line) day text = refused 2 line
 
--- What the words answer to a text: their reading is judged before the text.
-abbrev pub outcome : List (List ℕ) → List ℕ → Outcome
-outcome words text = told_outcome (usage_of words) text
+-- What the words answer to a text on a day: their reading is judged before the text.
+abbrev pub outcome : List (List ℕ) → ℕ → List ℕ → Outcome
+outcome words day text = told_outcome (usage_of words) day text

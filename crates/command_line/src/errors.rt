@@ -1,11 +1,12 @@
 //! The lines that say why a command is refused.
 ghost use Rattle.std.specs.Prelude.{◌≡◌, IfOk, ◌++◌, ◌∷◌, []};
 ghost use Rattle.std.specs.String.{string_bytes};
+ghost use Rattle.book.specs.FaultLine.{fault_line};
 ghost use Rattle.command_line.specs.Answers.{Refuses};
-ghost use Rattle.command_line.specs.Errors.{usage_line, usage_word_line, cause_text, fault_line, limit_line};
+ghost use Rattle.command_line.specs.Errors.{usage_line, usage_word_line, limit_line, fault_status};
 
 use crate::refusal::Refusal;
-use book::{Cause, Fault, print_plain};
+use book::{Cause, Fault, print_fault};
 use hl_base::{Bytes, Memory, Text};
 use std::alloc::{AllocError, Global};
 use std::string::ToString;
@@ -45,37 +46,23 @@ pub fn past_limit(alloc: Global, count: u64, limit: u64) -> Result<Bytes, Memory
     ended(line)
 }
 
-/// The words for what is wrong.
-fn cause_words(alloc: Global, cause: &Cause) -> Result<String, Memory>
-    ensures { IfOk result (λ text. string_bytes text ≡ cause_text cause.now) }
+/// The exit status of a text with a fault: 7 where an entry is too long, else 1.
+fn status_for(cause: &Cause) -> u8
+    ensures { result ≡ fault_status cause.now }
 {
     match cause {
-        Cause::NotBuilt => Ok(String::from_str(alloc, "not built")?),
-        Cause::Unbalanced { symbol, sum } => {
-            let mut text = String::from_str(alloc, "unbalanced ")?;
-            text.push_str(print_plain(alloc, symbol, *sum)?.as_str())?;
-            Ok(text)
-        }
+        Cause::TooLong => 7,
+        _ => 1,
     }
-}
-
-/// A fault of a text.
-fn text_fault(alloc: Global, fault: &Fault) -> Result<Bytes, Memory>
-    ensures { IfOk result (λ line. line ≡ fault_line fault.now) }
-{
-    let mut line = String::from_str(alloc, "error: line ")?;
-    line.push_str(fault.line.to_string(alloc)?.as_str())?;
-    line.push_str(": ")?;
-    line.push_str(cause_words(alloc, &fault.cause)?.as_str())?;
-    ended(line)
 }
 
 /// The refusal of a text with a fault.
 pub fn refuse_fault(alloc: Global, fault: &Fault) -> Refusal
-    ensures { Refuses result 1 (fault_line fault.now) }
+    ensures { Refuses result (fault_status fault.now.cause) (fault_line fault.now) }
 {
-    match text_fault(alloc, fault) {
-        Ok(line) => Refusal::Line { status: 1, line },
+    let status = status_for(&fault.cause);
+    match print_fault(alloc, fault) {
+        Ok(line) => Refusal::Line { status, line },
         Err(_) => Refusal::Memory,
     }
 }

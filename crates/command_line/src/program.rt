@@ -1,6 +1,7 @@
 //! The program's run over its words, its input and its outputs.
 ghost use Rattle.std.specs.Prelude.{◌≡◌, ◌≢◌, ◌⊎◌, ◌≤◌, ℕ, List, [], Some, Err, IfOk, IfSome, length};
 ghost use Rattle.hl_base.specs.Causes.{Rose};
+ghost use Rattle.hl_time.specs.Calendar.{IsDay};
 ghost use Rattle.command_line.specs.Answers.{Answers, KeepsToUsage, Says, status_of, line_of, Wrote, WrotePrefix, IsStatus, IsRefusal, IsUsage, IsErrorLine};
 ghost use Rattle.command_line.specs.Errors.{read_fault_line, memory_line};
 ghost use Rattle.command_line.specs.Output.{outcome, usage_of};
@@ -39,10 +40,12 @@ fn usage(alloc: Global, words: &[Text]) -> Result<Option<Bytes>, Memory>
 fn answer<J: Source, L: Ledger>(
     alloc: Global,
     words: &[Text],
+    day: Day,
     input: &mut J,
     steps: &mut Steps<L>,
 ) -> Result<Bytes, Refusal>
-    ensures found { IfSome (J.left input.old) (λ text. Answers result (outcome words.now text)) }
+    requires { IsDay day.0 }
+    ensures found { IfSome (J.left input.old) (λ text. Answers result (outcome words.now day.0 text)) }
     ensures usage { KeepsToUsage result (usage_of words.now) }
     ensures all { IfOk result (λ output. IfSome (J.left input.old) (λ text. J.left input.new ≡ Some [])) }
     ensures rose { result ≡ Err Refusal.ReadFault → Rose (J.faults input.old) (J.faults input.new) }
@@ -52,7 +55,7 @@ fn answer<J: Source, L: Ledger>(
         return Err(Refusal::Line { status: 2, line });
     }
     match read_all(alloc, input, MOST_BYTES) {
-        Ok(text) => balance(alloc, text.as_slice(), steps),
+        Ok(text) => balance(alloc, text.as_slice(), day, steps),
         Err(ReadAllFault::TooLong { limit, seen }) => {
             let line = past_limit(alloc, seen, limit)?;
             Err(Refusal::Line { status: 7, line })
@@ -108,7 +111,7 @@ fn finish<O: Sink, E: Sink>(out: &mut O, err: &mut E, output: &[u8]) -> Status
 /// Runs the program: reads what the words ask for, and writes the answer or the line that says why there is none.
 /// The status is 0 where all was done, 1 where the text has a fault, 2 where the words have no reading, 3 where the
 /// input couldn't be read, 4 where an output couldn't be written, 6 where memory ran out, and 7 where the text is
-/// past a limit.
+/// past a limit. Dates without a year have that of the day.
 pub fn run<J: Source, O: Sink, E: Sink, L: Ledger>(
     alloc: Global,
     words: &[Text],
@@ -118,29 +121,29 @@ pub fn run<J: Source, O: Sink, E: Sink, L: Ledger>(
     err: &mut E,
     steps: &mut Steps<L>,
 ) -> Status
+    requires { IsDay day.0 }
     ensures statuses { IsStatus result.0 }
     // All was done: the input was read to its end, and the answer to it was written.
     ensures done { result.0 ≡ 0 → (E.written err.new ≡ E.written err.old) × IfSome (J.left input.old) (λ text.
-        ((outcome words.now text).status ≡ 0) × (J.left input.new ≡ Some [])
-        × Wrote (O.written out.old) (O.written out.new) (outcome words.now text).output) }
+        ((outcome words.now day.0 text).status ≡ 0) × (J.left input.new ≡ Some [])
+        × Wrote (O.written out.old) (O.written out.new) (outcome words.now day.0 text).output) }
     // It was refused, and nothing of a report was written.
     ensures refused { IsRefusal result.0 → (O.written out.new ≡ O.written out.old) × IfSome (J.left input.old) (λ text.
-        ((outcome words.now text).status ≡ result.0)
-        × Wrote (E.written err.old) (E.written err.new) (outcome words.now text).error) }
+        ((outcome words.now day.0 text).status ≡ result.0)
+        × Wrote (E.written err.old) (E.written err.new) (outcome words.now day.0 text).error) }
     // Words without a reading are refused whatever the input is, and no others are refused so.
     ensures usage { IsUsage (usage_of words.now) result.0 (E.written err.old) (E.written err.new) }
     ensures read_fault { result.0 ≡ 3 → Rose (J.faults input.old) (J.faults input.new)
         × (O.written out.new ≡ O.written out.old) × Wrote (E.written err.old) (E.written err.new) read_fault_line }
     ensures write_fault { result.0 ≡ 4 → (Rose (O.faults out.old) (O.faults out.new) ⊎ Rose (E.faults err.old) (E.faults err.new))
-        × IfSome (J.left input.old) (λ text. WrotePrefix (O.written out.old) (O.written out.new) (outcome words.now text).output) }
+        × IfSome (J.left input.old) (λ text. WrotePrefix (O.written out.old) (O.written out.new) (outcome words.now day.0 text).output) }
     ensures memory { result.0 ≡ 6 → (O.written out.new ≡ O.written out.old) × Wrote (E.written err.old) (E.written err.new) memory_line }
     // Where nothing of the outside can fail, nothing is said to have failed.
     ensures sound_input { J.IsSound input.old → result.0 ≢ 3 }
-    ensures sound_outputs { IfSome (J.left input.old) (λ text. O.HasRoom out.old (length (outcome words.now text).output)
-        → ((line : List ℕ) → IsErrorLine line (outcome words.now text) → E.HasRoom err.old (length line)) → result.0 ≢ 4) }
+    ensures sound_outputs { IfSome (J.left input.old) (λ text. O.HasRoom out.old (length (outcome words.now day.0 text).output)
+        → ((line : List ℕ) → IsErrorLine line (outcome words.now day.0 text) → E.HasRoom err.old (length line)) → result.0 ≢ 4) }
 {
-    let _day = day;
-    match answer(alloc, words, input, steps) {
+    match answer(alloc, words, day, input, steps) {
         Ok(output) => finish(out, err, output.as_slice()),
         Err(refusal) => refuse(err, &refusal),
     }

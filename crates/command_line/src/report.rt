@@ -1,10 +1,10 @@
 //! The answer of a report command to a text.
-ghost use Rattle.std.specs.Prelude.{◌≡◌, ◌≢◌, ◌≤◌, ◌^◌, Err, length, IfOk};
-ghost use Rattle.std.specs.List.{AllByRecursion};
-ghost use Rattle.book.specs.Bounds.{AreSmall, TurnoverFits};
-ghost use Rattle.book.specs.Postings.{postings_of, txns_of};
-ghost use Rattle.book.specs.Style.{style_in};
-ghost use Rattle.balancing.specs.Check.{HasOneSymbol};
+ghost use Rattle.std.specs.Prelude.{◌≡◌, ◌≤◌, length, IfOk};
+ghost use Rattle.hl_time.specs.Calendar.{IsDay};
+ghost use Rattle.book.specs.Assertions.{HasNoAssertions};
+ghost use Rattle.book.specs.Bounds.{TurnoverFits};
+ghost use Rattle.book.specs.Postings.{postings_of};
+ghost use Rattle.book.specs.Styles.{style_in};
 ghost use Rattle.balancing.specs.Load.{load};
 ghost use Rattle.reports.specs.Cells.{rows_of, totals_of};
 ghost use Rattle.balance_report.specs.BalanceList.{balance_list};
@@ -17,6 +17,7 @@ use balance_report::balance_text;
 use balancing::{CheckFault, check};
 use book::{Book, Items, Styles};
 use hl_base::{Bytes, Memory, Steps, cut_items};
+use hl_time::{Day, civil_of};
 use journal_reader::{ReadFault, read_items};
 use reports::{Job, ReportFault, make_cells};
 use std::alloc::Global;
@@ -28,14 +29,16 @@ pub const MOST_BYTES: u64 = 16_777_216;
 /// The most items that a text may have.
 const MOST_ITEMS: u64 = 200_000;
 
-/// The balance list of a text.
+/// The balance list of a text, on a day.
 pub fn balance<L: Ledger>(
     alloc: Global,
     text: &[u8],
+    day: Day,
     steps: &mut Steps<L>,
 ) -> Result<Bytes, Refusal>
-    requires { length text.now ≤ 16777216 }
-    ensures found { Finds result (report_outcome text.now) }
+    requires size { length text.now ≤ 16777216 }
+    requires day { IsDay day.0 }
+    ensures found { Finds result (report_outcome day.0 text.now) }
 {
     let pieces = cut_items(alloc, text)?;
     let count = pieces.len() as u64;
@@ -43,7 +46,8 @@ pub fn balance<L: Ledger>(
         let line = past_limit(alloc, count, MOST_ITEMS)?;
         return Err(Refusal::Line { status: 7, line });
     }
-    match read_items(alloc, text, pieces.as_slice(), steps) {
+    let year = civil_of(day).year;
+    match read_items(alloc, text, pieces.as_slice(), Some(year), steps) {
         Ok(items) => balance_of(alloc, items),
         Err(ReadFault::Read(fault)) => Err(refuse_fault(alloc, &fault)),
         Err(ReadFault::Memory) => Err(Refusal::Memory),
@@ -52,9 +56,8 @@ pub fn balance<L: Ledger>(
 
 /// The balance list of a text's items.
 fn balance_of(alloc: Global, items: Items) -> Result<Bytes, Refusal>
-    requires small { AreSmall (2 ^ 24) (postings_of (txns_of items)) }
-    requires one_symbol { AllByRecursion HasOneSymbol (txns_of items) }
-    ensures found { Finds result (loaded_outcome items (load items)) }
+    requires { HasNoAssertions items }
+    ensures { Finds result (loaded_outcome items (load items)) }
 {
     let styles = Styles::of(alloc, items.as_slice())?;
     match check(alloc, items) {

@@ -1,5 +1,5 @@
 -- Facts on how a text is cut into items.
-use Rattle.std.proofs.Common.{◌≡◌, ℕ, ◌+◌, ◌-◌, ◌≤◌, ◌<◌, Bool, true, false, not, cond, eqb, List, [], ◌∷◌, ◌++◌, length, take, drop, min, refl, ap, sym, ◌∙◌, subst, arith, rules, suc, zero, length-drop, length-append, drop-drop, add-one, add-zero, append_assoc, ◌⊎◌, inl, inr}
+use Rattle.std.proofs.Common.{◌≡◌, ℕ, ◌+◌, ◌≤◌, ◌<◌, Bool, true, false, cond, List, [], ◌∷◌, ◌++◌, length, take, drop, refl, ap, sym, ◌∙◌, arith, suc, zero, length-drop, length-append, add-one, add-zero, inl, inr}
 use Rattle.std.proofs.lemmas.Bool.{cases_lt}
 use Rattle.std.proofs.lemmas.List.{drop_all}
 use Rattle.std.specs.List.{take_while, concat, AllByRecursion}
@@ -7,8 +7,8 @@ use Rattle.std.proofs.lemmas.List.Sums.{take_while-cons}
 use Rattle.hl_base.specs.declared.items.Kind.{Kind}
 use Rattle.hl_base.specs.declared.items.Kind.TheVariants.{Gap, Block, Entry, Head, Stray}
 use Rattle.hl_base.specs.declared.items.Piece.{Piece}
-use Rattle.hl_base.specs.Lines.{onto, lines_of, first_line}
-use Rattle.hl_base.specs.Items.{is_remark, is_indented, closes_block, kind_of, lines_to_close, lines_more, cut_from, items_of}
+use Rattle.hl_base.specs.Lines.{lines_of, first_line}
+use Rattle.hl_base.specs.Items.{is_remark, is_indented, kind_of, lines_more, cut_from}
 use Rattle.hl_base.specs.Pieces.{IsWithin, span, goes_on, closes, lines_left, bytes_left}
 use Rattle.hl_base.proofs.LineLemmas.{lines_at}
 

@@ -2,6 +2,7 @@ pub mod CallRecords
 mod CutLemmas
 pub mod DiskLaws
 pub mod Files
-mod LineLemmas
+pub mod LineLemmas
 pub mod Replays
+pub mod ShelfLaws
 mod Transfers

@@ -1,6 +1,6 @@
 -- Facts on the lines of a text.
-use Rattle.std.proofs.Common.{◌≡◌, ℕ, ◌+◌, ◌-◌, ◌≤◌, ◌<◌, Bool, true, false, not, cond, eqb, List, [], ◌∷◌, ◌++◌, length, take, drop, min, refl, ap, sym, ◌∙◌, arith, rules, suc, zero, length-drop, drop-drop}
-use Rattle.std.specs.List.{take_while, concat}
+use Rattle.std.proofs.Common.{◌≡◌, ℕ, ◌+◌, ◌<◌, Bool, true, false, not, eqb, List, [], ◌∷◌, length, take, drop, min, refl, ap, ◌∙◌, arith, length-drop, drop-drop}
+use Rattle.std.specs.List.{take_while}
 use Rattle.std.proofs.lemmas.List.Sums.{take_while-cons}
 use Rattle.hl_base.specs.Lines.{onto, lines_of, first_line}
 

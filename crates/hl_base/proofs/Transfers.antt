@@ -1,5 +1,5 @@
 -- What is told of bytes that go over in parts.
-use Rattle.std.proofs.Common.{◌≡◌, ℕ, ◌+◌, ◌-◌, ◌≤◌, List, [], ◌∷◌, ◌++◌, length, take, drop, Option, Some, None, IfSome, refl, ap, sym, ◌∙◌, subst, arith, append_assoc, length-drop, take-add, take-append-drop}
+use Rattle.std.proofs.Common.{◌≡◌, ℕ, ◌+◌, ◌≤◌, List, ◌++◌, length, take, drop, Option, Some, None, IfSome, ap, sym, ◌∙◌, subst, append_assoc, take-add, take-append-drop}
 
 -- one more part was written after those before
 pub written_more : (a b c : Option (List ℕ)) (text rest : List ℕ) (i n : ℕ)

@@ -1,6 +1,5 @@
 -- What a contract sees of the counters of steps.
-use Rattle.std.specs.Prelude.{ℕ, refl}
-use Rattle.std.specs.Coded.{Coded, code_by, coded×, coded_ℕ}
+use Rattle.std.specs.Prelude.{ℕ}
 
 -- bytes read as items, nodes of the index of sums that were asked, transactions that were checked
 pub record Counts : Type 0 where

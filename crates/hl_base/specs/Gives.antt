@@ -1,5 +1,5 @@
 -- The words by which a contract says that a function answers what a definition gives.
-use Rattle.std.specs.Prelude.{◌≡◌, Result, Ok, Err, Option, Some, None, IfSome}
+use Rattle.std.specs.Prelude.{◌≡◌, Result, Ok, Err, Option, IfSome}
 
 -- The function answered what the definition gives, its value seen by view and its error by cause, or want of
 -- memory, which has no cause.

@@ -1,5 +1,5 @@
 -- The lines of a text.
-use Rattle.std.specs.Prelude.{ℕ, ◌-◌, Bool, ◌&&◌, not, List, [], ◌∷◌, ◌==◌, nat_lt, if◌then◌else◌, length, take_while, slice_index}
+use Rattle.std.specs.Prelude.{ℕ, ◌-◌, ◌&&◌, not, List, [], ◌∷◌, ◌==◌, nat_lt, if◌then◌else◌, length, take_while, slice_index}
 
 -- a byte before the first of some lines
 abbrev pub onto : ℕ → List (List ℕ) → List (List ℕ)

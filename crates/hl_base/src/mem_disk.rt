@@ -64,6 +64,13 @@ impl MemDisk {
         self.asked
     }
 
+    /// The bytes that the file reads as.
+    pub fn as_slice(&self) -> &[u8]
+        ensures { result.now ≡ self.now.surface.text }
+    {
+        self.surface.as_slice()
+    }
+
     /// A disk as a crash inside a call leaves this one, where all writes and cuts before it have reached the file,
     /// and at most so many bytes of its piece. A number past the last call, or no record, gives the disk as it
     /// reads. It has the same room, no record and no calls that are to fail.

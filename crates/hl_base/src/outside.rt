@@ -1,5 +1,5 @@
 //! Objects of the outside: where bytes come from and where they go.
-ghost use Rattle.std.specs.Prelude.{◌≡◌, ◌<◌, ◌≤◌, ◌+◌, ◌-◌, ◌++◌, ◌^◌, ℕ, List, [], Option, Some, length, take, drop, IfOk, IsOk, IsOkAnd, OnErr, IfSome};
+ghost use Rattle.std.specs.Prelude.{◌≡◌, ◌<◌, ◌≤◌, ◌+◌, ◌-◌, ◌++◌, ◌^◌, ℕ, List, [], Option, Some, length, take, drop, IfOk, IsOk, IsOkAnd, OnOk, OnErr, IfSome};
 ghost use Rattle.hl_base.specs.Causes.{Rose};
 
 use crate::fault::Failed;
@@ -25,6 +25,7 @@ pub trait Source {
         ensures rose { OnErr result (Rose (faults self.old) (faults self.new)) }
         ensures unread { OnErr result (left self.new ≡ left self.old) }
         ensures counted { faults self.old ≤ faults self.new }
+        ensures steady { OnOk result (faults self.new ≡ faults self.old) }
         ensures sound { IsSound self.old → (IsOk result) × (IsSound self.new) };
 }
 
@@ -49,6 +50,7 @@ pub trait Sink {
         ensures rose { OnErr result (Rose (faults self.old) (faults self.new)) }
         ensures unwritten { OnErr result (written self.new ≡ written self.old) }
         ensures counted { faults self.old ≤ faults self.new }
+        ensures steady { OnOk result (faults self.new ≡ faults self.old) }
         ensures sound { (more : ℕ) → HasRoom self.old (length piece.now + more)
             → IsOkAnd result (λ count. HasRoom self.new ((length piece.now - count) + more)) };
 }

@@ -47,6 +47,7 @@ pub fn write_all<O: Sink>(out: &mut O, text: &[u8]) -> Result<(), Failed>
         (n : ℕ) × (n ≤ length text.now) × (O.written out.new ≡ Some (before ++ take n text.now)))) }
     ensures rose { OnErr result (Rose (O.faults out.old) (O.faults out.new)) }
     ensures counted { O.faults out.old ≤ O.faults out.new }
+    ensures steady { OnOk result (O.faults out.new ≡ O.faults out.old) }
     ensures sound { (more : ℕ) → O.HasRoom out.old (length text.now + more) → (IsOk result) × (O.HasRoom out.new more) }
 {
     let mut at = 0;
@@ -71,6 +72,7 @@ pub fn read_all<J: Source>(alloc: Global, source: &mut J, limit: u64) -> Result<
         × IfSome (J.left source.old) (λ told. limit < length told))) }
     ensures rose { IsErrOf result ReadAllFault.ReadFault → Rose (J.faults source.old) (J.faults source.new) }
     ensures counted { J.faults source.old ≤ J.faults source.new }
+    ensures steady { OnOk result (J.faults source.new ≡ J.faults source.old) }
     ensures sound { J.IsSound source.old → (result ≢ Err ReadAllFault.ReadFault) × J.IsSound source.new }
 {
     let mut room = zeros(alloc, ROOM)?;
@@ -112,6 +114,7 @@ fn read_more<J: Source>(
     ensures not_long { IfErr result (λ e. IfTooLong e (λ limit seen. ⊥)) }
     ensures rose { IsErrOf result ReadAllFault.ReadFault → Rose (J.faults source.old) (J.faults source.new) }
     ensures counted { J.faults source.old ≤ J.faults source.new }
+    ensures steady { OnOk result (J.faults source.new ≡ J.faults source.old) }
     ensures sound { J.IsSound source.old → (result ≢ Err ReadAllFault.ReadFault) × J.IsSound source.new }
 {
     let wanted = room.len().min((most - bytes.len() as u64) as usize);

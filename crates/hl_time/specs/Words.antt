@@ -22,7 +22,7 @@ same_text (a ∷ as_) (b ∷ bs) = (a == b) && same_text as_ bs
 unfoldable pub is_word : List ℕ → List ℕ → Bool
 is_word word name = same_text (map to_ascii_lowercase word) (map to_ascii_lowercase name)
 
--- the words that begin and join moments
+-- the words of intervals
 unfoldable pub interval_word : List ℕ → Word
 interval_word word =
     if is_word word (codes "daily") then kinds.Each units.Day
@@ -63,6 +63,7 @@ near_word word =
     else if is_word word (codes "tomorrow") then kinds.Day steps.Next
     else one_word word
 
+-- the words that begin and join moments
 unfoldable pub keyword : List ℕ → Word
 keyword word =
     if is_word word (codes "in") then kinds.Link links.In

@@ -1,147 +1,119 @@
--- What the transactions of a text that reads are: small, and each of one symbol.
-use Rattle.std.proofs.Common.{◌≡◌, ℕ, suc, ◌+◌, ◌≤◌, Bool, true, false, cond, ◌==◌, nat_lt, List, [], ◌∷◌, ◌++◌, Option, Some, None, Result, Ok, Err, length, take, drop, refl, ap, subst, arith}
-use Rattle.std.specs.Prelude.{IsSomeAnd}
+-- What the items are that read: gaps and transactions without assertions.
+use Rattle.std.proofs.Common.{◌≡◌, ℕ, ◌+◌, Bool, true, false, cond, not, List, [], ◌∷◌, ◌++◌, length, take, drop, Option, Result, Ok, Err, is_some, nat_lt, refl, sym, subst}
+use Rattle.std.specs.Prelude.{IfOk}
 use Rattle.std.specs.List.{AllByRecursion}
+use Rattle.std.specs.Str.{is_utf8}
 use Rattle.std.proofs.lemmas.Grind.{flat_map-append}
-use Rattle.std.proofs.lemmas.List.{length-append, length-take, append-nil}
-use Rattle.std.proofs.lemmas.List.Sums.{sum_by-cons}
+use Rattle.std.proofs.lemmas.List.{append-nil}
+use Rattle.hl_base.specs.Items.{is_white, kind_of}
+use Rattle.hl_base.specs.Lines.{first_line}
 use Rattle.hl_base.specs.declared.items.Kind.{Kind}
 use Rattle.hl_base.specs.declared.items.Kind.TheVariants as kinds
 use Rattle.hl_base.specs.declared.items.Piece.{Piece}
-use Rattle.hl_base.specs.Lines.{onto, lines_of}
-use Rattle.hl_base.specs.Items.{kind_of}
+use Rattle.hl_time.specs.Calendar.{year_of}
+use Rattle.book.specs.Assertions.{HasNoAssertion, HasNoAssertions}
+use Rattle.book.specs.Postings as shared
 use Rattle.book.specs.declared.fault.Fault.{Fault}
+use Rattle.book.specs.declared.fault.Cause.TheVariants as cause
 use Rattle.book.specs.declared.item.Item.{Item}
-use Rattle.book.specs.declared.item.Item.TheVariants as item
-use Rattle.book.specs.declared.item.Placed.{Placed}
 use Rattle.book.specs.declared.transaction.Posting.{Posting}
 use Rattle.book.specs.declared.transaction.Txn.{Txn}
-use Rattle.book.specs.Bounds.{AreSmall, IsSmallAmount}
-use Rattle.book.specs.Postings.{postings_of, txn_in, txns_of}
-use Rattle.journal_reader.specs.Head.{content_of, head_of}
-use Rattle.journal_reader.specs.Postings.{posting_of, posting_then, postings_from}
-use Rattle.book.specs.Postings.{have_one_symbol}
-use Rattle.journal_reader.specs.Items.{first_line, first_filled, gap_from, not_built, txn_from, entry_from, entry_of, said_by, item_of, item_then, reading_of}
-use Rattle.hl_base.specs.Pieces.{bytes_in}
-use Rattle.journal_reader.specs.Whole.{OfOneSymbol}
-use Rattle.journal_reader.proofs.Small.{posting_small}
+use Rattle.journal_reader.specs.Causes.{◌>>=◌, fault_at}
+use Rattle.journal_reader.specs.Contexts.{Context, context_of, directive_in}
+use Rattle.journal_reader.specs.Lines.{first_is, after_white, contents_of}
+use Rattle.journal_reader.specs.Comments.{is_comment, comments_in, day_in}
+use Rattle.journal_reader.specs.Accounts.{account_len}
+use Rattle.journal_reader.specs.Heads.{mark_at, head_of}
+use Rattle.journal_reader.specs.Postings.{account_at, numbers_at, ending_of, posting_line, posting_of, postings_of}
+use Rattle.journal_reader.specs.Items.{entry_with, entry_of, entry_limit, said_by, broken_line, reading, reading_from}
 
-abbrev HasSmall : Posting → Type 0
-HasSmall p = IsSomeAnd p.amount IsSmallAmount
+-- what holds of a part's answers, and so of what follows it
+after_part : {A B : Type 0} (Q : A → Type 0) (P : B → Type 0) (r : Result A Fault) (f : A → Result B Fault) → IfOk r Q → ((a : A) → Q a → IfOk (f a) P) → IfOk (r >>= f) P
+after_part Q P (Ok a) f h k = k a h
+after_part Q P (Err e) f h k = tt
 
--- what is said of the transactions of an item of so many bytes
-abbrev pub AreGood : ℕ → List Txn → Type 0
-AreGood bound txns = AreSmall bound (postings_of txns) × OfOneSymbol txns
+after_any : {A B : Type 0} (P : B → Type 0) (r : Result A Fault) (f : A → Result B Fault) → ((a : A) → IfOk (f a) P) → IfOk (r >>= f) P
+after_any P (Ok a) f k = k a
+after_any P (Err e) f k = tt
 
-both_all : {X : Type 0} (P : X → Type 0) (xs ys : List X) → AllByRecursion P xs → AllByRecursion P ys → AllByRecursion P (xs ++ ys)
-both_all P [] ys h k = k
-both_all P (x ∷ xs) ys h k = (h.0, both_all P xs ys h.1 k)
+unless : {A : Type 0} (P : A → Type 0) (t : Bool) (e : Fault) (r : Result A Fault) → IfOk r P → IfOk (cond t (Err e) r) P
+unless P true e r h = tt
+unless P false e r h = h
 
-good_both : (m n : ℕ) (xs ys : List Txn) → AreGood m xs → AreGood n ys → AreGood (m + n) (xs ++ ys)
-good_both m n xs ys h k =
-    let e : postings_of (xs ++ ys) ≡ postings_of xs ++ postings_of ys = flat_map-append (λ (t : Txn). t.postings) xs ys in (
-      record {
-        few = omega (arith, h.0.few, k.0.few, ap length e, length-append (postings_of xs) (postings_of ys));
-        small = rw e (both_all HasSmall (postings_of xs) (postings_of ys) h.0.small k.0.small);
-      },
-      both_all (λ (t : Txn). have_one_symbol t.postings ≡ true) xs ys h.1 k.1,
-    )
+line_plain : (context : Context) (line : ℕ) (content : List ℕ) → IfOk (posting_line context line content) (λ x. HasNoAssertion x.0)
+unfolding posting_line
+line_plain context line content =
+    after_any (λ x. HasNoAssertion x.0) (mark_at line (after_white content)) _ (λ mark.
+    after_any (λ x. HasNoAssertion x.0) (account_at context line (take (account_len mark.1) mark.1)) _ (λ account.
+    after_any (λ x. HasNoAssertion x.0) (numbers_at context line (after_white (drop (account_len mark.1) mark.1))) _ (λ numbers.
+    after_any (λ x. HasNoAssertion x.0) (ending_of line account.0 (is_some (numbers.0).0) numbers.1) _ (λ own. refl))))
 
--- ---- the postings of an entry
+posting_plain : (context : Context) (year line : ℕ) (content : List ℕ) (after : List (List ℕ)) → IfOk (posting_of context year line content after) HasNoAssertion
+unfolding posting_of
+posting_plain context year line content after =
+    unless HasNoAssertion (not (first_is is_white content)) (fault_at line cause.Form) _
+    (after_part (λ x. HasNoAssertion x.0) HasNoAssertion (posting_line context line content) _ (line_plain context line content) (λ p h.
+    after_any HasNoAssertion (day_in year line (p.1 ∷ comments_in after)) _ (λ day. h)))
 
-then_small : (line : ℕ) (o : Option Posting) (others : Result (List Posting) ℕ) (ps : List Posting) (n : ℕ) → ((p : Posting) → o ≡ Some p → HasSmall p)
-    → ((qs : List Posting) → others ≡ Ok qs → AllByRecursion HasSmall qs × (length qs ≤ n)) → posting_then line o others ≡ Ok ps → AllByRecursion HasSmall ps × (length ps ≤ suc n)
-then_small line None others ps n h k e = absurd cc
-then_small line (Some p) (Err at) ps n h k e = absurd cc
-then_small line (Some p) (Ok qs) ps n h k e =
-    let made : p ∷ qs ≡ ps = cc in
-    let more = k qs refl in
-    subst (λ (xs : List Posting). AllByRecursion HasSmall xs × (length xs ≤ suc n)) made ((h p refl, more.0), omega (arith, more.1))
+abbrev ArePlain : List Posting → Type 0
+ArePlain ps = AllByRecursion HasNoAssertion ps
 
-postings_small : (line : ℕ) (ls : List (List ℕ)) (ps : List Posting) → postings_from line ls ≡ Ok ps → AllByRecursion HasSmall ps × (length ps ≤ length ls)
-postings_small line [] ps e =
-    let none : [] ≡ ps = cc in
-    subst (λ (xs : List Posting). AllByRecursion HasSmall xs × (length xs ≤ 0)) none (tt, omega arith)
-postings_small line (l ∷ ls) ps e =
-    then_small line (posting_of line (content_of l)) (postings_from (line + 1) ls) ps (length ls) (posting_small line (content_of l)) (postings_small (line + 1) ls) e
+choose : {A : Type 0} (P : A → Type 0) (t : Bool) (x y : Result A Fault) → IfOk x P → IfOk y P → IfOk (cond t x y) P
+choose P true x y h k = h
+choose P false x y h k = k
 
--- ---- an item
+postings_plain : (context : Context) (year line : ℕ) (contents : List (List ℕ)) → IfOk (postings_of context year line contents) ArePlain
+unfolding postings_of
+postings_plain context year line [] = tt
+postings_plain context year line (c ∷ cs) =
+    choose ArePlain (is_comment c) (postings_of context year (line + 1) cs) _ (postings_plain context year (line + 1) cs)
+    (after_part HasNoAssertion ArePlain (posting_of context year line c cs) _ (posting_plain context year line c cs) (λ p h.
+    after_part ArePlain ArePlain (postings_of context year (line + 1) cs) _ (postings_plain context year (line + 1) cs) (λ ps k. (h, k))))
 
-abbrev IsGood : ℕ → Item → Type 0
-IsGood bound it = AreGood bound (txn_in it)
+-- an item is no directive, and has no assertion
+abbrev pub IsPlain : Item → Type 0
+IsPlain it = (directive_in it ≡ []) × ArePlain (shared.postings_of (shared.txn_in it))
 
-symbol_good : (t : Bool) (line : ℕ) (head : ℕ × List ℕ) (ps : List Posting) (n : ℕ) (it : Item) → have_one_symbol ps ≡ t → AllByRecursion HasSmall ps × (length ps ≤ n)
-    → cond t (Ok (item.Txn (txn_from line head ps))) (Err (not_built line)) ≡ Ok it → IsGood n it
-symbol_good false line head ps n it h k e = absurd cc
-symbol_good true line head ps n it h k e =
-    let made : item.Txn (txn_from line head ps) ≡ it = cc in
-    let one : postings_of (txn_from line head ps ∷ []) ≡ ps = append-nil ps in
-    subst (IsGood n) made
-    (record { few = rw one k.1; small = rw one k.0 }, (h, tt))
+entry_plain : (context : Context) (line : ℕ) (content : List ℕ) (after : List (List ℕ)) → IfOk (entry_with context line content after) IsPlain
+unfolding entry_with
+entry_plain context line content after =
+    after_any IsPlain (head_of context line content) _ (λ head.
+    after_part ArePlain IsPlain (postings_of context (year_of head.day) (line + 1) after) _ (postings_plain context (year_of head.day) (line + 1) after) (λ ps h.
+    (refl, subst ArePlain (sym (append-nil ps)) h)))
 
-entry_good : (line : ℕ) (head : Option (ℕ × List ℕ)) (read : Result (List Posting) ℕ) (n : ℕ) (it : Item) → ((ps : List Posting) → read ≡ Ok ps → AllByRecursion HasSmall ps × (length ps ≤ n))
-    → entry_from line head read ≡ Ok it → IsGood n it
-entry_good line None read n it h e = absurd cc
-entry_good line (Some head) (Err at) n it h e = absurd cc
-entry_good line (Some head) (Ok ps) n it h e = symbol_good (have_one_symbol ps) line head ps n it refl (h ps refl) e
+lines_plain : (context : Context) (line : ℕ) (contents : List (List ℕ)) → IfOk (entry_of context line contents) IsPlain
+lines_plain context line [] = tt
+lines_plain context line (c ∷ cs) = entry_plain context line c cs
 
-lines_good : (line : ℕ) (ls : List (List ℕ)) (it : Item) → entry_of line ls ≡ Ok it → IsGood (length ls) it
-lines_good line [] it e = absurd cc
-lines_good line (l ∷ ls) it e =
-    entry_good line (head_of (content_of l)) (postings_from (line + 1) ls) (length (l ∷ ls)) it
-    (λ ps h. let k = postings_small (line + 1) ls ps h in (k.0, omega (arith, k.1))) e
+said_plain : (kind : Kind) (context : Context) (line : ℕ) (bytes : List ℕ) → IfOk (said_by kind context line bytes) IsPlain
+said_plain kinds.Gap context line bytes = (refl, tt)
+said_plain kinds.Block context line bytes = tt
+said_plain kinds.Stray context line bytes = tt
+said_plain kinds.Entry context line bytes = unless IsPlain (nat_lt entry_limit (length bytes)) (fault_at line cause.TooLong) _ (lines_plain context line (contents_of bytes))
+said_plain kinds.Head context line bytes = unless IsPlain (nat_lt entry_limit (length bytes)) (fault_at line cause.TooLong) (Err (fault_at line cause.NotBuilt)) tt
 
-gap_good : (o : Option ℕ) (n : ℕ) (it : Item) → gap_from o ≡ Ok it → IsGood n it
-gap_good None n it e =
-    let made : item.Gap ≡ it = cc in
-    subst (IsGood n) made (record { few = omega arith; small = tt }, tt)
-gap_good (Some line) n it e = absurd cc
+all_plain : (context : Context) (line : ℕ) (bytes : List ℕ) → IfOk (reading context line bytes) IsPlain
+unfolding reading
+all_plain context line bytes =
+    choose IsPlain (is_utf8 bytes) (said_by (kind_of (first_line bytes)) context line bytes) (Err (fault_at (broken_line line bytes) cause.Encoding)) (said_plain (kind_of (first_line bytes)) context line bytes) tt
 
--- a text has no more lines than bytes
-onto_count : (b n : ℕ) (lines : List (List ℕ)) → length lines ≤ n → length (onto b lines) ≤ suc n
-onto_count b n [] h = omega arith
-onto_count b n (l ∷ ls) h = omega (arith, h)
+at_ok : (r : Result Item Fault) (it : Item) → r ≡ Ok it → IfOk r IsPlain → IsPlain it
+at_ok (Ok other) it e h =
+    let made : other ≡ it = cc in
+    subst IsPlain made h
+at_ok (Err f) it e h = absurd cc
 
-count_cons : (t : Bool) (b : ℕ) (bs : List ℕ) → (b == 10) ≡ t → length (lines_of bs) ≤ length bs → length (lines_of (b ∷ bs)) ≤ suc (length bs)
-count_cons true b bs e h = rw e (omega (arith, h))
-count_cons false b bs e h = rw e (onto_count b (length bs) (lines_of bs) h)
+pub reading_plain : (context : Context) (line : ℕ) (bytes : List ℕ) (it : Item) → reading context line bytes ≡ Ok it → IsPlain it
+reading_plain context line bytes it e = at_ok (reading context line bytes) it e (all_plain context line bytes)
 
-line_count : (bs : List ℕ) → length (lines_of bs) ≤ length bs
-line_count [] = omega arith
-line_count (b ∷ bs) = count_cons (b == 10) b bs refl (line_count bs)
+both_all : (xs ys : List Posting) → ArePlain xs → ArePlain ys → ArePlain (xs ++ ys)
+both_all [] ys h k = k
+both_all (x ∷ xs) ys h k = (h.0, both_all xs ys h.1 k)
 
-good_more : (m n : ℕ) (it : Item) → m ≤ n → IsGood m it → IsGood n it
-good_more m n it le h = (record { few = omega (arith, h.0.few); small = h.0.small }, h.1)
-
-limit_good : (t : Bool) (line : ℕ) (bytes : List ℕ) (it : Item) → cond t (Err (not_built line)) (entry_of line (lines_of bytes)) ≡ Ok it → IsGood (length bytes) it
-limit_good true line bytes it e = absurd cc
-limit_good false line bytes it e = good_more (length (lines_of bytes)) (length bytes) it (line_count bytes) (lines_good line (lines_of bytes) it e)
-
-said_good : (kind : Kind) (line : ℕ) (bytes : List ℕ) (it : Item) → said_by kind line bytes ≡ Ok it → IsGood (length bytes) it
-said_good kinds.Gap line bytes it e = gap_good (first_filled line (lines_of bytes)) (length bytes) it e
-said_good kinds.Entry line bytes it e = limit_good (nat_lt 65536 (length bytes)) line bytes it e
-said_good kinds.Block line bytes it e = absurd cc
-said_good kinds.Head line bytes it e = absurd cc
-said_good kinds.Stray line bytes it e = absurd cc
-
--- ---- all items
-
-items_good : (piece : Piece) (read : Result Item Fault) (others : Result (List Placed) Fault) (m n : ℕ) (items : List Placed) → ((it : Item) → read ≡ Ok it → IsGood m it)
-    → ((rest : List Placed) → others ≡ Ok rest → AreGood n (txns_of rest)) → item_then piece read others ≡ Ok items → AreGood (m + n) (txns_of items)
-items_good piece (Err fault) others m n items h k e = absurd cc
-items_good piece (Ok it) (Err fault) m n items h k e = absurd cc
-items_good piece (Ok it) (Ok rest) m n items h k e =
-    let first : Placed = record { piece = piece; item = it } in
-    let made : first ∷ rest ≡ items = cc in
-    subst (λ (xs : List Placed). AreGood (m + n) (txns_of xs)) made (good_both m n (txn_in it) (txns_of rest) (h it refl) (k rest refl))
-
-pub reading_good : (text : List ℕ) (pieces : List Piece) (items : List Placed) → reading_of text pieces ≡ Ok items → AreGood (bytes_in pieces) (txns_of items)
-reading_good text [] items e =
-    let none : [] ≡ items = cc in
-    subst (λ (xs : List Placed). AreGood 0 (txns_of xs)) none (record { few = omega arith; small = tt }, tt)
-reading_good text (p ∷ ps) items e =
-    let bytes = take p.len (drop p.at text) in
-    let short : length bytes ≤ p.len = omega (arith, length-take p.len (drop p.at text)) in
-    rw (sum_by-cons (λ (q : Piece). q.len) p ps)
-    (items_good p (item_of p.line bytes) (reading_of text ps) p.len (bytes_in ps) items
-    (λ it h. good_more (length bytes) p.len it short (said_good (kind_of (first_line (lines_of bytes))) p.line bytes it h)) (reading_good text ps) e)
+pub journal_plain : (year : Option ℕ) (before : List Item) (text : List ℕ) (pieces : List Piece) → IfOk (reading_from year before text pieces) HasNoAssertions
+unfolding reading_from
+journal_plain year before text [] = tt
+journal_plain year before text (p ∷ ps) =
+    after_part IsPlain HasNoAssertions (reading (context_of year before) p.line (take p.len (drop p.at text))) _ (all_plain (context_of year before) p.line (take p.len (drop p.at text))) (λ i h.
+    after_part HasNoAssertions HasNoAssertions (reading_from year (before ++ i ∷ []) text ps) _ (journal_plain year (before ++ i ∷ []) text ps) (λ more k.
+    subst ArePlain (sym (flat_map-append (λ (t : Txn). t.postings) (shared.txn_in i) (shared.txns_of more))) (both_all (shared.postings_of (shared.txn_in i)) (shared.postings_of (shared.txns_of more)) h.1 k)))

@@ -1,9 +1,13 @@
-pub mod Lines
-pub mod Ascii
-pub mod Digits
-pub mod Parts
-pub mod Reading
-pub mod Gaps
-pub mod Whole
-pub mod Small
-pub mod Laws
+mod Bare
+mod Both
+mod Entries
+mod Laws
+mod LineEnds
+mod Lines
+mod Names
+mod Parts
+mod Remarks
+mod Rows
+mod TagSteps
+mod Texts
+mod Whole

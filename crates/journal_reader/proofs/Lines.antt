@@ -1,10 +1,9 @@
 -- The first line of a text, found by its first LF.
-use Rattle.std.proofs.Common.{◌≡◌, ℕ, suc, ◌+◌, ◌<◌, Bool, true, false, cond, ◌==◌, not, List, [], ◌∷◌, length, take, drop, refl, sym, ◌∙◌, arith}
-use Rattle.std.specs.List.{prefix_len}
+use Rattle.std.proofs.Common.{◌≡◌, ℕ, suc, ◌+◌, ◌<◌, Bool, true, false, cond, ◌==◌, not, List, [], ◌∷◌, length, take, drop, map, refl, ap, ◌∙◌, arith}
+use Rattle.std.specs.List.{prefix_len, take_while}
 use Rattle.std.proofs.lemmas.List.Sums.{take_while-cons}
 use Rattle.hl_base.specs.Lines.{onto, lines_of}
-use Rattle.journal_reader.specs.Head.{content_of}
-use Rattle.journal_reader.specs.Items.{first_line}
+use Rattle.journal_reader.specs.Lines.{before_white, content_of, contents_of}
 
 abbrev pub is_inside : ℕ → Bool
 is_inside b = not (b == 10)
@@ -37,28 +36,25 @@ lines_cut b [] = cut_by (b == 10) b (inside []) [] (cut_last b)
 lines_cut b (c ∷ cs) = cut_by (b == 10) b (inside (c ∷ cs)) (c ∷ cs) (cut_longer b (inside (c ∷ cs)) (c ∷ cs) (lines_cut c cs))
 
 -- the front of a text through its first LF, without the LF
-content_more : (b n : ℕ) (bs : List ℕ) → content_of (take (n + 1) bs) ≡ take n bs → (t : Bool) → t ≡ (b == 10)
-    → content_of (take (cond (not t) (1 + n) 0 + 1) (b ∷ bs)) ≡ take (cond (not t) (1 + n) 0) (b ∷ bs)
+abbrev before_end : List ℕ → List ℕ
+before_end line = take_while is_inside line
+
+content_more : (b n : ℕ) (bs : List ℕ) → before_end (take (n + 1) bs) ≡ take n bs → (t : Bool) → t ≡ (b == 10)
+    → before_end (take (cond (not t) (1 + n) 0 + 1) (b ∷ bs)) ≡ take (cond (not t) (1 + n) 0) (b ∷ bs)
 content_more b n bs h true e = take_while-cons is_inside b [] ∙ rw (← e) refl
 content_more b n bs h false e =
     let k : 1 + n + 1 ≡ suc (n + 1) = omega arith in
     let j : 1 + n ≡ suc n = omega arith in
     rw (k, j) (take_while-cons is_inside b (take (n + 1) bs) ∙ rw (← e, h) refl)
 
-pub content_cut : (text : List ℕ) → content_of (take (inside text + 1) text) ≡ take (inside text) text
+content_cut : (text : List ℕ) → before_end (take (inside text + 1) text) ≡ take (inside text) text
 content_cut [] = refl
 content_cut (b ∷ bs) = content_more b (inside bs) bs (content_cut bs) (b == 10) refl
 
-pub cut_of : (text : List ℕ) → 0 < length text → lines_of text ≡ take (inside text + 1) text ∷ lines_of (drop (inside text + 1) text)
+cut_of : (text : List ℕ) → 0 < length text → lines_of text ≡ take (inside text + 1) text ∷ lines_of (drop (inside text + 1) text)
 cut_of [] h = absurd (omega arith)
 cut_of (b ∷ bs) h = lines_cut b bs
 
--- the first line of some that begin so
-pub begun : (lines rest : List (List ℕ)) (l : List ℕ) → lines ≡ l ∷ rest → (lines ≡ first_line lines ∷ rest) × (first_line lines ≡ l)
-begun lines rest l e = (rw e refl, rw e refl)
-
-pub cut_parts : (text after : List ℕ) (n : ℕ) → 0 < length text → n ≡ inside text → after ≡ drop (n + 1) text
-    → (lines_of text ≡ first_line (lines_of text) ∷ lines_of after) × (take n text ≡ content_of (first_line (lines_of text)))
-cut_parts text after n h e f =
-    let g = begun (lines_of text) (lines_of (drop (inside text + 1) text)) (take (inside text + 1) text) (cut_of text h) in
-    (rw (f, e) g.0, rw (g.1, e) (sym (content_cut text)))
+-- the first line's content before the contents of the text after it
+pub contents_cut : (text : List ℕ) → 0 < length text → contents_of text ≡ before_white (take (inside text) text) ∷ contents_of (drop (inside text + 1) text)
+contents_cut text h = ap (map content_of) (cut_of text h) ∙ ap (λ (l : List ℕ). before_white l ∷ contents_of (drop (inside text + 1) text)) (content_cut text)

@@ -1,96 +1,104 @@
--- The posting lines of an entry.
-use Rattle.std.specs.Prelude.{ℕ, ℤ, pos, ◌+◌, ◌-◌, ◌*◌, Bool, true, false, ◌&&◌, ◌||◌, not, List, [], ◌∷◌, ◌++◌, ◌==◌, nat_le, nat_eq, Option, Some, None, Result, Ok, Err, if◌then◌else◌, length, drop, take_while, fold}
-use Rattle.std.specs.List.{starts_with, list_all}
-use lib.IntN.{neg_ℤ}
-use Rattle.hl_base.specs.Items.{is_digit}
-use Rattle.hl_num.specs.Decimal.{Decimal}
+-- Posting lines: `[MARK] ACCOUNT [2 SPACES OR TAB AMOUNT [COST] [ASSERTION]] [; COMMENT]`, and the comment lines after them.
+use Rattle.std.specs.Prelude.{ℕ, ◌+◌, Bool, true, false, ◌&&◌, not, List, [], ◌∷◌, ◌==◌, if◌then◌else◌, take, drop, Option, Some, None, Result, Ok, Err, is_some}
+use Rattle.hl_base.specs.Items.{is_white}
+use Rattle.hl_time.specs.declared.day.Day.{Day}
 use Rattle.book.specs.declared.amount.Amount.{Amount}
-use Rattle.book.specs.declared.amount.Written.{Written}
+use Rattle.book.specs.declared.amount.Cost.{Cost}
+use Rattle.book.specs.declared.fault.Fault.{Fault}
+use Rattle.book.specs.declared.fault.Cause.TheVariants as cause
 use Rattle.book.specs.declared.transaction.Posting.{Posting}
-use Rattle.book.specs.declared.transaction.Side.TheVariants.{Real}
-use Rattle.book.specs.Accounts.{parts_of}
+use Rattle.book.specs.declared.transaction.Side.{Side}
+use Rattle.book.specs.declared.transaction.Side.TheVariants.{Free}
+use Rattle.book.specs.declared.transaction.Mark.{Mark}
 use Rattle.book.specs.Postings.{plain_posting}
-use Rattle.journal_reader.specs.Head.{content_of}
+use Rattle.journal_reader.specs.Causes.{fault_at, ◌>>=◌}
+use Rattle.journal_reader.specs.Contexts.{Context, account_named}
+use Rattle.journal_reader.specs.Lines.{first_is, begins, after_white, trimmed}
+use Rattle.journal_reader.specs.Comments.{is_comment, comments_in, comment_of, tags_in, day_in}
+use Rattle.journal_reader.specs.Amounts.{amount_at, cost_at}
+use Rattle.journal_reader.specs.Symbols.{ends_amount}
+use Rattle.journal_reader.specs.Accounts.{account_len, account_of, has_parts}
+use Rattle.journal_reader.specs.Heads.{mark_at}
 
-abbrev pub is_letter : ℕ → Bool
-is_letter b = (nat_le 65 b && nat_le b 90) || (nat_le 97 b && nat_le b 122)
+-- an amount and its cost
+abbrev pub Numbers : Type 0
+Numbers = Option Amount × Option Cost
 
--- a byte of an account: a lower-case letter, a digit or a colon
-abbrev pub is_account_byte : ℕ → Bool
-is_account_byte b = (nat_le 97 b && nat_le b 122) || is_digit b || (b == 58)
+-- the amount and the cost that a text begins with, if any, and what follows them
+unfoldable pub numbers_at : Context → ℕ → List ℕ → Result (Numbers × List ℕ) Fault
+numbers_at context line text =
+    if ends_amount text then Ok ((None, None), text)
+    else (do
+      a ← amount_at context line text
+      c ← cost_at context line a.1
+      Ok ((Some a.0, c.0), c.1))
 
--- 1 to 64 parts, none of them empty
-abbrev pub has_parts : List ℕ → Bool
-has_parts account = nat_le (length (parts_of account)) 64 && list_all (λ part. nat_le 1 (length part)) (parts_of account)
+-- the line has ended, or goes on with a comment
+abbrev pub ends_line : List ℕ → Bool
+ends_line [] = true
+ends_line (b ∷ bs) = b == 59
 
--- what digits stand for, the most significant first
-abbrev pub digits_value : List ℕ → ℕ
-digits_value digits = fold (λ n digit. 10 * n + (digit - 48)) 0 digits
+-- what follows the `;`, or nothing where the line has ended
+abbrev pub comment_at : List ℕ → List ℕ
+comment_at text = if begins text 59 then trimmed (drop 1 text) else []
 
--- a number with its sign
-abbrev pub signed : Bool → ℕ → ℤ
-signed is_negative n = if is_negative then neg_ℤ (pos n) else pos n
+abbrev pub is_free : Side → Bool
+is_free Free = true
+is_free _ = false
 
--- a number's form: its digits before a point and after it, and whether there is a point
-abbrev pub decimal_of : Bool → List ℕ → List ℕ → Decimal
-decimal_of is_negative whole decimals = record {
-  mantissa = signed is_negative (digits_value (whole ++ decimals));
-  places = length decimals;
-}
+-- How a posting's line ends: with nothing, or with a comment, which it answers. An assertion isn't read yet. A free
+-- virtual posting has an amount.
+abbrev pub ending_of : ℕ → Side → Bool → List ℕ → Result (List ℕ) Fault
+ending_of line side has_amount text =
+    if begins text 61 then Err (fault_at line cause.NotBuilt)
+    else if not (ends_line text) then Err (fault_at line cause.Form)
+    else if is_free side && not has_amount then Err (fault_at line cause.Form)
+    else Ok (comment_at text)
 
--- right, spaced, without groups
-abbrev pub plain_shape : Bool → Written
-plain_shape has_point = record {
-  left = false;
-  spaced = true;
-  mark = (if has_point then Some 46 else None);
-  group = None;
-  first = 3;
-  rest = 3;
-}
+-- a name that the context may change, which then has parts too
+abbrev pub account_in : Context → ℕ → Side × List ℕ → Result (Side × List ℕ) Fault
+account_in context line account =
+    let name = account_named context account.1 in
+    if has_parts name then Ok (account.0, name) else Err (fault_at line cause.Account)
 
-abbrev pub begins : List ℕ → ℕ → Bool
-begins text b = starts_with nat_eq text (b ∷ [])
+-- the account that a text is, as the context has it
+unfoldable pub account_at : Context → ℕ → List ℕ → Result (Side × List ℕ) Fault
+account_at context line text = do
+  account ← account_of line text
+  account_in context line account
 
--- the amount that a text is: an optional `-`, 1 to 15 digits, optionally a point and one or two digits, a space,
--- and a symbol of letters
-abbrev pub amount_of : List ℕ → Option Amount
-amount_of text =
-    let is_negative = begins text 45 in
-    let number = (if is_negative then drop 1 text else text) in
-    let whole = take_while is_digit number in
-    let after_whole = drop (length whole) number in
-    let has_point = begins after_whole 46 in
-    let decimals = (if has_point then take_while is_digit (drop 1 after_whole) else []) in
-    let after = (if has_point then drop (1 + length decimals) after_whole else after_whole) in
-    let symbol = drop 1 after in
-    if nat_le 1 (length whole) && nat_le (length whole) 15
-    && (not has_point || nat_le 1 (length decimals)) && nat_le (length decimals) 2
-    && begins after 32 && nat_le 1 (length symbol) && list_all is_letter symbol
-    then Some (record { symbol = symbol; value = decimal_of is_negative whole decimals; shape = plain_shape has_point })
-    else None
+-- a posting without what its comments say
+abbrev pub posting_from : ℕ → Mark → Side × List ℕ → Numbers → Posting
+posting_from line mark account numbers = record (plain_posting line account.0 account.1) { mark = mark; amount = numbers.0; cost = numbers.1 }
 
--- a posting of an account, where the amount is one
-abbrev pub posting_from : ℕ → List ℕ → Option Amount → Option Posting
-posting_from line account None = None
-posting_from line account (Some amount) = Some (record (plain_posting line Real account) { amount = Some amount })
+-- the posting that an indented line's content says, and the comment on the line
+unfoldable pub posting_line : Context → ℕ → List ℕ → Result (Posting × List ℕ) Fault
+posting_line context line content = do
+  mark ← mark_at line (after_white content)
+  account ← account_at context line (take (account_len mark.1) mark.1)
+  numbers ← numbers_at context line (after_white (drop (account_len mark.1) mark.1))
+  own ← ending_of line account.0 (is_some (numbers.0).0) numbers.1
+  Ok (posting_from line mark.0 account numbers.0, own)
 
--- the posting that a line's content is: four spaces, an account, two spaces and an amount
-abbrev pub posting_of : ℕ → List ℕ → Option Posting
-posting_of line content =
-    let account = take_while is_account_byte (drop 4 content) in
-    let after = drop (4 + length account) content in
-    if starts_with nat_eq content (32 ∷ 32 ∷ 32 ∷ 32 ∷ []) && has_parts account && starts_with nat_eq after (32 ∷ 32 ∷ [])
-    then posting_from line account (amount_of (drop 2 after))
-    else None
+-- a posting with its comment lines, of which the first is on its own line
+abbrev pub with_comments : Posting → List ℕ → List (List ℕ) → Option Day → Posting
+with_comments posting own more day = record posting { comment = comment_of own more; tags = tags_in (own ∷ more); day = day }
 
--- a line that was read, before those that follow it
-abbrev pub posting_then : ℕ → Option Posting → Result (List Posting) ℕ → Result (List Posting) ℕ
-posting_then line None others = Err line
-posting_then line (Some p) (Ok ps) = Ok (p ∷ ps)
-posting_then line (Some p) (Err other) = Err other
+-- the posting of a line's content and of the lines after it; its day may be its own, with the transaction's year
+unfoldable pub posting_of : Context → ℕ → ℕ → List ℕ → List (List ℕ) → Result Posting Fault
+posting_of context year line content after =
+    if not (first_is is_white content) then Err (fault_at line cause.Form)
+    else (do
+      p ← posting_line context line content
+      day ← day_in year line (p.1 ∷ comments_in after)
+      Ok (with_comments p.0 p.1 (comments_in after) day))
 
--- The postings that the lines are, of which the first is the line-th; or the number of the first line that is none.
-abbrev pub postings_from : ℕ → List (List ℕ) → Result (List Posting) ℕ
-postings_from line [] = Ok []
-postings_from line (l ∷ ls) = posting_then line (posting_of line (content_of l)) (postings_from (line + 1) ls)
+-- the postings of some lines, of which the first is the line-th; a comment line belongs to what stands before it
+unfoldable pub postings_of : Context → ℕ → ℕ → List (List ℕ) → Result (List Posting) Fault
+postings_of context year line [] = Ok []
+postings_of context year line (c ∷ cs) =
+    if is_comment c then postings_of context year (line + 1) cs
+    else (do
+      p ← posting_of context year line c cs
+      ps ← postings_of context year (line + 1) cs
+      Ok (p ∷ ps))

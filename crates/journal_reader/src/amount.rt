@@ -1,125 +1,241 @@
-//! Reads the amount of a posting.
-ghost use Rattle.std.specs.Prelude.{◌≡◌, ℕ, ◌+◌, ◌*◌, ◌-◌, ◌<◌, ◌≤◌, ◌^◌, ◌++◌, [], true, IfOk, length, drop, fold, unsigned_abs, if◌then◌else◌};
-ghost use Rattle.std.specs.List.{list_all, take_while};
-ghost use Rattle.std.specs.Str.{IsAscii};
-ghost use Rattle.hl_base.specs.Items.{is_digit};
-ghost use Rattle.journal_reader.specs.Postings as spec;
+//! Reads amounts and their costs.
+ghost use Rattle.std.specs.Prelude.{◌≡◌, true, if◌then◌else◌, Err, ◌<◌, ◌≤◌, nat_lt, length, IfOk, drop};
+ghost use Rattle.std.specs.Str.{is_utf8};
+ghost use Rattle.hl_base.specs.Gives.{Gives};
+ghost use Rattle.hl_num.specs.Reading.{reading};
+ghost use Rattle.journal_reader.specs.Causes.{cause_in, fault_at};
+ghost use Rattle.journal_reader.specs.Amounts as spec;
+ghost use Rattle.book.specs.declared.fault.Cause.TheVariants.{Encoding};
 
-use crate::scan::{are_letters, begins, digits_of, text_of};
-use book::{Amount, Written};
-use hl_base::Memory;
-use hl_num::Dec;
+use crate::context::Context;
+use crate::fault::{ReadFault, fault_at};
+use crate::scan::{
+    after_white, begins, begins_sign, begins_white, cut_number, has, is_utf8, past_first, text_of,
+    trimmed,
+};
+use crate::symbol::{cut_name, ends_amount, is_left_good, is_right_good};
+use book::{Amount, Boxed, Cause, Cost, Written};
+use hl_num::{Dec, Number, read_number};
 use std::alloc::Global;
 
-/// The number that a number becomes by more digits behind it, of 17 digits at most.
-fn with_digits(start: u64, digits: &[u8]) -> u64
-    requires digits { list_all is_digit digits.now ≡ true }
-    requires few { length digits.now ≤ 17 }
-    requires small { start < 10 ^ (17 - length digits.now) }
-    ensures value { result ≡ fold (λ n digit. 10 * n + (digit - 48)) start digits.now }
-    ensures below { (k : ℕ) → start < 10 ^ k → result < 10 ^ (k + length digits.now) }
-{
-    let mut number = start;
-    for digit in digits {
-        number = 10 * number + u64::from(*digit - b'0');
-    }
-    number
+/// What stands before a number, and the text that begins with the number.
+#[derive(Clone, Copy)]
+struct Left<'a> {
+    is_negative: bool,
+    symbol: &'a [u8],
+    spaced: bool,
+    rest: &'a [u8],
 }
 
-/// A number with a sign.
-fn signed(is_negative: bool, number: u64) -> i128
-    ensures value { result ≡ spec.signed is_negative number }
-    ensures magnitude { unsigned_abs result ≡ number }
+/// What stands behind a number, and what follows.
+#[derive(Clone, Copy)]
+struct Right<'a> {
+    symbol: &'a [u8],
+    spaced: bool,
+    is_good: bool,
+    rest: &'a [u8],
+}
+
+/// What follows a sign and the white space after it, where a sign stands first.
+fn after_sign(text: &[u8]) -> &[u8]
+    ensures value { result.now ≡ spec.after_sign text.now }
+    ensures utf8 { is_utf8 text.now ≡ true → is_utf8 result.now ≡ true }
 {
-    if is_negative {
-        -i128::from(number)
+    if begins_sign(text) {
+        after_white(past_first(text))
     } else {
-        i128::from(number)
+        text
     }
 }
 
-/// The number of a sign, the digits before a point and those after it.
-fn decimal_of(is_negative: bool, whole: &[u8], decimals: &[u8]) -> Dec
-    requires digits { list_all is_digit whole.now ≡ true }
-    requires few { length whole.now ≤ 15 }
-    requires decimals { list_all is_digit decimals.now ≡ true }
-    requires places { length decimals.now ≤ 2 }
-    ensures { result ≡ spec.decimal_of is_negative whole.now decimals.now }
+/// The sign and the symbol before a number.
+#[tactic(auto, unfolding(crate::specs::Amounts::left_at))]
+fn read_left(text: &[u8], line: u64) -> Result<Left<'_>, ReadFault>
+    ensures value { Gives (λ x. spec.left_of x.is_negative x.symbol.now x.spaced x.rest.now) cause_in result (spec.left_at line text.now) }
+    ensures utf8 { is_utf8 text.now ≡ true → IfOk result (λ x. (is_utf8 x.symbol.now ≡ true) × (is_utf8 x.rest.now ≡ true)) }
 {
-    let units = with_digits(0, whole);
-    let number = with_digits(units, decimals);
-    Dec {
-        mantissa: signed(is_negative, number),
-        places: decimals.len() as u8,
+    let inner = after_sign(text);
+    if !is_left_good(inner) {
+        return Err(fault_at(line, Cause::Quote));
+    }
+    let (symbol, behind) = cut_name(inner);
+    let second = after_white(behind);
+    if begins_sign(text) && begins_sign(second) {
+        return Err(fault_at(line, Cause::Number));
+    }
+    Ok(Left {
+        is_negative: begins(text, b'-') || begins(second, b'-'),
+        symbol,
+        spaced: begins_white(behind),
+        rest: after_sign(second),
+    })
+}
+
+/// The symbol behind a number, where none stands before it.
+#[tactic(auto, using(crate::proofs::Texts::empty_utf8), unfolding(crate::specs::Amounts::right_at))]
+fn read_right(text: &[u8], has_symbol: bool) -> Right<'_>
+    ensures value { spec.right_with result.symbol.now result.spaced result.is_good result.rest.now ≡ spec.right_at has_symbol text.now }
+    ensures utf8 { is_utf8 text.now ≡ true → (is_utf8 result.symbol.now ≡ true) × (is_utf8 result.rest.now ≡ true) }
+{
+    let behind = after_white(text);
+    if has_symbol || ends_amount(behind) {
+        return Right {
+            symbol: &[],
+            spaced: false,
+            is_good: true,
+            rest: behind,
+        };
+    }
+    let (symbol, rest) = cut_name(behind);
+    Right {
+        symbol,
+        spaced: begins_white(text),
+        is_good: is_right_good(behind),
+        rest: after_white(rest),
     }
 }
 
-/// The form of an amount whose symbol stands behind it, after a space.
-fn plain_shape(has_point: bool) -> Written
-    ensures { result ≡ spec.plain_shape has_point }
+/// The number that digits and marks are.
+fn number_of(digits: &[u8], mark: Option<u8>, line: u64) -> Result<Number, ReadFault>
+    ensures { Gives (λ number. number) cause_in result (spec.number_or_fault line (reading digits.now mark)) }
+{
+    match read_number(digits, mark) {
+        Ok(number) => Ok(number),
+        Err(_) => Err(fault_at(line, Cause::Number)),
+    }
+}
+
+fn signed(is_negative: bool, value: Dec) -> Dec
+    ensures { result ≡ spec.signed is_negative value }
+{
+    if is_negative { value.negated() } else { value }
+}
+
+/// How an amount is written.
+fn shape_of(is_left: bool, spaced: bool, number: &Number) -> Written
+    ensures { result ≡ spec.shape_from is_left spaced number.now }
 {
     Written {
-        left: false,
-        spaced: true,
-        mark: if has_point { Some(b'.') } else { None },
-        group: None,
-        first: 3,
-        rest: 3,
+        left: is_left,
+        spaced,
+        mark: number.mark,
+        group: number.group,
+        first: number.first,
+        rest: number.rest,
     }
 }
 
-/// A number without its sign.
-fn unsigned_part(text: &[u8], is_negative: bool) -> &[u8]
-    requires { is_negative ≡ true → 0 < length text.now }
-    ensures { result.now ≡ (if is_negative then drop 1 text.now else text.now) }
+/// The symbol that is written on one side or the other.
+fn written_symbol<'a>(left: &'a [u8], right: &'a [u8]) -> &'a [u8]
+    ensures value { result.now ≡ (if nat_lt 0 (length left.now) then left.now else right.now) }
+    ensures utf8 { is_utf8 left.now ≡ true → is_utf8 right.now ≡ true → is_utf8 result.now ≡ true }
 {
-    if is_negative { &text[1..] } else { text }
+    if left.is_empty() { right } else { left }
 }
 
-/// The digits behind a point that stands first.
-fn decimals_of(text: &[u8], has_point: bool) -> &[u8]
-    requires { has_point ≡ true → 0 < length text.now }
-    ensures value { result.now ≡ (if has_point then take_while is_digit (drop 1 text.now) else []) }
-    ensures digits { list_all is_digit result.now ≡ true }
+/// The amount that a text begins with, and what follows it and white space.
+#[tactic(auto, unfolding(crate::specs::Amounts::amount_at))]
+pub(crate) fn amount_at<'a>(
+    alloc: Global,
+    context: &Context,
+    text: &'a [u8],
+    line: u64,
+) -> Result<(Amount, &'a [u8]), ReadFault>
+    requires { is_utf8 text.now ≡ true }
+    ensures value { Gives (λ x. (x.0, x.1.now)) cause_in result (spec.amount_at context.now line text.now) }
+    ensures utf8 { IfOk result (λ x. is_utf8 x.1.now ≡ true) }
 {
-    if has_point {
-        digits_of(&text[1..])
+    let left = read_left(text, line)?;
+    let (digits, behind) = cut_number(left.rest);
+    let is_left = !left.symbol.is_empty();
+    let right = read_right(behind, is_left);
+    let written = written_symbol(left.symbol, right.symbol);
+    let number = number_of(digits, context.decided_mark(written), line)?;
+    if !right.is_good {
+        return Err(fault_at(line, Cause::Quote));
+    }
+    let spaced = if is_left { left.spaced } else { right.spaced };
+    let amount = Amount {
+        symbol: text_of(alloc, context.symbol_of(written))?,
+        value: signed(left.is_negative, number.value),
+        shape: shape_of(is_left, spaced, &number),
+    };
+    Ok((amount, right.rest))
+}
+
+/// How many bytes the mark of a total cost has, if it stands.
+fn total_mark(text: &[u8]) -> usize
+    ensures value { result ≡ spec.total_mark text.now }
+    ensures bound { result ≤ length text.now }
+{
+    if text.starts_with(b"@@") {
+        2
+    } else if text.starts_with(b"(@@)") {
+        4
     } else {
-        &[]
+        0
     }
 }
 
-/// What follows a point and its decimals, if they stand first.
-fn after_decimals(text: &[u8], has_point: bool, places: usize) -> &[u8]
-    requires { has_point ≡ true → 1 + places ≤ length text.now }
-    ensures { result.now ≡ (if has_point then drop (1 + places) text.now else text.now) }
+/// How many bytes the mark of a unit cost has, if it stands.
+fn unit_mark(text: &[u8]) -> usize
+    ensures value { result ≡ spec.unit_mark text.now }
+    ensures bound { result ≤ length text.now }
 {
-    if has_point { &text[1 + places..] } else { text }
+    if text.starts_with(b"@") {
+        1
+    } else if text.starts_with(b"(@)") {
+        3
+    } else {
+        0
+    }
 }
 
-/// The amount that a text is, or `None` where it is none.
-pub(crate) fn read_amount(alloc: Global, text: &[u8]) -> Result<Option<Amount>, Memory>
-    ensures { IfOk result (λ amount. amount ≡ spec.amount_of text.now) }
+/// The cost that a text begins with, if any, and what follows it and white space.
+#[tactic(auto, unfolding(crate::specs::Amounts::cost_at))]
+pub(crate) fn cost_at<'a>(
+    alloc: Global,
+    context: &Context,
+    text: &'a [u8],
+    line: u64,
+) -> Result<(Option<Boxed<Cost>>, &'a [u8]), ReadFault>
+    requires { is_utf8 text.now ≡ true }
+    ensures value { Gives (λ x. (x.0, x.1.now)) cause_in result (spec.cost_at context.now line text.now) }
+    ensures utf8 { IfOk result (λ x. is_utf8 x.1.now ≡ true) }
 {
-    let is_negative = begins(text, b'-');
-    let number = unsigned_part(text, is_negative);
-    let whole = digits_of(number);
-    let after_whole = &number[whole.len()..];
-    let has_point = begins(after_whole, b'.');
-    let decimals = decimals_of(after_whole, has_point);
-    let after = after_decimals(after_whole, has_point, decimals.len());
-    if whole.is_empty() || whole.len() > 15 {
-        return Ok(None);
+    let total = total_mark(text);
+    if 0 < total {
+        let (_, behind) = text.split_at(total);
+        let (amount, rest) = amount_at(alloc, context, after_white(behind), line)?;
+        return Ok((Some(Boxed::new(alloc, Cost::Total(amount))?), rest));
     }
-    if (has_point && decimals.is_empty()) || decimals.len() > 2 {
-        return Ok(None);
+    let unit = unit_mark(text);
+    if 0 < unit {
+        let (_, behind) = text.split_at(unit);
+        let (amount, rest) = amount_at(alloc, context, after_white(behind), line)?;
+        return Ok((Some(Boxed::new(alloc, Cost::Unit(amount))?), rest));
     }
-    if !begins(after, b' ') || after.len() < 2 || !are_letters(&after[1..]) {
-        return Ok(None);
+    Ok((None, text))
+}
+
+/// The amount that a whole text is, but for white space at its ends. The faults are in line 1: bytes that aren't UTF-8;
+/// more than one line; a symbol that doesn't stand in quotes as it must; two signs, and a number that is none or too large; and text after
+/// the amount. The first place in the text decides.
+#[tactic(auto, unfolding(crate::specs::Amounts::amount_alone))]
+pub fn read_amount(alloc: Global, text: &[u8], context: &Context) -> Result<Amount, ReadFault>
+    ensures { Gives (λ amount. amount) cause_in result
+        (if is_utf8 text.now then spec.amount_alone context.now text.now else Err (fault_at 1 Encoding)) }
+{
+    if !is_utf8(text) {
+        return Err(fault_at(1, Cause::Encoding));
     }
-    Ok(Some(Amount {
-        symbol: text_of(alloc, &after[1..])?,
-        value: decimal_of(is_negative, whole, decimals),
-        shape: plain_shape(has_point),
-    }))
+    if has(text, b'\n') {
+        return Err(fault_at(1, Cause::Form));
+    }
+    let (amount, rest) = amount_at(alloc, context, trimmed(text), 1)?;
+    if rest.is_empty() {
+        Ok(amount)
+    } else {
+        Err(fault_at(1, Cause::Form))
+    }
 }

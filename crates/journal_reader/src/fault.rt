@@ -1,7 +1,7 @@
 //! Why a text isn't read.
 ghost use Rattle.std.specs.Prelude.{◌≡◌};
+ghost use Rattle.journal_reader.specs.Causes as spec;
 ghost use Rattle.journal_reader.specs.declared.fault.ReadFault.TheVariants.{Memory, Read};
-ghost use Rattle.journal_reader.specs.Items as spec;
 
 use book::{Cause, Fault};
 use std::alloc::{AllocError, AllocFailed};
@@ -39,12 +39,9 @@ impl<T: Drop> From<AllocFailed<T>> for ReadFault {
     }
 }
 
-/// The fault of a line of a form that isn't built.
-pub(crate) fn not_built(line: u64) -> ReadFault
-    ensures { result ≡ Read (spec.not_built line) }
+/// A fault of the text in a line.
+pub(crate) fn fault_at(line: u64, cause: Cause) -> ReadFault
+    ensures { result ≡ Read (spec.fault_at line cause) }
 {
-    ReadFault::Read(Fault {
-        line,
-        cause: Cause::NotBuilt,
-    })
+    ReadFault::Read(Fault { line, cause })
 }

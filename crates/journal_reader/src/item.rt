@@ -1,133 +1,149 @@
 //! Reads an item: an entry or a gap.
-ghost use Rattle.std.specs.Prelude.{◌≡◌, ◌+◌, ◌<◌, ◌^◌, length, nat_lt, if◌then◌else◌, Err};
-ghost use Rattle.std.specs.List.{list_all};
+ghost use Rattle.std.specs.Prelude.{◌≡◌, ◌==◌, ◌+◌, ◌<◌, ◌^◌, true, false, length, OnOk, IfErr};
+ghost use Rattle.std.specs.List.{count_by};
+ghost use Rattle.std.specs.Str.{is_utf8};
 ghost use Rattle.hl_base.specs.Gives.{Gives};
-ghost use Rattle.hl_base.specs.Items.{begins_entry};
-ghost use Rattle.hl_base.specs.Lines.{lines_of};
+ghost use Rattle.hl_base.specs.Lines.{first_line};
+ghost use Rattle.hl_base.specs.Items as items;
+ghost use Rattle.book.specs.declared.fault.Cause.TheVariants.{Encoding};
+ghost use Rattle.journal_reader.specs.declared.fault.ReadFault.TheVariants.{Read};
+ghost use Rattle.journal_reader.specs.Causes as causes;
 ghost use Rattle.journal_reader.specs.Causes.{cause_in};
-ghost use Rattle.book.specs.Postings as shared;
+ghost use Rattle.journal_reader.specs.Lines.{contents_of};
 ghost use Rattle.journal_reader.specs.Items as spec;
 
-use crate::fault::{ReadFault, not_built};
-use crate::head::{Head, read_head};
-use crate::posting::read_postings;
-use crate::scan::{cut_line, is_digit, is_white};
-use book::{Amount, Item, Mark, Posting, Txn};
-use hl_base::{List, Steps, Text};
+use crate::comment::{read_comment, read_tags};
+use crate::context::Context;
+use crate::fault::{ReadFault, fault_at};
+use crate::head::read_head;
+use crate::posting::{line_ends, read_postings};
+use crate::scan::{cut_line, text_of};
+use book::{Cause, Item, Txn};
+use hl_base::line::{kind_of, line_at};
+use hl_base::{Kind, Steps};
+use hl_time::civil_of;
 use std::alloc::Global;
 use std::sync::ledger::Ledger;
 
-/// The most bytes that an entry may have.
+/// The most bytes that an entry or a directive may have.
 const ENTRY_LIMIT: usize = 65_536;
 
-fn starts_entry(bytes: &[u8]) -> bool
-    ensures { result ≡ begins_entry bytes.now }
-{
-    match bytes {
-        [] => false,
-        [first, ..] => is_digit(*first),
-    }
-}
-
-fn has_symbol(amount: &Option<Amount>, symbol: &[u8]) -> bool
-    ensures { result ≡ shared.has_symbol symbol.now amount.now }
-{
-    match amount {
-        None => false,
-        Some(amount) => amount.symbol.as_bytes() == symbol,
-    }
-}
-
-fn all_have(postings: &[Posting], symbol: &[u8]) -> bool
-    ensures { result ≡ list_all (λ p. shared.has_symbol symbol.now p.amount) postings.now }
-{
-    postings
-        .iter()
-        .all(|posting| has_symbol(&posting.amount, symbol))
-}
-
-/// Whether there is a posting, and all amounts are of one symbol.
-fn have_one_symbol(postings: &[Posting]) -> bool
-    ensures { result ≡ shared.have_one_symbol postings.now }
-{
-    let [first, ..] = postings else {
-        return false;
-    };
-    match &first.amount {
-        None => false,
-        Some(amount) => all_have(postings, amount.symbol.as_bytes()),
-    }
-}
-
-/// A gap, where all lines are blank.
-fn read_gap(bytes: &[u8], line: u64) -> Result<Item, ReadFault>
+/// The fault of bytes that aren't UTF-8, in the line of the first of them.
+#[tactic(auto, using(crate::proofs::LineEnds::few_ends))]
+fn check_utf8(bytes: &[u8], line: u64) -> Result<(), ReadFault>
     requires { line + length bytes.now < 2 ^ 64 }
-    ensures { Gives (λ item. item) cause_in result (spec.gap_from (spec.first_filled line (lines_of bytes.now))) }
+    ensures ok { OnOk result (is_utf8 bytes.now ≡ true) }
+    ensures broken { IfErr result (λ e. e ≡ Read (causes.fault_at (spec.broken_line line bytes.now) Encoding)) }
+    ensures none { IfErr result (λ e. is_utf8 bytes.now ≡ false) }
 {
-    let mut here = line;
-    for byte in bytes {
-        if *byte == b'\n' {
-            here += 1;
-        } else if !is_white(*byte) {
-            return Err(not_built(here));
+    match std::str::from_utf8(bytes) {
+        Ok(_) => Ok(()),
+        Err(error) => {
+            let (front, _) = bytes.split_at(error.valid_up_to());
+            Err(fault_at(line + line_ends(front) as u64, Cause::Encoding))
         }
     }
-    Ok(Item::Gap)
 }
 
-/// A transaction of a head and postings that says nothing else.
-fn txn_from(alloc: Global, line: u64, head: Head, postings: List<Posting>) -> Txn
-    ensures { result ≡ spec.txn_from line (head.day.0, head.description) postings }
+/// What a piece is.
+fn kind_at(bytes: &[u8]) -> Kind
+    ensures { result ≡ items.kind_of (first_line bytes.now) }
 {
-    Txn {
+    if bytes.is_empty() {
+        return Kind::Gap;
+    }
+    let (first, _) = line_at(bytes, 0);
+    kind_of(first)
+}
+
+/// The entry of a head line's content and the lines after it.
+#[tactic(auto, unfolding(crate::specs::Items::entry_with))]
+fn read_lines(
+    alloc: Global,
+    content: &[u8],
+    after: &[u8],
+    context: &Context,
+    line: u64,
+) -> Result<Item, ReadFault>
+    requires content { is_utf8 content.now ≡ true }
+    requires after { is_utf8 after.now ≡ true }
+    requires lines { line + 1 + length after.now < 2 ^ 64 }
+    ensures { Gives (λ item. item) cause_in result (spec.entry_with context.now line content.now (contents_of after.now)) }
+{
+    let head = read_head(context, content, line)?;
+    let year = civil_of(head.day).year;
+    let postings = read_postings(alloc, context, year, after, line + 1)?;
+    let comment = read_comment(alloc, head.comment, after)?;
+    let tags = read_tags(alloc, head.comment, after)?;
+    Ok(Item::Txn(Txn {
         line,
         day: head.day,
-        mark: Mark::Unmarked,
-        code: Text::new(alloc),
-        description: head.description,
-        comment: Text::new(alloc),
-        tags: List::new(alloc),
+        mark: head.mark,
+        code: text_of(alloc, head.code)?,
+        description: text_of(alloc, head.description)?,
+        comment,
+        tags,
         postings,
-    }
+    }))
 }
 
-/// An entry of a head line and the posting lines after it.
-fn read_entry(alloc: Global, bytes: &[u8], line: u64) -> Result<Item, ReadFault>
-    requires filled { 0 < length bytes.now }
+/// An entry of a head line and the lines after it.
+fn read_entry(alloc: Global, bytes: &[u8], context: &Context, line: u64) -> Result<Item, ReadFault>
+    requires utf8 { is_utf8 bytes.now ≡ true }
     requires lines { line + length bytes.now < 2 ^ 64 }
-    ensures { Gives (λ item. item) cause_in result
-        (if nat_lt 65536 (length bytes.now) then Err (spec.not_built line) else spec.entry_of line (lines_of bytes.now)) }
+    ensures { Gives (λ item. item) cause_in result (spec.entry_of context.now line (contents_of bytes.now)) }
 {
-    if bytes.len() > ENTRY_LIMIT {
-        return Err(not_built(line));
+    if bytes.is_empty() {
+        return Err(fault_at(line, Cause::Form));
     }
     let (content, after) = cut_line(bytes);
-    let Some(head) = read_head(alloc, content)? else {
-        return Err(not_built(line));
-    };
-    let postings = read_postings(alloc, after, line + 1)?;
-    if !have_one_symbol(postings.as_slice()) {
-        return Err(not_built(line));
-    }
-    Ok(Item::Txn(txn_from(alloc, line, head, postings)))
+    read_lines(alloc, content, after, context, line)
 }
 
-/// What a piece of a text says, by its bytes, of which the first is in the `line`-th line: a transaction or a gap.
-/// A fault has the first line that isn't built, or the head's line of an entry that fails as a whole.
+/// What a piece in UTF-8 says.
+fn read_piece(alloc: Global, bytes: &[u8], context: &Context, line: u64) -> Result<Item, ReadFault>
+    requires utf8 { is_utf8 bytes.now ≡ true }
+    requires lines { line + length bytes.now < 2 ^ 64 }
+    ensures { Gives (λ item. item) cause_in result (spec.said_by (items.kind_of (first_line bytes.now)) context.now line bytes.now) }
+{
+    match kind_at(bytes) {
+        Kind::Gap => Ok(Item::Gap),
+        Kind::Block => Err(fault_at(line, Cause::NotBuilt)),
+        Kind::Stray => Err(fault_at(line, Cause::Form)),
+        Kind::Entry => {
+            if bytes.len() > ENTRY_LIMIT {
+                Err(fault_at(line, Cause::TooLong))
+            } else {
+                read_entry(alloc, bytes, context, line)
+            }
+        }
+        Kind::Head => {
+            if bytes.len() > ENTRY_LIMIT {
+                Err(fault_at(line, Cause::TooLong))
+            } else {
+                Err(fault_at(line, Cause::NotBuilt))
+            }
+        }
+    }
+}
+
+/// What a piece of a text says, by its bytes, of which the first is in the `line`-th line, in the context of the items
+/// before it: a transaction or a gap. Bytes that aren't UTF-8 are refused first, in the line of the first of them; then an
+/// entry or a directive of more than 65,536 bytes, in its first line; then the first place that isn't of its form. Blocks
+/// of comments, directives and assertions aren't built yet.
+#[tactic(auto, unfolding(crate::specs::Items::reading))]
 pub fn read_item<L: Ledger>(
     alloc: Global,
     bytes: &[u8],
+    context: &Context,
     line: u64,
     steps: &mut Steps<L>,
 ) -> Result<Item, ReadFault>
     requires { line + length bytes.now < 2 ^ 64 }
-    ensures value { Gives (λ item. item) cause_in result (spec.item_of line bytes.now) }
+    ensures value { Gives (λ item. item) cause_in result (spec.reading context.now line bytes.now) }
     ensures steps { steps.new ≡ record steps.old { bytes_read = steps.old.bytes_read + length bytes.now } }
 {
     steps.read_bytes(bytes.len() as u64);
-    if starts_entry(bytes) {
-        read_entry(alloc, bytes, line)
-    } else {
-        read_gap(bytes, line)
-    }
+    check_utf8(bytes, line)?;
+    read_piece(alloc, bytes, context, line)
 }

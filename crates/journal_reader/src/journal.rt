@@ -1,13 +1,13 @@
 //! Reads the items of a text, piece by piece.
-ghost use Rattle.std.specs.Prelude.{◌≡◌, ◌+◌, ◌≤◌, ◌<◌, ◌^◌, IfOk, OnOk, length, take, drop};
+ghost use Rattle.std.specs.Prelude.{◌≡◌, ◌+◌, ◌≤◌, ◌<◌, ◌^◌, [], IfOk, OnOk, length, take, drop};
 ghost use Rattle.hl_base.specs.Gives.{Gives};
 ghost use Rattle.hl_base.specs.Pieces.{bytes_in};
-ghost use Rattle.book.specs.Bounds.{AreSmall};
-ghost use Rattle.book.specs.Postings.{postings_of, txns_of};
+ghost use Rattle.book.specs.Assertions.{HasNoAssertions};
 ghost use Rattle.journal_reader.specs.Causes.{cause_in};
 ghost use Rattle.journal_reader.specs.Items as spec;
-ghost use Rattle.journal_reader.specs.Whole.{AreWithin, OfOneSymbol};
+ghost use Rattle.journal_reader.specs.Whole.{AreWithin};
 
+use crate::context::Context;
 use crate::fault::ReadFault;
 use crate::item::read_item;
 use book::{Items, Placed};
@@ -24,24 +24,26 @@ fn bytes_of<'a>(text: &'a [u8], piece: &Piece) -> &'a [u8]
     &text[at..at + piece.len as usize]
 }
 
-/// What the pieces of a text say, in order, or the fault of the first that says nothing. A transaction has at least one
-/// posting, and all its amounts are of one symbol and small.
+/// What the pieces of a text say, in order, with a year for the dates that are written without one; or the fault of the
+/// first that doesn't read.
 pub fn read_items<L: Ledger>(
     alloc: Global,
     text: &[u8],
     pieces: &[Piece],
+    year: Option<u16>,
     steps: &mut Steps<L>,
 ) -> Result<Items, ReadFault>
     requires { AreWithin text.now pieces.now }
-    ensures value { Gives (λ items. items) cause_in result (spec.reading_of text.now pieces.now) }
-    ensures small { IfOk result (λ items. AreSmall (bytes_in pieces.now) (postings_of (txns_of items))) }
-    ensures one_symbol { IfOk result (λ items. OfOneSymbol (txns_of items)) }
+    ensures value { Gives (λ items. items) cause_in result (spec.reading_from year [] text.now pieces.now) }
+    ensures plain { IfOk result HasNoAssertions }
     ensures read { OnOk result (steps.new.bytes_read ≡ steps.old.bytes_read + bytes_in pieces.now) }
     ensures others { steps.new ≡ record steps.old { bytes_read = steps.new.bytes_read } }
 {
+    let context = Context::start(year)?;
     let mut items = Vec::with_capacity(alloc, pieces.len())?;
     for piece in pieces {
-        let item = read_item(alloc, bytes_of(text, piece), piece.line, steps)?;
+        let bytes = bytes_of(text, piece);
+        let item = read_item(alloc, bytes, &context, piece.line, steps)?;
         items.push(Placed {
             piece: *piece,
             item,
@@ -50,21 +52,21 @@ pub fn read_items<L: Ledger>(
     Ok(List::from_vec(items))
 }
 
-/// The items of a text, in order, or the fault of the first that says nothing. A transaction has at least one posting,
-/// and all its amounts are of one symbol and small.
+/// The items of a text, in order, with a year for the dates that are written without one; or the fault of the first that
+/// doesn't read.
 #[tactic(auto, using(crate::proofs::Whole::within))]
 pub fn read_journal<L: Ledger>(
     alloc: Global,
     text: &[u8],
+    year: Option<u16>,
     steps: &mut Steps<L>,
 ) -> Result<Items, ReadFault>
     requires { length text.now + 1 < 2 ^ 64 }
-    ensures value { Gives (λ items. items) cause_in result (spec.reading text.now) }
-    ensures small { IfOk result (λ items. AreSmall (length text.now) (postings_of (txns_of items))) }
-    ensures one_symbol { IfOk result (λ items. OfOneSymbol (txns_of items)) }
+    ensures value { Gives (λ items. items) cause_in result (spec.items_in year text.now) }
+    ensures plain { IfOk result HasNoAssertions }
     ensures read { OnOk result (steps.new.bytes_read ≡ steps.old.bytes_read + length text.now) }
     ensures others { steps.new ≡ record steps.old { bytes_read = steps.new.bytes_read } }
 {
     let pieces = cut_items(alloc, text)?;
-    read_items(alloc, text, pieces.as_slice(), steps)
+    read_items(alloc, text, pieces.as_slice(), year, steps)
 }

@@ -1,128 +1,232 @@
 //! Reads the posting lines of an entry.
-ghost use Rattle.std.specs.Prelude.{◌≡◌, ◌==◌, ◌+◌, ◌<◌, ◌≤◌, ◌^◌, IfOk, length, nat_le};
-ghost use Rattle.std.specs.List.{list_all, count_by};
-ghost use Rattle.std.specs.Str.{IsAscii};
+ghost use Rattle.std.specs.Prelude.{◌≡◌, ◌==◌, ◌+◌, ◌<◌, ◌≤◌, ◌^◌, true, IfOk, length};
+ghost use Rattle.std.specs.List.{count_by};
+ghost use Rattle.std.specs.Str.{is_utf8};
 ghost use Rattle.hl_base.specs.Gives.{Gives};
-ghost use Rattle.hl_base.specs.Lines.{lines_of};
 ghost use Rattle.journal_reader.specs.Causes.{cause_in};
-ghost use Rattle.journal_reader.specs.Items.{or_fault};
+ghost use Rattle.journal_reader.specs.Lines.{contents_of};
 ghost use Rattle.journal_reader.specs.Postings as spec;
-ghost use Rattle.book.specs.Accounts.{parts_of};
 
-use crate::amount::read_amount;
-use crate::fault::{ReadFault, not_built};
-use crate::scan::{account_of, cut_line, text_of};
-use book::{Amount, Mark, Posting, Side};
-use hl_base::{List, Memory, Text};
+use crate::account::{cut_account, has_parts, read_name};
+use crate::amount::{amount_at, cost_at};
+use crate::comment::{is_comment, read_comment, read_own_day, read_tags};
+use crate::context::Context;
+use crate::fault::{ReadFault, fault_at};
+use crate::head::read_mark;
+use crate::scan::{after_white, begins, begins_white, cut_line, past_first, text_of, trimmed};
+use crate::symbol::ends_amount;
+use book::{Amount, Boxed, Cause, Cost, Mark, Posting, Side};
+use hl_base::{List, Text};
 use std::alloc::Global;
 
-/// Whether no part of an account is empty.
-#[tactic(auto, using(crate::proofs::Parts::fills_is))]
-fn are_parts_filled(account: &[u8]) -> bool
-    ensures { result ≡ list_all (λ part. nat_le 1 (length part)) (parts_of account.now) }
-{
-    let mut is_open = false;
-    for byte in account {
-        if *byte != b':' {
-            is_open = true;
-        } else if is_open {
-            is_open = false;
-        } else {
-            return false;
-        }
-    }
-    is_open
-}
-
-/// How many colons divide an account.
-fn colon_count(account: &[u8]) -> usize
-    ensures { result ≡ count_by (λ b. b == 58) account.now }
-{
-    account.iter().filter(|byte| **byte == b':').count()
-}
-
-/// Whether an account has 1 to 64 parts, none of them empty.
-#[tactic(auto, using(crate::proofs::Parts::part_count))]
-fn has_parts(account: &[u8]) -> bool
-    ensures { result ≡ spec.has_parts account.now }
-{
-    colon_count(account) < 64 && are_parts_filled(account)
-}
-
-/// A posting of an account that has an amount and says nothing else.
-fn posting_from(
-    alloc: Global,
-    line: u64,
-    account: &[u8],
+/// The amount and the cost of a posting, where they are written.
+#[derive(Drop)]
+struct Numbers {
     amount: Option<Amount>,
-) -> Result<Option<Posting>, Memory>
-    requires { IsAscii account.now }
-    ensures { IfOk result (λ posting. posting ≡ spec.posting_from line account.now amount) }
+    cost: Option<Boxed<Cost>>,
+}
+
+/// The amount and the cost that a text begins with, if any, and what follows them.
+#[tactic(auto, unfolding(crate::specs::Postings::numbers_at))]
+fn read_numbers<'a>(
+    alloc: Global,
+    context: &Context,
+    text: &'a [u8],
+    line: u64,
+) -> Result<(Numbers, &'a [u8]), ReadFault>
+    requires { is_utf8 text.now ≡ true }
+    ensures value { Gives (λ x. ((x.0.amount, x.0.cost), x.1.now)) cause_in result (spec.numbers_at context.now line text.now) }
+    ensures utf8 { IfOk result (λ x. is_utf8 x.1.now ≡ true) }
 {
-    match amount {
-        None => Ok(None),
-        Some(amount) => Ok(Some(Posting {
-            line,
-            mark: Mark::Unmarked,
-            side: Side::Real,
-            account: text_of(alloc, account)?,
-            amount: Some(amount),
+    if ends_amount(text) {
+        let numbers = Numbers {
+            amount: None,
             cost: None,
-            wanted: None,
-            filled: false,
-            costed: false,
-            comment: Text::new(alloc),
-            tags: List::new(alloc),
-            day: None,
-        })),
+        };
+        return Ok((numbers, text));
+    }
+    let (amount, rest) = amount_at(alloc, context, text, line)?;
+    let (cost, rest) = cost_at(alloc, context, rest, line)?;
+    let numbers = Numbers {
+        amount: Some(amount),
+        cost,
+    };
+    Ok((numbers, rest))
+}
+
+/// Whether a line has ended, or goes on with a comment.
+fn ends_line(text: &[u8]) -> bool
+    ensures { result ≡ spec.ends_line text.now }
+{
+    text.is_empty() || begins(text, b';')
+}
+
+fn is_free(side: Side) -> bool
+    ensures { result ≡ spec.is_free side }
+{
+    match side {
+        Side::Free => true,
+        Side::Real | Side::Balanced => false,
     }
 }
 
-/// The posting that a line's content is, or `None` where it is none.
-pub(crate) fn read_posting(
-    alloc: Global,
-    content: &[u8],
-    line: u64,
-) -> Result<Option<Posting>, Memory>
-    ensures { IfOk result (λ posting. posting ≡ spec.posting_of line content.now) }
+/// The comment with which a posting's line ends, empty where there is none.
+fn read_ending(text: &[u8], side: Side, has_amount: bool, line: u64) -> Result<&[u8], ReadFault>
+    requires { is_utf8 text.now ≡ true }
+    ensures value { Gives (λ x. x.now) cause_in result (spec.ending_of line side has_amount text.now) }
+    ensures utf8 { IfOk result (λ x. is_utf8 x.now ≡ true) }
 {
-    if !content.starts_with(b"    ") {
-        return Ok(None);
+    if begins(text, b'=') {
+        return Err(fault_at(line, Cause::NotBuilt));
     }
-    let account = account_of(&content[4..]);
-    let after = &content[4 + account.len()..];
-    if !has_parts(account) || !after.starts_with(b"  ") {
-        return Ok(None);
+    if !ends_line(text) {
+        return Err(fault_at(line, Cause::Form));
     }
-    let amount = read_amount(alloc, &after[2..])?;
-    posting_from(alloc, line, account, amount)
+    if is_free(side) && !has_amount {
+        return Err(fault_at(line, Cause::Form));
+    }
+    Ok(own_comment(text))
+}
+
+/// What follows the `;` that a text begins with, or nothing.
+fn own_comment(text: &[u8]) -> &[u8]
+    requires ends { spec.ends_line text.now ≡ true }
+    requires utf8 { is_utf8 text.now ≡ true }
+    ensures value { result.now ≡ spec.comment_at text.now }
+    ensures utf8 { is_utf8 result.now ≡ true }
+{
+    if begins(text, b';') {
+        trimmed(past_first(text))
+    } else {
+        &[]
+    }
+}
+
+/// The account that a text is, as the context has it.
+#[tactic(auto, unfolding(crate::specs::Postings::account_at))]
+fn read_account_in<'a>(
+    context: &Context,
+    text: &'a [u8],
+    line: u64,
+) -> Result<(Side, &'a [u8]), ReadFault>
+    requires { is_utf8 text.now ≡ true }
+    ensures value { Gives (λ x. (x.0, x.1.now)) cause_in result (spec.account_at context.now line text.now) }
+    ensures utf8 { IfOk result (λ x. is_utf8 x.1.now ≡ true) }
+{
+    let (side, written) = read_name(text, line)?;
+    let name = context.account_named(written);
+    if has_parts(name) {
+        Ok((side, name))
+    } else {
+        Err(fault_at(line, Cause::Account))
+    }
+}
+
+/// What an indented line's content says of a posting: its mark, its account, its amount and cost, and its comment.
+#[derive(Drop)]
+struct Line<'a> {
+    mark: Mark,
+    side: Side,
+    account: &'a [u8],
+    numbers: Numbers,
+    comment: &'a [u8],
+}
+
+#[tactic(auto, unfolding(crate::specs::Postings::posting_line))]
+fn read_line<'a>(
+    alloc: Global,
+    context: &Context,
+    content: &'a [u8],
+    line: u64,
+) -> Result<Line<'a>, ReadFault>
+    requires { is_utf8 content.now ≡ true }
+    ensures value { Gives (λ x. (spec.posting_from line x.mark (x.side, x.account.now) (x.numbers.amount, x.numbers.cost), x.comment.now)) cause_in result (spec.posting_line context.now line content.now) }
+    ensures utf8 { IfOk result (λ x. (is_utf8 x.account.now ≡ true) × (is_utf8 x.comment.now ≡ true)) }
+{
+    let (mark, rest) = read_mark(after_white(content), line)?;
+    let (text, rest) = cut_account(rest);
+    let (side, account) = read_account_in(context, text, line)?;
+    let (numbers, rest) = read_numbers(alloc, context, after_white(rest), line)?;
+    let comment = read_ending(rest, side, numbers.amount.is_some(), line)?;
+    Ok(Line {
+        mark,
+        side,
+        account,
+        numbers,
+        comment,
+    })
+}
+
+/// The posting of an indented line's content and of the comment lines at the front of what follows.
+#[tactic(auto, unfolding(crate::specs::Postings::posting_of))]
+fn read_posting(
+    alloc: Global,
+    context: &Context,
+    year: u16,
+    content: &[u8],
+    after: &[u8],
+    line: u64,
+) -> Result<Posting, ReadFault>
+    requires content { is_utf8 content.now ≡ true }
+    requires after { is_utf8 after.now ≡ true }
+    requires lines { line + 1 + length after.now < 2 ^ 64 }
+    ensures { Gives (λ posting. posting) cause_in result (spec.posting_of context.now year line content.now (contents_of after.now)) }
+{
+    if !begins_white(content) {
+        return Err(fault_at(line, Cause::Form));
+    }
+    let read = read_line(alloc, context, content, line)?;
+    let day = read_own_day(read.comment, after, year, line)?;
+    let comment = read_comment(alloc, read.comment, after)?;
+    let tags = read_tags(alloc, read.comment, after)?;
+    Ok(Posting {
+        line,
+        mark: read.mark,
+        side: read.side,
+        account: text_of(alloc, read.account)?,
+        amount: read.numbers.amount,
+        cost: read.numbers.cost,
+        wanted: None,
+        filled: false,
+        costed: false,
+        comment,
+        tags,
+        day,
+    })
 }
 
 /// How many line ends a text has.
-fn line_ends(text: &[u8]) -> usize
+pub(crate) fn line_ends(text: &[u8]) -> usize
     ensures { result ≡ count_by (λ b. b == 10) text.now }
 {
     text.iter().filter(|b| **b == b'\n').count()
 }
 
 /// The postings that the lines of a text are, of which the first is the `line`-th.
+#[tactic(auto, unfolding(crate::specs::Postings::postings_of))]
 pub(crate) fn read_postings(
     alloc: Global,
+    context: &Context,
+    year: u16,
     text: &[u8],
     line: u64,
 ) -> Result<List<Posting>, ReadFault>
-    requires { line + length text.now < 2 ^ 64 }
-    ensures { Gives (λ postings. postings) cause_in result (or_fault (spec.postings_from line (lines_of text.now))) }
+    requires utf8 { is_utf8 text.now ≡ true }
+    requires lines { line + length text.now < 2 ^ 64 }
+    ensures { Gives (λ postings. postings) cause_in result (spec.postings_of context.now year line (contents_of text.now)) }
 {
     let mut postings = Vec::with_capacity(alloc, line_ends(text))?;
     let mut rest = text;
     let mut next = line;
     while !rest.is_empty() {
         let (content, after) = cut_line(rest);
-        match read_posting(alloc, content, next)? {
-            None => return Err(not_built(next)),
-            Some(posting) => postings.push(posting)?,
+        if is_comment(content) {
+            rest = after;
+            next += 1;
+            continue;
         }
+        let posting = read_posting(alloc, context, year, content, after, next)?;
+        postings.push(posting)?;
         rest = after;
         next += 1;
     }

@@ -57,12 +57,16 @@ fn limits_items(rt: HostRuntime) -> Result<(), Fail> {
 
 #[test]
 fn limits_entries(rt: HostRuntime) -> Result<(), Fail> {
-    for (filling, status) in [(65_536 - 23, 0), (65_536 - 22, 1)] {
+    for (filling, status, error) in [
+        (65_536 - 23, 0, b"".as_slice()),
+        (65_536 - 22, 7, b"error: line 1: too long\n".as_slice()),
+    ] {
         let mut text = Vec::from_slice(rt.alloc(), b"2024-01-01 ")?;
         text.extend_from_slice(repeated(rt.alloc(), b"d", filling)?.as_slice())?;
         text.extend_from_slice(b"\n    a  0 E\n")?;
         let seen = told(rt.alloc(), text.as_slice())?;
         assert_eq!(rt; seen.status, status);
+        assert_eq!(rt; seen.error.as_slice(), error);
     }
     Ok(())
 }

@@ -110,64 +110,145 @@ fn refuses_texts(rt: HostRuntime) -> Result<(), Fail> {
             b"error: line 1: unbalanced 1 E\n".as_slice(),
         ),
         (
-            "a form that isn't built comes first",
+            "a cost that is half a cent off",
+            b"2024-01-01 a\n    a  10 A @ 0.3335 EUR\n    b  -3.32 EUR\n".as_slice(),
+            b"error: line 1: unbalanced 0.015 EUR\n".as_slice(),
+        ),
+        (
+            "two missing amounts",
+            b"2024-01-01 a\n    a  1 C\n    a  2 B\n    a  3 A\n    b\n    c\n".as_slice(),
+            b"error: line 1: two missing amounts\n".as_slice(),
+        ),
+        (
+            "a turnover of 2^127",
+            b"2024-01-01 a\n    (a)  85070591730234615865843651857942052863 EUR\n    (a)  -85070591730234615865843651857942052863 EUR\n    (a)  2 EUR\n".as_slice(),
+            b"error: line 1: range\n".as_slice(),
+        ),
+        (
+            "what doesn't read comes first",
+            b"2024-01-01 a\n    x  1 E\n2024-02-30 b\n".as_slice(),
+            b"error: line 3: date\n".as_slice(),
+        ),
+        (
+            "a form that isn't built",
             b"2024-01-01 a\n    x  1 E\nP 2024-01-01 A 1 E\n".as_slice(),
             b"error: line 3: not built\n".as_slice(),
         ),
         (
+            "an assertion",
+            b"2024-01-01 a\n    x  0 E = 0 E\n".as_slice(),
+            b"error: line 2: not built\n".as_slice(),
+        ),
+        (
             "no such day",
             b"2023-02-29 a\n    x  1 E\n    y  -1 E\n".as_slice(),
-            b"error: line 1: not built\n".as_slice(),
+            b"error: line 1: date\n".as_slice(),
         ),
         (
-            "year zero",
-            b"0000-01-01 a\n    x  1 E\n    y  -1 E\n".as_slice(),
-            b"error: line 1: not built\n".as_slice(),
+            "a second mark",
+            b"2024-01-01 ! * a\n    x  1 E\n    y\n".as_slice(),
+            b"error: line 1: status mark\n".as_slice(),
         ),
         (
-            "a blank line below the head",
-            b"2024-01-01 a\n\n    x  1 E\n    y  -1 E\n".as_slice(),
-            b"error: line 1: not built\n".as_slice(),
-        ),
-        (
-            "two symbols in one entry",
-            b"2024-01-01 a\n    x  1 E\n    y  -1 F\n".as_slice(),
-            b"error: line 1: not built\n".as_slice(),
-        ),
-        (
-            "a third line that isn't a posting",
-            b"2024-01-01 a\n    x  1 E\n    y -1 E\n".as_slice(),
-            b"error: line 3: not built\n".as_slice(),
-        ),
-        (
-            "sixteen digits",
-            b"2024-01-01 a\n    x  1234567890123456 E\n".as_slice(),
-            b"error: line 2: not built\n".as_slice(),
-        ),
-        (
-            "three decimals",
-            b"2024-01-01 a\n    x  1.234 E\n".as_slice(),
-            b"error: line 2: not built\n".as_slice(),
+            "two signs",
+            b"2024-01-01 a\n    x  -+1 E\n    y\n".as_slice(),
+            b"error: line 2: number\n".as_slice(),
         ),
         (
             "an empty part",
             b"2024-01-01 a\n    x::y  1 E\n".as_slice(),
-            b"error: line 2: not built\n".as_slice(),
+            b"error: line 2: account\n".as_slice(),
         ),
         (
-            "a comment line",
-            b"; a\n".as_slice(),
-            b"error: line 1: not built\n".as_slice(),
+            "no second quote",
+            b"2024-01-01 a\n    x  1 \"E\n    y\n".as_slice(),
+            b"error: line 2: quote\n".as_slice(),
         ),
         (
-            "a line end of two bytes",
-            b"2024-01-01 a\r\n    x  0 E\n".as_slice(),
-            b"error: line 1: not built\n".as_slice(),
+            "a line that belongs to nothing",
+            b"    x  1 E\n".as_slice(),
+            b"error: line 1: form\n".as_slice(),
+        ),
+        (
+            "a free posting without an amount",
+            b"2024-01-01 a\n    (x)\n".as_slice(),
+            b"error: line 2: form\n".as_slice(),
+        ),
+        (
+            "bytes that aren't UTF-8",
+            b"2024-01-01 \xff\n".as_slice(),
+            b"error: line 1: encoding\n".as_slice(),
         ),
     ] {
         let seen = told(rt.alloc(), &["balance"], text)?;
         expect(&rt, &seen, 1, b"", error, what);
     }
+    Ok(())
+}
+
+#[test]
+fn lists_whole_entries(rt: HostRuntime) -> Result<(), Fail> {
+    for (what, text, output) in [
+        (
+            "the mark of a number alone is its decimal mark",
+            b"2024-01-01 x\n    (a)  1,000 EUR\n".as_slice(),
+            b"           1,000 EUR  a\n--------------------\n           1,000 EUR  \n".as_slice(),
+        ),
+        (
+            "a cost that is zero by its decimals",
+            b"2024-01-01 x\n    a  10 A @ 0.3335 EUR\n    b  -3.33 EUR\n".as_slice(),
+            b"                10 A  a\n           -3.33 EUR  b\n--------------------\n                10 A\n           -3.33 EUR  \n".as_slice(),
+        ),
+        (
+            "one missing amount of three symbols",
+            b"2024-01-01 x\n    a  1 C\n    a  2 B\n    a  3 A\n    b\n".as_slice(),
+            b"                 3 A\n                 2 B\n                 1 C  a\n                -3 A\n                -2 B\n                -1 C  b\n--------------------\n                   0  \n".as_slice(),
+        ),
+        (
+            "a turnover below 2^127",
+            b"2024-01-01 x\n    (a)  85070591730234615865843651857942052863 EUR\n    (a)  -85070591730234615865843651857942052863 EUR\n    (a)  1 EUR\n".as_slice(),
+            b"               1 EUR  a\n--------------------\n               1 EUR  \n".as_slice(),
+        ),
+        (
+            "a year that isn't written",
+            b"06-15 x\n    (a)  1 EUR\n".as_slice(),
+            b"               1 EUR  a\n--------------------\n               1 EUR  \n".as_slice(),
+        ),
+        (
+            "virtual postings",
+            b"2024-01-01 x\n    a  1 EUR\n    b\n    [c]  2 EUR\n    [d]\n    (e)  5 EUR\n".as_slice(),
+            b"               1 EUR  a\n              -1 EUR  b\n               2 EUR  c\n              -2 EUR  d\n               5 EUR  e\n--------------------\n               5 EUR  \n".as_slice(),
+        ),
+        (
+            "two symbols of opposite signs",
+            b"2024-01-01 x\n    a  10 USD\n    b  -9 EUR\n".as_slice(),
+            b"              10 USD  a\n              -9 EUR  b\n--------------------\n              -9 EUR\n              10 USD  \n".as_slice(),
+        ),
+        (
+            "a total cost",
+            b"2024-01-01 x\n    a  3 A @@ 20 EUR\n    b\n".as_slice(),
+            b"                 3 A  a\n             -20 EUR  b\n--------------------\n                 3 A\n             -20 EUR  \n".as_slice(),
+        ),
+        (
+            "symbols on the left and in quotes",
+            b"2024-01-01 x\n    a  $-1.50\n    b\n2024-01-02 y\n    c  3 \"green apples\"\n    d\n".as_slice(),
+            b"              $-1.50  a\n               $1.50  b\n    3 \"green apples\"  c\n   -3 \"green apples\"  d\n--------------------\n                   0  \n".as_slice(),
+        ),
+    ] {
+        let seen = told(rt.alloc(), &["balance"], text)?;
+        expect(&rt, &seen, 0, output, b"", what);
+    }
+    Ok(())
+}
+
+#[test]
+fn lists_texts_of_all_scripts(rt: HostRuntime) -> Result<(), Fail> {
+    let text =
+        "2024-02-03 * (7) 昼食 ; 店: 角\n    支出:食費  1000 円\n    資産:現金\n2024-02-04 café\n    dépenses:café  3,50 €\n    actifs\n";
+    let output =
+        "             -3,50 €  actifs\n              3,50 €  dépenses:café\n             1000 円  支出:食費\n            -1000 円  資産:現金\n--------------------\n                   0  \n";
+    let seen = told(rt.alloc(), &["balance"], text.as_bytes())?;
+    expect(&rt, &seen, 0, output.as_bytes(), b"", "all scripts");
     Ok(())
 }
 

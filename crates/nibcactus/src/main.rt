@@ -3,6 +3,7 @@
 
 mod streams;
 
+ghost use Rattle.hl_time.specs.Calendar.{IsDay};
 ghost use Rattle.std.specs.Prelude.{◌≡◌, ◌≤◌};
 
 use command_line::{Status, run};
@@ -82,6 +83,7 @@ fn counted<L: Ledger, J: Source, O: Sink, E: Sink>(
     requires name { blank.name ≡ L.name }
     requires parts { blank.parts ≡ L.parts }
     requires three { blank.parts ≡ 3 }
+    requires day { IsDay day.0 }
 {
     let mut steps = Steps::<L>::start(blank);
     run(alloc, words, day, input, out, err, &mut steps)

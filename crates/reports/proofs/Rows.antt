@@ -1,7 +1,11 @@
 -- How the rows and the total go on by a posting.
-use Rattle.std.proofs.Common.{◌≡◌, ℕ, ◌+◌, ◌<◌, List, [], ◌∷◌, ◌++◌, length, get_or, set, take, drop, Option, Some, unwrap_or, Result, Ok, Err, OnOk, refl, sym, ap, subst, ◌∙◌, add-one, drop-cons}
-use Rattle.std.specs.List.{insert, AllByRecursion}
-use Rattle.std.specs.FinMap.Entries.{is_sorted-put}
+use Rattle.std.proofs.Common.{◌≡◌, ℕ, ◌+◌, ◌<◌, List, [], ◌∷◌, ◌++◌, length, get_or, take, drop, cond, T, Option, Some, None, unwrap_or, Result, Ok, Err, OnOk, refl, sym, ap, subst, ◌∙◌, add-one, drop-cons}
+use Rattle.std.specs.List.{AllByRecursion}
+use Rattle.std.specs.FinMap.Entries.{by_order, find, put, below_all, is_sorted-put}
+use Rattle.std.specs.declared.cmp.Ordering.TheVariants.{Less, Equal, Greater}
+use Rattle.std.specs.Ordering.{is_eq, match_ordering}
+use Rattle.std.specs.BTreeMap.{insert_entry, is_at}
+use Rattle.std.specs.Map.{lookup, set_value}
 use Rattle.std.proofs.lemmas.List.{take_more, append-nil}
 use Rattle.std.proofs.lemmas.List.Sums.{fold_more, fold-append}
 use Rattle.std.proofs.lemmas.Grind.{flat_map-append}
@@ -9,35 +13,67 @@ use Rattle.book.specs.declared.transaction.Posting.{Posting}
 use Rattle.book.specs.declared.transaction.Txn.{Txn}
 use Rattle.book.specs.Accounts.{account_cmp}
 use Rattle.book.specs.Postings.{postings_of}
-use Rattle.book.specs.Places.{IsPlace, IsGap}
-use Rattle.book.proofs.Accounts.{account_total, account_ties}
-use Rattle.book.proofs.Places.{find-at, put-at, find-gap, put-gap}
+use Rattle.book.proofs.Accounts.{account_total}
+use Rattle.book.proofs.Places.{first, second, less}
 use Rattle.reports.specs.Kept.{KeptSums, KeptRows, Kept, AreOrdered, with_share, sums_at, row_with, with_posting, after, CanAdd, HasFewPlaces, EachFits, IsReading}
 
 pub on_ok : {E : Type 0} {P Q : Type 0} (r : Result (Unit {0}) E) → (P → Q) → OnOk r P → OnOk r Q
 on_ok (Ok u) f h = f h
 on_ok (Err e) f h = tt
 
-module _ (rows : KeptRows) (p : Posting) (i : ℕ) where
-  module _ (ordered : AreOrdered rows) (at : IsPlace rows p.account i) (e : List ℕ × KeptSums) (is : e ≡ get_or rows i e) where
-    pub sums_here : sums_at p.account rows ≡ e.1
-    sums_here = ap (λ (o : Option KeptSums). unwrap_or o []) (find-at account_total account_ties p.account rows i e ordered at ∙ ap (λ (x : List ℕ × KeptSums). Some x.1) (sym is))
+-- a look-up finds what `find` finds
+found : (k : List ℕ) (rows : KeptRows) → lookup (is_at (account_cmp k)) rows ≡ find account_cmp k rows
+found k [] = refl
+found k (e ∷ rows) = ap (λ (o : Option KeptSums). cond (is_eq (account_cmp k e.0)) (Some e.1) o) (found k rows)
 
-    pub row_here : (sums : KeptSums) → sums ≡ with_share p.amount e.1 → set rows i (e.0, sums) ≡ row_with rows p
-    row_here sums new =
-        let key : e.0 ≡ p.account = ap (λ (x : List ℕ × KeptSums). x.0) is ∙ at.is e in
-        ap (λ (x : List ℕ). set rows i (x, sums)) key
-        ∙ ap (λ (s : KeptSums). set rows i (p.account, s)) (new ∙ ap (with_share p.amount) (sym sums_here))
-        ∙ sym (put-at account_total account_ties p.account rows i (with_share p.amount (sums_at p.account rows)) ordered at)
+-- an insertion puts
+inserted : (k : List ℕ) (sums : KeptSums) (rows : KeptRows) → insert_entry account_cmp rows k sums ≡ put account_cmp k sums rows
+inserted k sums [] = refl
+inserted k sums (e ∷ rows) =
+    elim (account_cmp k e.0) as (λ r. match_ordering r ((k, sums) ∷ e ∷ rows) ((e.0, sums) ∷ rows) (e ∷ insert_entry account_cmp rows k sums) ≡ by_order r ((k, sums) ∷ e ∷ rows) ((e.0, sums) ∷ rows) (e ∷ put account_cmp k sums rows)) [
+      | Less ↦ refl
+      | Equal ↦ refl
+      | Greater ↦ ap (λ t. e ∷ t) (inserted k sums rows)
+    ]
 
-  module _ (gap : IsGap account_cmp rows p.account i) where
+-- nothing is found before smaller names
+none_below : (k m : List ℕ) (rows : KeptRows) → account_cmp k m ≡ Less → T (below_all account_cmp m rows) → find account_cmp k rows ≡ None
+none_below k m [] lt h = refl
+none_below k m (e ∷ rows) lt h =
+    ap (λ r. cond (is_eq r) (Some e.1) (find account_cmp k rows)) (account_total.trans k m e.0 lt (less _ (first _ _ h)))
+    ∙ none_below k m rows lt (second _ _ h)
+
+-- a value that is written where one is found is put
+written : (k : List ℕ) (old sums : KeptSums) (rows : KeptRows) → AreOrdered rows → find account_cmp k rows ≡ Some old → set_value (is_at (account_cmp k)) rows sums ≡ put account_cmp k sums rows
+written k old sums [] h is = cc
+written k old sums (e ∷ rows) h is =
+    elim (account_cmp k e.0) as (λ r. account_cmp k e.0 ≡ r → cond (is_eq r) (Some e.1) (find account_cmp k rows) ≡ Some old → cond (is_eq r) ((e.0, sums) ∷ rows) (e ∷ set_value (is_at (account_cmp k)) rows sums) ≡ by_order r ((k, sums) ∷ e ∷ rows) ((e.0, sums) ∷ rows) (e ∷ put account_cmp k sums rows)) [
+      | Less ↦ λ r f. let none = none_below k e.0 rows r (first _ _ h) in cc (none, f)
+      | Equal ↦ λ r f. refl
+      | Greater ↦ λ r f. ap (λ t. e ∷ t) (written k old sums rows (second _ _ h) f)
+    ] refl is
+
+module _ (rows : KeptRows) (p : Posting) where
+  module _ (old : KeptSums) (is : Some old ≡ lookup (is_at (account_cmp p.account)) rows) where
+    there : find account_cmp p.account rows ≡ Some old
+    there = sym (is ∙ found p.account rows)
+
+    pub sums_here : sums_at p.account rows ≡ old
+    sums_here = ap (λ (o : Option KeptSums). unwrap_or o []) there
+
+    pub row_here : AreOrdered rows → (sums : KeptSums) → sums ≡ with_share p.amount old → set_value (is_at (account_cmp p.account)) rows sums ≡ row_with rows p
+    row_here ordered sums new =
+        written p.account old sums rows ordered there
+        ∙ ap (λ (s : KeptSums). put account_cmp p.account s rows) (new ∙ ap (with_share p.amount) (sym sums_here))
+
+  module _ (is : None ≡ lookup (is_at (account_cmp p.account)) rows) where
     pub sums_none : sums_at p.account rows ≡ []
-    sums_none = ap (λ (o : Option KeptSums). unwrap_or o []) (find-gap account_total account_ties p.account rows i gap)
+    sums_none = ap (λ (o : Option KeptSums). unwrap_or o []) (sym (is ∙ found p.account rows))
 
-    pub row_new : (sums : KeptSums) → sums ≡ with_share p.amount [] → insert rows i (p.account, sums) ≡ row_with rows p
+    pub row_new : (sums : KeptSums) → sums ≡ with_share p.amount [] → insert_entry account_cmp rows p.account sums ≡ row_with rows p
     row_new sums new =
-        ap (λ (s : KeptSums). insert rows i (p.account, s)) (new ∙ ap (with_share p.amount) (sym sums_none))
-        ∙ sym (put-gap account_total account_ties p.account rows i (with_share p.amount (sums_at p.account rows)) gap)
+        inserted p.account sums rows
+        ∙ ap (λ (s : KeptSums). put account_cmp p.account s rows) (new ∙ ap (with_share p.amount) (sym sums_none))
 
 pub ordered_with : (rows : KeptRows) (p : Posting) → AreOrdered rows → AreOrdered (row_with rows p)
 ordered_with rows p h = is_sorted-put account_cmp account_total p.account (with_share p.amount (sums_at p.account rows)) rows h

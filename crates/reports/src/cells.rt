@@ -4,10 +4,12 @@ ghost use Rattle.book.specs.Postings.{postings_of};
 ghost use Rattle.book.specs.Bounds.{TurnoverFits};
 ghost use Rattle.reports.specs.Cells.{seen, row_seen, rows_of, totals_of, one_celled};
 
+use crate::account_key::AccountKey;
 use crate::kept::add_postings;
 use book::{Book, Mixed, Styles};
 use hl_base::{List, Memory, Text};
 use std::alloc::Global;
+use std::collections::BTreeMap;
 
 /// What a report is made of: the book, and the styles in which it prints amounts.
 #[derive(Clone, Copy)]
@@ -48,7 +50,7 @@ pub fn make_cells(alloc: Global, job: &Job) -> Result<Cells, ReportFault>
     ensures rows { IfOk result (λ cells. map row_seen cells.rows ≡ rows_of (postings_of job.now.book.now.txns)) }
     ensures totals { IfOk result (λ cells. map seen cells.totals ≡ totals_of (postings_of job.now.book.now.txns)) }
 {
-    let mut rows = Vec::new(alloc);
+    let mut rows = BTreeMap::new(alloc);
     let mut total = Mixed::new(alloc);
     for txn in job.book.txns.as_slice() {
         add_postings(alloc, &mut rows, &mut total, txn.postings.as_slice())?;
@@ -60,11 +62,15 @@ pub fn make_cells(alloc: Global, job: &Job) -> Result<Cells, ReportFault>
 }
 
 /// The rows of a report with one column.
-fn cell_rows(alloc: Global, rows: Vec<(Text, Mixed)>) -> Result<List<CellRow>, Memory>
-    ensures { IfOk result (λ cells. cells ≡ map one_celled rows.items) }
+fn cell_rows<'a>(
+    alloc: Global,
+    rows: BTreeMap<AccountKey<'a>, Mixed>,
+) -> Result<List<CellRow>, Memory>
+    ensures { IfOk result (λ cells. cells ≡ map one_celled rows.entry.entries) }
 {
     let mut cells = Vec::new(alloc);
-    for (account, sums) in rows {
+    for (key, sums) in rows {
+        let account = Text::copied(alloc, key.account().as_str())?;
         let one = one_cell(alloc, sums)?;
         cells.push(CellRow {
             account,

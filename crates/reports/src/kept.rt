@@ -1,27 +1,26 @@
 //! Sums that are kept while postings are read, one after another.
-ghost use Rattle.std.specs.Prelude.{◌≡◌, ℕ, List, [], OnOk, IfOk, IfErr};
+ghost use Rattle.std.specs.Prelude.{◌≡◌, OnOk};
 ghost use Rattle.std.specs.List.{AllByRecursion};
-ghost use Rattle.book.specs.Accounts.{account_cmp};
-ghost use Rattle.book.specs.Places.{IsPlace, IsGap};
 ghost use Rattle.reports.specs.Kept.{AreOrdered, ShareFits, with_share, sums_at, row_with, Kept, after, EachFits, HasFewPlaces};
 
-use book::{Amount, Mixed, MixedFault, Posting, compare_accounts};
-use hl_base::{Memory, Text};
+use crate::account_key::AccountKey;
+use book::{Amount, Mixed, MixedFault, Posting};
+use hl_base::Memory;
 use std::alloc::Global;
-use std::cmp::Ordering;
+use std::collections::BTreeMap;
 
 /// Adds some postings to the sums of their accounts and to the total.
-pub(crate) fn add_postings(
+pub(crate) fn add_postings<'a>(
     alloc: Global,
-    rows: &mut Vec<(Text, Mixed)>,
+    rows: &mut BTreeMap<AccountKey<'a>, Mixed>,
     total: &mut Mixed,
-    postings: &[Posting],
+    postings: &'a [Posting],
 ) -> Result<(), Memory>
-    requires ordered { AreOrdered rows.old.items }
-    requires fits { EachFits (record { rows = rows.old.items; total = total.old }) postings.now }
-    ensures added { OnOk result (let kept : Kept = record { rows = rows.new.items; total = total.new } in
-        kept ≡ after (record { rows = rows.old.items; total = total.old }) postings.now) }
-    ensures ordered { OnOk result (AreOrdered rows.new.items) }
+    requires ordered { AreOrdered rows.old.entries }
+    requires fits { EachFits (record { rows = rows.old.entries; total = total.old }) postings.now }
+    ensures added { OnOk result (let kept : Kept = record { rows = rows.new.entries; total = total.new } in
+        kept ≡ after (record { rows = rows.old.entries; total = total.old }) postings.now) }
+    ensures ordered { OnOk result (AreOrdered rows.new.entries) }
     ensures few { OnOk result (AllByRecursion (λ p. HasFewPlaces p.amount) postings.now) }
 {
     for posting in postings {
@@ -43,21 +42,22 @@ fn decimals_in(amount: &Option<Amount>) -> u8
 }
 
 /// Adds a posting to the sums of its account.
-fn add_to_row(alloc: Global, rows: &mut Vec<(Text, Mixed)>, posting: &Posting) -> Result<(), Memory>
-    requires ordered { AreOrdered rows.old.items }
-    requires fits { ShareFits posting.now.amount (sums_at posting.now.account rows.old.items) }
-    ensures { OnOk result (rows.new.items ≡ row_with rows.old.items posting.now) }
+fn add_to_row<'a>(
+    alloc: Global,
+    rows: &mut BTreeMap<AccountKey<'a>, Mixed>,
+    posting: &'a Posting,
+) -> Result<(), Memory>
+    requires ordered { AreOrdered rows.old.entries }
+    requires fits { ShareFits posting.now.amount (sums_at posting.now.account rows.old.entries) }
+    ensures { OnOk result (rows.new.entries ≡ row_with rows.old.entries posting.now) }
 {
-    match place_in(rows, &posting.account) {
-        Ok(at) => add_share(alloc, &mut rows[at].1, &posting.amount),
-        Err(at) => {
-            let mut sums = Mixed::new(alloc);
-            add_share(alloc, &mut sums, &posting.amount)?;
-            let account = Text::copied(alloc, posting.account.as_str())?;
-            rows.insert(at, (account, sums))?;
-            Ok(())
-        }
+    if let Some(sums) = rows.get_mut(&AccountKey::new(&posting.account)) {
+        return add_share(alloc, sums, &posting.amount);
     }
+    let mut sums = Mixed::new(alloc);
+    add_share(alloc, &mut sums, &posting.amount)?;
+    rows.insert(AccountKey::new(&posting.account), sums)?;
+    Ok(())
 }
 
 /// Adds an amount, if it is there, to sums where it fits.
@@ -73,23 +73,4 @@ fn add_share(alloc: Global, sums: &mut Mixed, amount: &Option<Amount>) -> Result
         },
         None => Ok(()),
     }
-}
-
-/// Where the row of an account stands, or where it would go.
-fn place_in(rows: &[(Text, Mixed)], account: &Text) -> Result<usize, usize>
-    requires { AreOrdered rows.now }
-    ensures found { IfOk result (IsPlace rows.now account.now) }
-    ensures absent { IfErr result (IsGap account_cmp rows.now account.now) }
-{
-    let mut low = 0;
-    let mut high = rows.len();
-    while low < high {
-        let middle = low + (high - low) / 2;
-        match compare_accounts(&rows[middle].0, account) {
-            Ordering::Less => low = middle + 1,
-            Ordering::Equal => return Ok(middle),
-            Ordering::Greater => high = middle,
-        }
-    }
-    Err(low)
 }

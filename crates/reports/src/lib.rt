@@ -1,6 +1,7 @@
 //! What a report is made of, and the sums that it shows.
 #![tactic(auto)]
 
+mod account_key;
 pub mod cells;
 mod kept;
 #[cfg(test)]

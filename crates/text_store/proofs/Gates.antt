@@ -1,12 +1,12 @@
 -- What the writes and cuts at a gate make of a file.
-use Rattle.std.proofs.Common.{◌≡◌, inl, inr, ℕ, zero, suc, ◌+◌, ◌-◌, ◌≤◌, ◌<◌, min, List, [], ◌∷◌, ◌++◌, length, get_or, take, drop, replicate, refl, sym, ◌∙◌, ap, subst, arith, append_assoc, length-append, length-take, length-drop, take-append-drop}
+use Rattle.std.proofs.Common.{◌≡◌, inl, inr, ℕ, zero, suc, ◌+◌, ◌-◌, ◌≤◌, ◌<◌, min, List, [], ◌∷◌, ◌++◌, length, get_or, take, drop, replicate, refl, sym, ◌∙◌, ap, arith, append_assoc, length-append, take-append-drop}
 use Rattle.std.proofs.lemmas.List.{take_at, drop_at, drop_more, take_all, drop_all, append-nil, take-append-le}
 use Rattle.hl_base.specs.Disk.{overwritten, Torn, Cut}
 use Rattle.hl_base.proofs.Files.{take_past}
-use Rattle.text_store.specs.Rest.{IsAt}
+use Rattle.text_store.specs.Rest.{IsAt, HasHeadBegun}
 
 -- a front of a front
-fronts : (m n : ℕ) (l : List ℕ) → (k : ℕ) × (take m (take n l) ≡ take k l)
+pub fronts : (m n : ℕ) (l : List ℕ) → (k : ℕ) × (take m (take n l) ≡ take k l)
 fronts zero n l = (0, refl)
 fronts (suc m) zero l = (0, refl)
 fronts (suc m) (suc n) [] = (0, refl)
@@ -66,7 +66,7 @@ module _ (front : List ℕ) (g : ℕ) (size : length front ≡ g) where
       ∙ append_assoc front (y ∷ []) rest
 
   -- a cut behind the gate leaves the gate
-  cut_form : (x : ℕ) (tail d c : List ℕ) → d ≡ front ++ x ∷ tail → Cut (g + 1) d c → c ≡ front ++ x ∷ take (length c - (g + 1)) tail
+  pub cut_form : (x : ℕ) (tail d c : List ℕ) → d ≡ front ++ x ∷ tail → Cut (g + 1) d c → c ≡ front ++ x ∷ take (length c - (g + 1)) tail
   cut_form x tail d c is cut =
       let long : length d ≡ g + 1 + length tail = ap length is ∙ longer x tail in
       let above : g + 1 ≤ length c = omega (arith, cut.no_shorter, long) in
@@ -94,3 +94,15 @@ module _ (front : List ℕ) (g : ℕ) (size : length front ≡ g) where
 
   pub end_at : (x : ℕ) (entry c : List ℕ) → Torn g 1 (front ++ x ∷ []) c → IsAt front entry c
   end_at x entry c torn = inr (get_or c g 0, 0, torn_gate x [] c torn)
+
+-- a write at the end of a file
+pub over_rest : (a b : List ℕ) (n : ℕ) → length a ≡ n → overwritten a n b ≡ a ++ b
+over_rest a b n size =
+    ap (λ (l : List ℕ). l ++ b ++ drop (n + length b) a) (take_at a (replicate (n - length a) 0) n size)
+    ∙ ap (λ (l : List ℕ). a ++ b ++ l) (drop_all (n + length b) a (omega (arith, size))) ∙ append-nil (a ++ b)
+
+-- the first bytes of a header are those of it without its gate
+pub head_of_header : (header head c : List ℕ) → header ≡ head ++ 0 ∷ [] → length header ≡ 33 → HasHeadBegun header c → HasHeadBegun head c
+head_of_header header head c same size (inl short) = inl short
+head_of_header header head c same size (inr begun) =
+    inr (begun.0 ∙ ap (λ (l : List ℕ). take 8 l) same ∙ take-append-le 8 head (0 ∷ []) (omega (arith, ap length same, length-append head (0 ∷ []), size)), begun.1)

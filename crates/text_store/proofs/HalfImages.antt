@@ -1,15 +1,15 @@
 -- The images of what a crash leaves while a record is put into a half.
-use Rattle.std.proofs.Common.{◌≡◌, ◌⊎◌, inl, inr, ⊎_elim, ℕ, ◌+◌, ◌<◌, ◌≤◌, ◌^◌, List, [], ◌∷◌, ◌++◌, length, take, drop, Option, None, Some, Result, Err, refl, sym, ◌∙◌, ap, subst, arith, append_assoc, take-append-drop, length-append}
+use Rattle.std.proofs.Common.{◌≡◌, ◌⊎◌, inl, inr, ⊎_elim, ℕ, ◌+◌, ◌<◌, ◌≤◌, ◌^◌, List, [], ◌∷◌, ◌++◌, length, take, drop, Option, None, Some, Err, refl, sym, ◌∙◌, ap, subst, arith, append_assoc, take-append-drop, length-append}
 use Rattle.std.proofs.lemmas.List.{take-append-le, take_at, drop_at}
 use Rattle.std.proofs.lemmas.Nat.{from_le_bytes-to_le_bytes_8}
 use Rattle.std.specs.Int.{w64, to_le_bytes, from_le_bytes}
 use Rattle.text_store.specs.Rest.{IsAt}
 use Rattle.text_store.specs.Entries.{Entry, body, open_entries, IsFront, IsRecord}
-use Rattle.text_store.specs.Image.{Half, NoImage, NotAStore, letters, live, live_of, chosen, image, image_of, other_image}
+use Rattle.text_store.specs.Image.{Half, NotAStore, letters, live, live_of, chosen, image, image_of, other_image}
 use Rattle.text_store.specs.Halves.{IsHalf, SameImage, HasEitherImage}
 use Rattle.text_store.proofs.OpenEntries.{shut_behind, front_grows, before_or_after}
 
-no_old_image : (file : List ℕ) → take 8 file ≡ letters ++ 2 ∷ [] → other_image file ≡ Err (NotAStore 0)
+pub no_old_image : (file : List ℕ) → take 8 file ≡ letters ++ 2 ∷ [] → other_image file ≡ Err (NotAStore 0)
 no_old_image file version =
     ap other_image (sym (take-append-drop 8 file) ∙ ap (λ (l : List ℕ). l ++ drop 8 file) version)
 
@@ -80,7 +80,7 @@ module _ (kind : ℕ) (payload : List ℕ) where
   length_grown front = omega (arith, length-append front (1 ∷ body kind payload), length_rest)
 
   module _ (fits : length payload < 2 ^ 64) where
-    size_reads : length (to_le_bytes w64 (length payload) ++ payload) ≡ 8 + from_le_bytes w64 (take 8 (to_le_bytes w64 (length payload) ++ payload))
+    pub size_reads : length (to_le_bytes w64 (length payload) ++ payload) ≡ 8 + from_le_bytes w64 (take 8 (to_le_bytes w64 (length payload) ++ payload))
     size_reads =
         length_rest ∙ ap (λ (n : ℕ). 8 + n) (sym (from_le_bytes-to_le_bytes_8 (length payload) fits))
         ∙ ap (λ (l : List ℕ). 8 + from_le_bytes w64 l) (sym (take_at (to_le_bytes w64 (length payload)) payload 8 length_count))

@@ -1,6 +1,6 @@
 -- How a record more at a file's end changes its open records.
-use Rattle.std.proofs.Common.{◌≡◌, ◌≢◌, ◌⊎◌, inl, inr, ℕ, zero, suc, ◌+◌, ◌-◌, ◌≤◌, ◌<◌, min, Bool, true, false, List, [], ◌∷◌, ◌++◌, length, take, drop, if◌then◌else◌, ◌==◌, ◌&&◌, nat_lt, refl, sym, ◌∙◌, ap, subst, arith, append_assoc, length-append, length-take, length-drop}
-use Rattle.std.specs.Int.{w64, to_le_bytes, from_le_bytes}
+use Rattle.std.proofs.Common.{◌≡◌, ◌≢◌, ◌⊎◌, inl, inr, ℕ, zero, suc, ◌+◌, ◌≤◌, ◌<◌, List, [], ◌∷◌, ◌++◌, length, take, drop, if◌then◌else◌, ◌==◌, ◌&&◌, nat_lt, refl, sym, ◌∙◌, ap, arith, append_assoc, length-append, length-take, length-drop}
+use Rattle.std.specs.Int.{w64, from_le_bytes}
 use Rattle.std.proofs.lemmas.Bool.{cases_eq, cases_lt}
 use Rattle.std.proofs.lemmas.Bool.Decides.{nat_tests}
 use Rattle.std.proofs.lemmas.List.{take_at, drop_at, take_all, append-nil, take-append-le, drop-append-le, take-take}
@@ -78,7 +78,7 @@ cut_record (suc n) at kind k r size le =
     ])
 
 -- a lone gate is none
-lone_gate : (n at gate : ℕ) → open_from n at (gate ∷ []) ≡ []
+pub lone_gate : (n at gate : ℕ) → open_from n at (gate ∷ []) ≡ []
 unfolding open_from
 lone_gate zero at gate = refl
 lone_gate (suc n) at gate = refl

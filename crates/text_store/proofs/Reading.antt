@@ -1,21 +1,17 @@
 -- How the records of a file are read one after the other.
-use Rattle.std.proofs.Common.{◌≡◌, ◌≢◌, ℕ, zero, suc, ◌+◌, ◌-◌, ◌<◌, ◌≤◌, List, [], ◌∷◌, ◌++◌, length, get_or, take, drop, refl, sym, ◌∙◌, ap, subst, arith, append_assoc, length-drop}
+use Rattle.std.proofs.Common.{◌≡◌, ◌≢◌, ℕ, zero, suc, ◌+◌, ◌-◌, ◌<◌, ◌≤◌, List, [], ◌∷◌, ◌++◌, length, get_or, min, take, drop, refl, sym, ◌∙◌, ap, arith, length-drop, length-take, subst, take-append-drop}
 use Rattle.std.specs.Int.{w64, from_le_bytes}
-use Rattle.std.proofs.lemmas.List.{drop_more, drop-drop, append-nil}
-use Rattle.text_store.specs.declared.records.Record.{Record}
-use Rattle.text_store.specs.Entries.{Entry, open_from, open_entries}
-use Rattle.text_store.specs.Reads.{entry_of, entries_of, from_place}
-use Rattle.text_store.proofs.OpenEntries.{taken, not_whole, enough, shut_gate}
+use Rattle.std.proofs.lemmas.List.{drop_more, drop-drop, take-take, drop-take}
+use Rattle.hl_base.proofs.Files.{take_past}
+use Rattle.text_store.specs.Entries.{Entry, open_from, open_entries, IsFront}
+use Rattle.text_store.specs.Reads.{from_place}
+use Rattle.text_store.proofs.OpenEntries.{taken, not_whole, enough, shut_gate, front_grows}
 
 pub begins : (header : ℕ) (file : List ℕ) → open_entries header file ≡ from_place file header
 unfolding open_entries
 begins header file = refl
 
-pub entries_push : (file : List ℕ) (records : List Record) (r : Record) → entries_of file (records ++ r ∷ []) ≡ entries_of file records ++ entry_of file r ∷ []
-entries_push file [] r = refl
-entries_push file (k ∷ records) r = ap (λ (l : List Entry). entry_of file k ∷ l) (entries_push file records r)
-
-short_none : (n at : ℕ) (bytes : List ℕ) → length bytes < 11 → open_from n at bytes ≡ []
+pub short_none : (n at : ℕ) (bytes : List ℕ) → length bytes < 11 → open_from n at bytes ≡ []
 unfolding open_from
 short_none zero at bytes short = refl
 short_none (suc n) at [] short = refl
@@ -69,3 +65,25 @@ module _ (file : List ℕ) (at : ℕ) (inside : at + 11 ≤ length file) (is_ope
       ∙ one_entry (length file) at kind rest (omega (arith, length-drop (at + 2) file)) (omega (arith, length-drop (at + 2) file, is))
       ∙ ap (λ (k : ℕ). record { at = at; kind = kind; payload = take k (drop 8 rest) } ∷ open_from (length file) (at + 10 + k) (drop (8 + k) rest)) (sym is)
       ∙ (λ i. record { at = at; kind = kind; payload = take len (payload_at i) } ∷ open_from (length file) (at + 10 + len) (behind i))
+
+  -- up to the gate behind it
+  pub next_front : (len : ℕ) → len ≡ from_le_bytes w64 (take 8 (drop (at + 2) file)) → len < length file - at - 10 → (header : ℕ) (entries : List Entry)
+      → IsFront header (take at file) entries
+      → IsFront header (take (at + 10 + len) file) (entries ++ record { at = at; kind = get_or file (at + 1) 0; payload = take len (drop (at + 10) file) } ∷ [])
+  next_front len is whole header entries front =
+      let kind = get_or file (at + 1) 0 in
+      let rest = take (8 + len) (drop (at + 2) file) in
+      let long : length rest ≡ 8 + len = omega (arith, length-take (8 + len) (drop (at + 2) file), length-drop (at + 2) file, whole, inside) in
+      let eight : take 8 rest ≡ take 8 (drop (at + 2) file) = take-take 8 (8 + len) (drop (at + 2) file) (omega arith) in
+      let reads : length rest ≡ 8 + from_le_bytes w64 (take 8 rest) = long ∙ ap (λ (n : ℕ). 8 + n) (is ∙ ap (λ (l : List ℕ). from_le_bytes w64 l) (sym eight)) in
+      let payload : drop 8 rest ≡ take len (drop (at + 10) file) =
+      drop-take 8 len (drop (at + 2) file) ∙ ap (λ (l : List ℕ). take len l) (drop-drop 8 (at + 2) file ∙ ap (λ (k : ℕ). drop k file) (omega arith)) in
+      let size : length (take at file) ≡ at = omega (arith, length-take at file, inside) in
+      let bytes : take at file ++ 1 ∷ kind ∷ rest ≡ take (at + 10 + len) file =
+      ap (λ (l : List ℕ). take at file ++ l) (ap (λ (l : List ℕ). take (suc (suc (8 + len))) l) (sym split))
+      ∙ sym (take_past (take at file) (drop at file) (at + 10 + len) (suc (suc (8 + len))) (omega (arith, size)))
+      ∙ ap (λ (l : List ℕ). take (at + 10 + len) l) (take-append-drop at file) in
+      subst (λ (l : List ℕ). IsFront header l (entries ++ record { at = at; kind = kind; payload = take len (drop (at + 10) file) } ∷ [])) bytes
+      (subst (λ (p : List ℕ). IsFront header (take at file ++ 1 ∷ kind ∷ rest) (entries ++ record { at = at; kind = kind; payload = p } ∷ [])) payload
+      (subst (λ (n : ℕ). IsFront header (take at file ++ 1 ∷ kind ∷ rest) (entries ++ record { at = n; kind = kind; payload = drop 8 rest } ∷ [])) size
+      (front_grows header (take at file) entries front kind rest reads)))

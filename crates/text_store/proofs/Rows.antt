@@ -1,5 +1,5 @@
 -- The image of written files, computed.
-use Rattle.std.specs.Prelude.{◌≡◌, ℕ, List, [], ◌∷◌, ◌++◌, Ok, Err, refl}
+use Rattle.std.specs.Prelude.{◌≡◌, ℕ, List, [], ◌∷◌, Ok, Err, refl}
 use Rattle.text_store.specs.Entries.{open_from, open_entries}
 use Rattle.text_store.specs.Image.{image, NotAStore, Newer}
 

@@ -1,5 +1,6 @@
 -- The records of changes.
-use Rattle.std.specs.Prelude.{ℕ, ◌<◌, ◌^◌, List, ◌++◌, length}
+use Rattle.std.specs.Prelude.{◌≡◌, ℕ, ◌<◌, ◌^◌, true, List, [], ◌∷◌, ◌++◌, length}
+use Rattle.std.specs.Str.{is_utf8}
 use Rattle.std.specs.Int.{w32, w64, to_le_bytes}
 use Rattle.hl_base.specs.declared.change.Latest.{Latest}
 use Rattle.hl_base.specs.declared.change.Splice.{Splice as Part}
@@ -30,3 +31,19 @@ abbrev pub HasShortName : Change → Type 0
 HasShortName (Splice splice) = Unit {0}
 HasShortName (Whole text) = Unit {0}
 HasShortName (Import latest splice) = length latest.name < 2 ^ 32
+
+-- numbers that fit their bytes, and text
+abbrev pub IsPart : Part → Type 0
+IsPart splice = (splice.at < 2 ^ 64) × (splice.removed < 2 ^ 64)
+
+abbrev pub IsState : Latest → Type 0
+IsState latest = (is_utf8 latest.name ≡ true) × (latest.day < 2 ^ 32) × (latest.count < 2 ^ 32)
+
+abbrev pub IsChange : Change → Type 0
+IsChange (Splice splice) = IsPart splice
+IsChange (Whole text) = Unit {0}
+IsChange (Import latest splice) = IsState latest × IsPart splice
+
+abbrev pub AreStates : List Latest → Type 0
+AreStates [] = Unit {0}
+AreStates (latest ∷ rest) = IsState latest × AreStates rest

@@ -3,18 +3,14 @@ use Rattle.std.specs.Prelude.{ℕ, zero, suc, ◌+◌, ◌%◌, ◌^◌, Bool, t
 use Rattle.std.specs.Int.{w32, w64, from_le_bytes}
 use Rattle.std.specs.Str.{is_utf8, bytes_eq}
 use Rattle.std.specs.List.{list_any}
+use Rattle.hl_base.specs.declared.change.Latest.{Latest}
+use Rattle.text_store.specs.declared.image.Image.{Image}
 use Rattle.text_store.specs.Entries.{Entry, open_entries}
-
--- an import's name, the latest day of its entries, and how many entries of that day it took
-pub record Mark : Type 0 where
-  pub name : List ℕ
-  pub day : ℕ
-  pub count : ℕ
 
 -- the text and the import states
 pub record Content : Type 0 where
   pub text : List ℕ
-  pub latest : List Mark
+  pub latest : List Latest
 
 -- the number in a list's first four or eight bytes, low byte first
 abbrev pub number_4 : List ℕ → ℕ
@@ -24,7 +20,7 @@ abbrev pub number_8 : List ℕ → ℕ
 number_8 bytes = from_le_bytes w64 (take 8 bytes)
 
 -- a name's length in four bytes, the name, a day and a count in four each, and what stands behind them
-abbrev pub mark_at : List ℕ → Option (Mark × List ℕ)
+abbrev pub mark_at : List ℕ → Option (Latest × List ℕ)
 mark_at bytes =
     let size = number_4 bytes in
     let name = take size (drop 4 bytes) in
@@ -32,11 +28,11 @@ mark_at bytes =
     then Some (record { name = name; day = number_4 (drop (4 + size) bytes); count = number_4 (drop (8 + size) bytes) }, drop (12 + size) bytes)
     else None
 
-abbrev pub same_name : Mark → Mark → Bool
+abbrev pub same_name : Latest → Latest → Bool
 same_name a b = bytes_eq a.name b.name
 
 -- the states, with this one in the place of that of its name, or behind them
-abbrev pub with_mark : Mark → List Mark → List Mark
+abbrev pub with_mark : Latest → List Latest → List Latest
 with_mark mark [] = mark ∷ []
 with_mark mark (m ∷ marks) = if same_name m mark then mark ∷ marks else m ∷ with_mark mark marks
 
@@ -49,11 +45,11 @@ spliced text payload =
     then Some (take at text ++ drop 16 payload ++ drop (at + removed) text)
     else None
 
-abbrev pub with_text : List Mark → Option (List ℕ) → Option Content
+abbrev pub with_text : List Latest → Option (List ℕ) → Option Content
 with_text latest None = None
 with_text latest (Some text) = Some (record { text = text; latest = latest })
 
-abbrev pub imported : Content → Option (Mark × List ℕ) → Option Content
+abbrev pub imported : Content → Option (Latest × List ℕ) → Option Content
 imported content None = None
 imported content (Some (mark, payload)) =
     let latest = with_mark mark content.latest in
@@ -77,45 +73,46 @@ abbrev pub folded : List Entry → Content → Result Content ℕ
 folded [] content = Ok content
 folded (entry ∷ entries) content = going_on (changed content entry) entry.at (λ next. folded entries next)
 
-abbrev pub with_first : Mark → Option (List Mark × List ℕ) → Option (List Mark × List ℕ)
+abbrev pub with_first : Latest → Option (List Latest × List ℕ) → Option (List Latest × List ℕ)
 with_first mark None = None
 with_first mark (Some (marks, rest)) = Some (mark ∷ marks, rest)
 
-abbrev pub more_marks : Option (Mark × List ℕ) → (List ℕ → Option (List Mark × List ℕ)) → Option (List Mark × List ℕ)
+abbrev pub more_marks : Option (Latest × List ℕ) → (List ℕ → Option (List Latest × List ℕ)) → Option (List Latest × List ℕ)
 more_marks None next = None
 more_marks (Some (mark, rest)) next = with_first mark (next rest)
 
 -- so many import states, and what stands behind them
-abbrev pub marks_at : ℕ → List ℕ → Option (List Mark × List ℕ)
+abbrev pub marks_at : ℕ → List ℕ → Option (List Latest × List ℕ)
 marks_at zero bytes = Some ([], bytes)
 marks_at (suc n) bytes = more_marks (mark_at bytes) (λ rest. marks_at n rest)
 
-abbrev pub have_own_names : List Mark → Bool
+abbrev pub have_own_names : List Latest → Bool
 have_own_names [] = true
 have_own_names (mark ∷ marks) = not (list_any (same_name mark) marks) && have_own_names marks
 
 -- the payload of a C: the number of import states in four bytes, the states, and the text; none, where it doesn't read
-abbrev pub content_of : Option (List Mark × List ℕ) → Option Content
+abbrev pub content_of : Option (List Latest × List ℕ) → Option Content
 content_of None = None
 content_of (Some (marks, text)) = if have_own_names marks then Some (record { text = text; latest = marks }) else None
 
 abbrev pub checkpointed : List ℕ → Option Content
 checkpointed payload = if nat_le 4 (length payload) then content_of (marks_at (number_4 payload) (drop 4 payload)) else None
 
--- a half of version 2: its generation, its base revision, its content at the first record, and the records behind that
+-- a half of version 2: its limit, its generation, its base revision, its content at the first record, and the records behind that
 pub record Half : Type 0 where
+  pub limit : ℕ
   pub generation : ℕ
   pub base : ℕ
   pub start : Content
   pub entries : List Entry
 
-abbrev pub started : ℕ → ℕ → Option Content → List Entry → Option Half
-started generation base None entries = None
-started generation base (Some start) entries = Some (record { generation = generation; base = base; start = start; entries = entries })
+abbrev pub started : ℕ → ℕ → ℕ → Option Content → List Entry → Option Half
+started limit generation base None entries = None
+started limit generation base (Some start) entries = Some (record { limit = limit; generation = generation; base = base; start = start; entries = entries })
 
-abbrev pub first_of : ℕ → ℕ → List Entry → Option Half
-first_of generation base [] = None
-first_of generation base (entry ∷ entries) = if entry.kind == 67 then started generation base (checkpointed entry.payload) entries else None
+abbrev pub first_of : ℕ → ℕ → ℕ → List Entry → Option Half
+first_of limit generation base [] = None
+first_of limit generation base (entry ∷ entries) = if entry.kind == 67 then started limit generation base (checkpointed entry.payload) entries else None
 
 abbrev pub letters : List ℕ
 letters = codes "HLSTORE"
@@ -127,7 +124,7 @@ live_of head entries =
     let generation = number_8 (drop 16 head) in
     let base = number_8 (drop 24 head) in
     if bytes_eq (take 8 head) (letters ++ 2 ∷ []) && nat_le generation 2 && nat_le base (2 ^ 62)
-    then first_of generation base entries
+    then first_of (number_8 (drop 8 head)) generation base entries
     else None
 
 abbrev pub live : List ℕ → Option Half
@@ -138,11 +135,6 @@ abbrev pub chosen : Option Half → Option Half → Option Half
 chosen None second = second
 chosen (Some first) None = Some first
 chosen (Some first) (Some second) = if second.generation == (first.generation + 1) % 3 then Some second else Some first
-
-pub record Image : Type 0 where
-  pub text : List ℕ
-  pub latest : List Mark
-  pub revision : ℕ
 
 -- why two files have no image: no store, with a place, or a newer version
 pub data NoImage : Type 0 where

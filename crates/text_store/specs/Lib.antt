@@ -1,7 +1,15 @@
 pub mod Changes
+pub mod Contents
+pub mod Edits
+pub mod Ends
 pub mod Entries
+pub mod Faults
+pub mod Files
+pub mod Found
 pub mod Halves
 pub mod Image
 pub mod Reads
+pub mod Refusals
 pub mod Rest
 pub mod Settled
+pub mod Stores

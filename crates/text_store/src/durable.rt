@@ -16,6 +16,7 @@ pub fn write_durably<D: Disk>(device: &mut D, at: u64, piece: &[u8]) -> Result<(
     ensures reach { D.reach device.new ≡ max (D.reach device.old) (at + length piece.now) }
     ensures cause { HasCause (D.failures device.old) (D.failures device.new) result }
     ensures tells { D.tells_crashes device.new ≡ D.tells_crashes device.old }
+    ensures unfailing { D.unfailing_to device.new ≡ D.unfailing_to device.old }
 {
     device.write_at(at, piece)?;
     device.sync()
@@ -30,6 +31,7 @@ pub fn cut_durably<D: Disk>(device: &mut D, len: u64) -> Result<(), Failed>
     ensures reach { D.reach device.new ≡ max (D.reach device.old) len }
     ensures cause { HasCause (D.failures device.old) (D.failures device.new) result }
     ensures tells { D.tells_crashes device.new ≡ D.tells_crashes device.old }
+    ensures unfailing { D.unfailing_to device.new ≡ D.unfailing_to device.old }
 {
     device.cut(len)?;
     device.sync()

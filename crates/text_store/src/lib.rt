@@ -2,13 +2,19 @@
 #![tactic(auto)]
 
 mod change;
+mod disk_whole;
 mod durable;
 mod fault;
+mod finding;
+mod folding;
 mod gate;
 mod half;
+mod image;
 mod records;
+mod store;
+mod whole;
 
 pub use change::Change;
 pub use fault::StoreFault;
-pub use half::Half;
-pub use records::{Record, read_records};
+pub use image::Image;
+pub use store::Store;

@@ -1,11 +1,7 @@
 //! The open records of a file.
-ghost use Rattle.std.specs.Prelude.{◌≡◌, ◌≤◌, ◌+◌, List, length, take, drop, IfOk};
+ghost use Rattle.std.specs.Prelude.{◌≡◌, ◌≤◌, ◌+◌, length, take, drop};
 ghost use Rattle.std.specs.Int.{w64, from_le_bytes};
-ghost use Rattle.text_store.specs.Entries.{open_entries};
-ghost use Rattle.text_store.specs.Reads.{entries_of, IsNext};
-
-use hl_base::Memory;
-use std::alloc::Global;
+ghost use Rattle.text_store.specs.Reads.{IsNext};
 
 /// An open record: the place of its gate in the file, its kind, and the place and the length of its payload.
 #[derive(Clone, Copy, Debug)]
@@ -16,21 +12,8 @@ pub struct Record {
     pub len: usize,
 }
 
-/// The open records of a file behind a header of so many bytes.
-pub fn read_records(alloc: Global, file: &[u8], header: usize) -> Result<Vec<Record>, Memory>
-    ensures { IfOk result (λ records. entries_of file.now records.items ≡ open_entries header file.now) }
-{
-    let mut records = Vec::new(alloc);
-    let mut at = header;
-    while let Some(record) = record_at(file, at) {
-        records.push(record)?;
-        at = record.payload + record.len;
-    }
-    Ok(records)
-}
-
-// The record whose gate is at a place, if it is open.
-fn record_at(file: &[u8], at: usize) -> Option<Record>
+/// The record whose gate is at a place, if it is open.
+pub fn record_at(file: &[u8], at: usize) -> Option<Record>
     ensures { IsNext file.now at result }
 {
     if file.len().saturating_sub(at) < 11 {
@@ -51,8 +34,8 @@ fn record_at(file: &[u8], at: usize) -> Option<Record>
     })
 }
 
-// The number in eight bytes, low byte first.
-fn number_at(file: &[u8], at: usize) -> u64
+/// The number in eight bytes, low byte first.
+pub fn number_at(file: &[u8], at: usize) -> u64
     requires { at + 8 ≤ length file.now }
     ensures { result ≡ from_le_bytes w64 (take 8 (drop at file.now)) }
 {
@@ -69,12 +52,13 @@ mod tests {
     #[test]
     fn open_records_are_read(rt: HostRuntime) -> Result<(), Fail> {
         let file = b"head\x01T\x02\0\0\0\0\0\0\0ab\x01S\0\0\0\0\0\0\0\0\0T\x01\0\0\0\0\0\0\0c\0";
-        let records = read_records(rt.alloc(), file, 4)?;
-        assert_eq!(rt; records.len(), 2);
-        assert_eq!(rt; records[0].kind, b'T');
-        assert_eq!(rt; records[0].len, 2);
-        assert_eq!(rt; records[1].at, 16);
-        assert_eq!(rt; records[1].payload, 26);
+        let first = record_at(file, 4).ok_or("the first")?;
+        assert_eq!(rt; first.kind, b'T');
+        assert_eq!(rt; first.len, 2);
+        let second = record_at(file, first.payload + first.len).ok_or("the second")?;
+        assert_eq!(rt; second.at, 16);
+        assert_eq!(rt; second.payload, 26);
+        assert!(rt; record_at(file, second.payload).is_none());
         Ok(())
     }
 }

@@ -1,6 +1,6 @@
 use Rattle.std.proofs.Common.{◌≡◌, ◌++◌, ◌∙◌, map}
 use Rattle.std.specs.List.{flat_map}
-use Rattle.book.specs.Style.{style_in}
+use Rattle.book.specs.Styles.{style_in}
 use Rattle.reports.specs.Cells.{row_seen, seen}
 use Rattle.balance_report.specs.BalanceList.{widest}
 use Rattle.balance_report.specs.Shown.{list_lines}

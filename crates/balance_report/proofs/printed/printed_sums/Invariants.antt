@@ -1,5 +1,5 @@
 use Rattle.std.proofs.Common.{◌≡◌, take}
-use Rattle.book.specs.Style.{style_in}
+use Rattle.book.specs.Styles.{style_in}
 use Rattle.reports.specs.Cells.{seen}
 use Rattle.balance_report.specs.BalanceList.{texts_of}
 use Rattle.balance_report.proofs.printed.printed_sums.Given as goal

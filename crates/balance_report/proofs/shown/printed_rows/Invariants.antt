@@ -1,5 +1,5 @@
 use Rattle.std.proofs.Common.{◌≡◌, map, take}
-use Rattle.book.specs.Style.{style_in}
+use Rattle.book.specs.Styles.{style_in}
 use Rattle.reports.specs.Cells.{row_seen}
 use Rattle.balance_report.specs.Shown.{shown_rows}
 use Rattle.balance_report.proofs.shown.printed_rows.Given as goal

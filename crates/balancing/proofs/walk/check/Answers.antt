@@ -1,39 +1,36 @@
-use Rattle.std.proofs.Common.{◌^◌, List, subst, sym, ap, ◌∙◌, rules}
-use Rattle.std.proofs.lemmas.Iterator.Adapters.{YieldsList-from_vec}
-use Rattle.std.proofs.lemmas.Iterator.Consumers.{YieldsList-turn, YieldsList-end}
-use Rattle.std.proofs.lemmas.List.{map-id}
+use Rattle.std.proofs.Common.{◌≡◌, List, Option, Some, None, Ok, sym, ap, ◌∙◌, subst}
+use Rattle.book.specs.declared.fault.Fault.{Fault}
 use Rattle.book.specs.declared.transaction.Txn.{Txn}
-use Rattle.book.specs.declared.item.Placed.{Placed}
 use Rattle.book.specs.Postings.{postings_of, txns_of}
-use Rattle.book.specs.Bounds.{AreSmall}
-use Rattle.balancing.specs.Check.{HasOneSymbol}
-use Rattle.balancing.specs.First.{IsFirstFault}
-use Rattle.balancing.proofs.Bounds.{AreSmall-at, AreSmall-item, AllByRecursion-item, TurnoverFits-from_small}
+use Rattle.balancing.specs.Groups.{groups_of}
+use Rattle.balancing.specs.Load.{first_fault}
+use Rattle.balancing.proofs.Whole.{told_of, whole_book, book_ok, book_fault}
+use Rattle.balancing.proofs.Turned.{book-fits}
+use Rattle.book.specs.Bounds.{TurnoverFits}
 use Rattle.balancing.proofs.walk.check.Goals as goal
 
-pub first_with-first-requires-clause-small : goal.first_with-first-requires-clause-small
-first_with-first-requires-clause-small c =
-    let turn = YieldsList-turn (YieldsList-from_vec {s = c.into_iter-placed-iterator.result} c.args.items (search rules) (search rules)) c.loop-placed.yielded c.loop-placed.placed-iterator c.loop-placed.yielded_by c.next.result c.next.new.self c.in-Some.placed c.in-Some.is c.next.ensures.steps in
-    AreSmall-item _ c.args.items _ c.in-Some.placed c.in-Txn.txn turn.0 (ap (λ (x : Placed). x.item) (sym turn.1) ∙ c.in-Txn.is) c.requires.small
+pub returns-in-Ok-None-clause-answer : goal.returns-in-Ok-None-clause-answer
+returns-in-Ok-None-clause-answer c =
+    let written = txns_of c.args.items in
+    let e = c.in-Ok.entries in
+    let told = told_of written e.txns.items e.causes.items e.groups.items c.in-Ok-in_order.groups.items c.deref.result.now c.deref-2.result.now c.deref-3.result.now c.in-Ok-None.field-0
+    c.in-Ok.ensures c.in-Ok-in_order.ensures c.deref.ensures.value c.deref-2.ensures.value c.deref-3.ensures.value c.in-Ok-None.ensures in
+    book_ok written e.txns.items e.causes.items c.in-Ok.ensures.settled (sym c.in-Ok-None.field-0-is ∙ told.is)
+    ∙ ap (λ (ts : List Txn). Ok (record { txns = ts })) (sym c.from_vec.ensures)
 
-pub first_with-first-requires-clause-one_symbol : goal.first_with-first-requires-clause-one_symbol
-first_with-first-requires-clause-one_symbol c =
-    let turn = YieldsList-turn (YieldsList-from_vec {s = c.into_iter-placed-iterator.result} c.args.items (search rules) (search rules)) c.loop-placed.yielded c.loop-placed.placed-iterator c.loop-placed.yielded_by c.next.result c.next.new.self c.in-Some.placed c.in-Some.is c.next.ensures.steps in
-    AllByRecursion-item HasOneSymbol c.args.items _ c.in-Some.placed c.in-Txn.txn turn.0 (ap (λ (x : Placed). x.item) (sym turn.1) ∙ c.in-Txn.is) c.requires.one_symbol
+pub returns-in-Ok-None-clause-fits : goal.returns-in-Ok-None-clause-fits
+returns-in-Ok-None-clause-fits c =
+    let written = txns_of c.args.items in
+    let e = c.in-Ok.entries in
+    let told = told_of written e.txns.items e.causes.items e.groups.items c.in-Ok-in_order.groups.items c.deref.result.now c.deref-2.result.now c.deref-3.result.now c.in-Ok-None.field-0
+    c.in-Ok.ensures c.in-Ok-in_order.ensures c.deref.ensures.value c.deref-2.ensures.value c.deref-3.ensures.value c.in-Ok-None.ensures in
+    let book = c.from_vec.ensures ∙ whole_book written e.txns.items e.causes.items c.in-Ok.ensures.settled (sym c.in-Ok-None.field-0-is ∙ told.is) in
+    subst (λ (ts : List Txn). TurnoverFits (postings_of ts)) (sym book) (book-fits written (told.within c.in-Ok-None.field-0-is) (told.few c.in-Ok-None.field-0-is))
 
-pub fault_in-requires-clause-small : goal.fault_in-requires-clause-small
-fault_in-requires-clause-small c =
-    let end = YieldsList-end (YieldsList-from_vec {s = c.into_iter-placed-iterator.result} c.args.items (search rules) (search rules)) c.loop-placed.yielded c.loop-placed.placed-iterator c.loop-placed.yielded_by c.next.result c.next.new.self c.in-None.is c.next.ensures.steps in
-    let whole = c.loop-placed.invariant.txns ∙ ap txns_of (sym (map-id c.loop-placed.yielded) ∙ end.0) in
-    let Small : List Txn → Type 0 = λ ts. AreSmall (2 ^ 24) (postings_of ts) in
-    let SmallTxn : Txn → Type 0 = λ t. AreSmall (2 ^ 24) t.postings in
-    let points = subst (IsFirstFault c.loop-placed.txns.items) c.in-Some-first.is c.loop-placed.invariant.first in
-    subst SmallTxn (sym c.index.ensures)
-    (AreSmall-at (2 ^ 24) c.loop-placed.txns.items c.in-Some-first.found.at c.index.result.now points.1.within (subst Small (sym whole) c.requires.small))
-
-pub returns-in-None-first-clause-fits : goal.returns-in-None-first-clause-fits
-returns-in-None-first-clause-fits c =
-    let end = YieldsList-end (YieldsList-from_vec {s = c.into_iter-placed-iterator.result} c.args.items (search rules) (search rules)) c.loop-placed.yielded c.loop-placed.placed-iterator c.loop-placed.yielded_by c.next.result c.next.new.self c.in-None.is c.next.ensures.steps in
-    let whole = c.from_vec.ensures ∙ c.loop-placed.invariant.txns ∙ ap txns_of (sym (map-id c.loop-placed.yielded) ∙ end.0) in
-    let Small : List Txn → Type 0 = λ ts. AreSmall (2 ^ 24) (postings_of ts) in
-    TurnoverFits-from_small _ (subst Small (sym whole) c.requires.small)
+pub returns-in-Ok-Some-clause-answer : goal.returns-in-Ok-Some-clause-answer
+returns-in-Ok-Some-clause-answer c =
+    let written = txns_of c.args.items in
+    let e = c.in-Ok.entries in
+    let told = told_of written e.txns.items e.causes.items e.groups.items c.in-Ok-in_order.groups.items c.deref.result.now c.deref-2.result.now c.deref-3.result.now c.in-Ok-Some.field-0
+    c.in-Ok.ensures c.in-Ok-in_order.ensures c.deref.ensures.value c.deref-2.ensures.value c.deref-3.ensures.value c.in-Ok-Some.ensures in
+    book_fault written c.in-Ok-Some.fault (sym c.in-Ok-Some.field-0-is ∙ told.is)

@@ -17,7 +17,7 @@ returns-in-Err-clause-read_fault g c = λ e.
 pub returns-in-Err-clause-write_fault : goal.returns-in-Err-clause-write_fault
 returns-in-Err-clause-write_fault g c = λ e. (
   inr (unwritten _ _ _ _ _ _ _ c.in-Err.ensures.usage c.refuse.ensures.told e),
-  none_written _ _ (λ text. (outcome c.args.words.now text).output),
+  none_written _ _ (λ text. (outcome c.args.words.now c.args.day.0 text).output),
 )
 
 pub returns-in-Err-clause-memory : goal.returns-in-Err-clause-memory

@@ -1,6 +1,4 @@
-use Rattle.std.proofs.Common.{◌≡◌, ◌+◌, ◌∙◌, [], List, ℕ, take, length, min, ap, arith, sym, rules}
-use Rattle.hl_base.specs.Surface.{Held}
-use Rattle.hl_base.specs.Calls.{history}
+use Rattle.std.proofs.Common.{◌≡◌, ◌∙◌, List, ℕ, take, length, min, ap, arith, sym}
 use Rattle.hl_base.proofs.Replays.{stop_equals, on_ok_map}
 use Rattle.hl_base.proofs.disk_record.replay.Goals as goal
 

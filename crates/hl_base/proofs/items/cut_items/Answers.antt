@@ -1,9 +1,9 @@
 use Rattle.hl_base.specs.declared.items.Piece.{Piece}
-use Rattle.std.proofs.Common.{◌≡◌, ◌+◌, ◌-◌, ◌++◌, List, [], ◌∷◌, subst, length, drop, ap, sym, ◌∙◌, arith, rules, append_assoc, append-nil}
+use Rattle.std.proofs.Common.{◌≡◌, ◌+◌, ◌-◌, ◌++◌, List, [], ◌∷◌, subst, length, drop, ap, sym, ◌∙◌, arith, append_assoc, append-nil}
 use Rattle.std.specs.List.{AllByRecursion}
 use Rattle.std.proofs.lemmas.List.Sums.{sum_by-append}
 use Rattle.hl_base.specs.Lines.{first_line, lines_of}
-use Rattle.hl_base.specs.Items.{kind_of, cut_from, items_of}
+use Rattle.hl_base.specs.Items.{kind_of, cut_from}
 use Rattle.hl_base.specs.Pieces.{IsWithin, bytes_in, lines_left, bytes_left}
 use Rattle.hl_base.proofs.CutLemmas.{cut_step, each_push, cut_end}
 use Rattle.hl_base.proofs.items.cut_items.Goals as goal

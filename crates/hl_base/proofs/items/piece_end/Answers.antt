@@ -1,6 +1,6 @@
-use Rattle.std.proofs.Common.{◌≡◌, ◌+◌, Bool, true, false, length, drop, ap, sym, ◌∙◌, arith, rules}
+use Rattle.std.proofs.Common.{◌≡◌, true, false, drop, ap, sym, ◌∙◌, arith}
 use Rattle.hl_base.specs.Lines.{first_line}
-use Rattle.hl_base.specs.Pieces.{goes_on, closes, lines_left, bytes_left}
+use Rattle.hl_base.specs.Pieces.{goes_on, closes}
 use Rattle.hl_base.proofs.CutLemmas.{left_end, left_stop, left_close, left_step}
 use Rattle.hl_base.proofs.items.piece_end.Goals as goal
 

@@ -1,4 +1,4 @@
-use Rattle.std.proofs.Common.{◌≡◌, ◌-◌, ◌+◌, length, drop, take, ap, ◌∙◌, arith}
+use Rattle.std.proofs.Common.{◌≡◌, ◌-◌, length, drop, take, ap, ◌∙◌, arith}
 use Rattle.hl_base.specs.Lines.{first_line}
 use Rattle.hl_base.proofs.LineLemmas.{take_first}
 use Rattle.hl_base.proofs.line.line_at.Goals as goal

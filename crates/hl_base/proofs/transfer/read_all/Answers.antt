@@ -1,4 +1,4 @@
-use Rattle.std.proofs.Common.{◌≡◌, ℕ, Err, Ok, IfErr}
+use Rattle.std.proofs.Common.{ℕ}
 use Rattle.std.proofs.lemmas.Result.{err_from_is_err_and}
 use Rattle.hl_base.specs.declared.transfer.ReadAllFault.{ReadAllFault}
 use Rattle.hl_base.specs.declared.transfer.ReadAllFault.TheVariants as fault

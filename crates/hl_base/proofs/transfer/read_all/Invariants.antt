@@ -1,4 +1,4 @@
-use Rattle.std.proofs.Common.{◌≡◌, ◌<◌, ◌≤◌, ◌+◌, ◌-◌, ◌++◌, ℕ, List, Option, Some, length, IfSome, vec_len}
+use Rattle.std.proofs.Common.{◌≡◌, ◌<◌, ◌≤◌, ◌+◌, ◌-◌, ◌++◌, ℕ, List, Some, IfSome, vec_len}
 use Rattle.hl_base.proofs.transfer.read_all.Given as goal
 
 -- what was there is what was read and what is left
@@ -9,7 +9,7 @@ invariant-loop-bytes g l =
       room : 0 < vec_len l.room;
       bound : vec_len l.bytes ≤ l.limit + 1;
       left : IfSome (source.left l.fn.source) (λ all. (rest : List ℕ) × (source.left l.source ≡ Some rest) × (all ≡ l.bytes.items ++ rest));
-      counted : source.faults l.fn.source ≤ source.faults l.source;
+      counted : source.faults l.source ≡ source.faults l.fn.source;
       sound : source.IsSound l.fn.source → source.IsSound l.source;
     }
 

@@ -1,4 +1,4 @@
-use Rattle.std.proofs.Common.{◌≡◌, ℕ, ◌+◌, ◌-◌, ◌≤◌, length, subst, sym, arith, rules, length-drop}
+use Rattle.std.proofs.Common.{◌≡◌, ℕ, ◌+◌, ◌-◌, length, subst, sym, ◌∙◌, arith, length-drop}
 use Rattle.hl_base.proofs.Transfers.{written_more}
 use Rattle.hl_base.proofs.transfer.write_all.Goals as goal
 
@@ -12,7 +12,7 @@ loop-at-preserved g c =
     record {
       within = omega (arith, c.in_ok-at.ensures.within, length-drop at text);
       told = written_more _ _ _ text rest at count c.split_at.ensures.back c.loop-at.invariant.told c.in_ok-at.ensures.told;
-      counted = omega (arith, c.loop-at.invariant.counted, c.write.ensures.counted);
+      counted = c.in_ok-at.ensures.steady ∙ c.loop-at.invariant.counted;
       sound = λ more h.
           let length_rest : length rest + more ≡ (length text - at) + more = omega (arith, c.split_at.ensures.back_len) in
           let room : sink.HasRoom c.loop-at.out (length rest + more) =

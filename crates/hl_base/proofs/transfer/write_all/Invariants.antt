@@ -1,4 +1,4 @@
-use Rattle.std.proofs.Common.{length, ◌-◌, ◌≡◌, ◌≤◌, ◌+◌, ◌++◌, ℕ, List, Option, Some, take, IfSome}
+use Rattle.std.proofs.Common.{length, ◌-◌, ◌≡◌, ◌≤◌, ◌+◌, ◌++◌, ℕ, Some, take, IfSome}
 use Rattle.hl_base.proofs.transfer.write_all.Given as goal
 
 -- what was written is the front of the text, and the rest still fits
@@ -8,7 +8,7 @@ invariant-loop-at g l =
     record {
       within : l.at ≤ length l.text;
       told : IfSome (sink.written l.fn.out) (λ before. sink.written l.out ≡ Some (before ++ take l.at l.text));
-      counted : sink.faults l.fn.out ≤ sink.faults l.out;
+      counted : sink.faults l.out ≡ sink.faults l.fn.out;
       sound : (more : ℕ) → sink.HasRoom l.fn.out (length l.text + more) → sink.HasRoom l.out ((length l.text - l.at) + more);
     }
 

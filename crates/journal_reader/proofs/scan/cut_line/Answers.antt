@@ -1,8 +1,14 @@
-use Rattle.journal_reader.proofs.Lines.{cut_parts}
+use Rattle.std.proofs.Common.{lit<}
+use Rattle.journal_reader.proofs.Lines.{contents_cut}
+use Rattle.journal_reader.proofs.Texts.{before_byte, after_byte}
 use Rattle.journal_reader.proofs.scan.cut_line.Goals as goal
 
 pub returns-clause-cut : goal.returns-clause-cut
-returns-clause-cut c = (cut_parts c.args.text.now c.past.result.now c.line_length-end.result c.requires c.line_length-end.ensures c.past.ensures).0
+returns-clause-cut c =
+    rw (c.past.ensures, c.before_white.ensures.value, c.split_at.ensures.front, c.place_of-end.ensures.place) (contents_cut c.args.text.now c.requires)
 
-pub returns-clause-content : goal.returns-clause-content
-returns-clause-content c = (cut_parts c.args.text.now c.past.result.now c.line_length-end.result c.requires c.line_length-end.ensures c.past.ensures).1
+pub returns-clause-utf8 : goal.returns-clause-utf8
+returns-clause-utf8 c = λ e. (
+  c.before_white.ensures.utf8 (rw (c.split_at.ensures.front, c.place_of-end.ensures.place) (before_byte c.args.text.now 10 (lit< tt) e)),
+  rw (c.past.ensures, c.place_of-end.ensures.place) (after_byte c.args.text.now 10 (lit< tt) e),
+)

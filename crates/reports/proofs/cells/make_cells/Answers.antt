@@ -15,21 +15,21 @@ use Rattle.reports.proofs.cells.make_cells.Goals as goal
 pub loop-txn-init : goal.loop-txn-init
 loop-txn-init c =
     let fits = subst (λ (ts : List Txn). TurnoverFits (postings_of ts)) (sym c.as_slice-txn-items.ensures) c.requires in
-    let start : Kept = record { rows = c.new-rows.result.items; total = c.new-total.result } in
-    let is : start ≡ nothing_kept = λ i. record { rows = c.new-rows.ensures.items i; total = c.new-total.ensures i } in
+    let start : Kept = record { rows = c.new-rows.result.entries; total = c.new-total.result } in
+    let is : start ≡ nothing_kept = λ i. record { rows = c.new-rows.ensures.empty i; total = c.new-total.ensures i } in
     reading_none start (postings_of c.as_slice-txn-items.result.now) is fits
 
 pub add_postings-requires-clause-fits : goal.add_postings-requires-clause-fits
 add_postings-requires-clause-fits c =
-    let now : Kept = record { rows = c.loop-txn.rows.items; total = c.loop-txn.total } in
+    let now : Kept = record { rows = c.loop-txn.rows.entries; total = c.loop-txn.total } in
     let within : c.loop-txn.txn-index < length c.as_slice-txn-items.result.now = omega arith in
     subst (EachFits now) (sym c.as_slice.ensures)
     (txn_fits nothing_kept now now c.as_slice-txn-items.result.now c.loop-txn.txn-index c.txn-item.result within c.txn-item.is c.loop-txn.invariant.fits)
 
 pub loop-txn-preserved : goal.loop-txn-preserved
 loop-txn-preserved c =
-    let now : Kept = record { rows = c.loop-txn.rows.items; total = c.loop-txn.total } in
-    let new : Kept = record { rows = c.add_postings.new.rows.items; total = c.add_postings.new.total } in
+    let now : Kept = record { rows = c.loop-txn.rows.entries; total = c.loop-txn.total } in
+    let new : Kept = record { rows = c.add_postings.new.rows.entries; total = c.add_postings.new.total } in
     let within : c.loop-txn.txn-index < length c.as_slice-txn-items.result.now = omega arith in
     let few = subst (AllByRecursion (λ (p : Posting). HasFewPlaces p.amount)) c.as_slice.ensures c.in_ok-add_postings.ensures.few in
     let is : new ≡ after now c.txn-item.result.postings = c.in_ok-add_postings.ensures.added ∙ ap (after now) c.as_slice.ensures in
@@ -37,15 +37,15 @@ loop-txn-preserved c =
 
 pub returns-clause-rows : goal.returns-clause-rows
 returns-clause-rows c =
-    let now : Kept = record { rows = c.loop-txn.rows.items; total = c.loop-txn.total } in
+    let now : Kept = record { rows = c.loop-txn.rows.entries; total = c.loop-txn.total } in
     let past : length c.as_slice-txn-items.result.now ≤ c.loop-txn.txn-index = omega arith in
     let all : take c.loop-txn.txn-index c.as_slice-txn-items.result.now ≡ c.args.job.now.book.now.txns = take_all c.loop-txn.txn-index c.as_slice-txn-items.result.now past ∙ c.as_slice-txn-items.ensures in
     let holds = subst (λ (ts : List Txn). HoldsKept now (postings_of ts)) all (reading_holds now _ _ c.loop-txn.invariant) in
-    ap (map row_seen) c.in_ok-cell_rows.ensures ∙ rows_are c.loop-txn.rows.items (postings_of c.args.job.now.book.now.txns) c.loop-txn.invariant.ordered holds.rows
+    ap (map row_seen) c.in_ok-cell_rows.ensures ∙ rows_are c.loop-txn.rows.entries (postings_of c.args.job.now.book.now.txns) c.loop-txn.invariant.ordered holds.rows
 
 pub returns-clause-totals : goal.returns-clause-totals
 returns-clause-totals c =
-    let now : Kept = record { rows = c.loop-txn.rows.items; total = c.loop-txn.total } in
+    let now : Kept = record { rows = c.loop-txn.rows.entries; total = c.loop-txn.total } in
     let past : length c.as_slice-txn-items.result.now ≤ c.loop-txn.txn-index = omega arith in
     let all : take c.loop-txn.txn-index c.as_slice-txn-items.result.now ≡ c.args.job.now.book.now.txns = take_all c.loop-txn.txn-index c.as_slice-txn-items.result.now past ∙ c.as_slice-txn-items.ensures in
     let holds = subst (λ (ts : List Txn). HoldsKept now (postings_of ts)) all (reading_holds now _ _ c.loop-txn.invariant) in

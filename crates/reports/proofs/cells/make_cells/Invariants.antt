@@ -4,4 +4,4 @@ use Rattle.reports.specs.Kept.{IsReading}
 use Rattle.reports.proofs.cells.make_cells.Given as goal
 
 abbrev pub invariant-loop-txn : goal.invariant-loop-txn
-invariant-loop-txn l = IsReading (record { rows = []; total = [] }) (record { rows = l.rows.items; total = l.total }) (postings_of (take l.txn-index l.txn-items)) (postings_of (drop l.txn-index l.txn-items))
+invariant-loop-txn l = IsReading (record { rows = []; total = [] }) (record { rows = l.rows.entries; total = l.total }) (postings_of (take l.txn-index l.txn-items)) (postings_of (drop l.txn-index l.txn-items))

@@ -1,4 +1,3 @@
-use Rattle.std.proofs.Common.{◌≡◌, List, ℕ}
 use Rattle.hl_base.specs.Disk.{Cut}
 use Rattle.hl_base.proofs.DiskLaws.{cut_same}
 use Rattle.text_store.specs.Rest.{AfterStep}

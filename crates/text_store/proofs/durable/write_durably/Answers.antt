@@ -1,4 +1,4 @@
-use Rattle.std.proofs.Common.{◌≡◌, ◌+◌, List, ℕ, length}
+use Rattle.std.proofs.Common.{length}
 use Rattle.hl_base.specs.Disk.{Torn}
 use Rattle.hl_base.proofs.DiskLaws.{torn_same}
 use Rattle.text_store.specs.Rest.{AfterStep}

@@ -1,7 +1,7 @@
 use Rattle.std.proofs.Common.{◌≡◌, ◌+◌, ◌++◌, [], ◌∷◌, List, ℕ, Bool, IsTrue, length, sym, subst}
 use Rattle.hl_base.specs.Disk.{Torn}
 use Rattle.hl_base.proofs.Replays.{on_ok_map}
-use Rattle.text_store.specs.Rest.{AfterStep, RestsAs, IsAt}
+use Rattle.text_store.specs.Rest.{AfterStep, IsAt}
 use Rattle.text_store.proofs.Moments.{weakened, joined}
 use Rattle.text_store.proofs.Gates.{behind_at, gate_at, written_behind, written_gate}
 use Rattle.text_store.proofs.Resting.{on_err_of, rest_stands, rest_as, steps_on, outcome}

@@ -1,5 +1,5 @@
-use Rattle.std.proofs.Common.{◌≡◌, ◌+◌, ◌-◌, ◌≤◌, ◌<◌, length, arith}
-use Rattle.text_store.proofs.Reading.{short_end, shut_end, cut_end, next_entry}
+use Rattle.std.proofs.Common.{arith}
+use Rattle.text_store.proofs.Reading.{short_end, shut_end, cut_end, next_entry, next_front}
 use Rattle.text_store.proofs.records.record_at.Goals as goal
 
 pub returns-then-saturating_sub-lt11 : goal.returns-then-saturating_sub-lt11
@@ -12,4 +12,9 @@ pub returns-then-len-file : goal.returns-then-len-file
 returns-then-len-file c = cut_end c.args.file.now c.args.at (omega arith) c.if-file-at-ne1.false c.number_at-len.result c.number_at-len.ensures (omega arith)
 
 pub returns : goal.returns
-returns c = (next_entry c.args.file.now c.args.at (omega arith) c.if-file-at-ne1.false c.number_at-len.result c.number_at-len.ensures (omega arith), omega arith, omega arith)
+returns c = (
+  next_entry c.args.file.now c.args.at (omega arith) c.if-file-at-ne1.false c.number_at-len.result c.number_at-len.ensures (omega arith),
+  omega arith,
+  omega arith,
+  next_front c.args.file.now c.args.at (omega arith) c.if-file-at-ne1.false c.number_at-len.result c.number_at-len.ensures (omega arith),
+)

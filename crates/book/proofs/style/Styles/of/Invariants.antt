@@ -1,7 +1,7 @@
-use Rattle.std.proofs.Common.{◌≡◌, take}
-use Rattle.book.specs.Entries.{AreStyles}
-use Rattle.book.specs.Noted.{noted_items}
+use Rattle.std.proofs.Common.{take}
+use Rattle.book.specs.Standing.{places_from}
+use Rattle.book.specs.Styles.{AreOf}
 use Rattle.book.proofs.style.Styles.of.Given as goal
 
-abbrev pub invariant-loop-placed : goal.invariant-loop-placed
-invariant-loop-placed l = (l.entries.items ≡ noted_items (take l.placed-index l.items)) × AreStyles l.entries.items
+abbrev pub invariant-loop-number : goal.invariant-loop-number
+invariant-loop-number l = AreOf (places_from 0 (take l.number l.items)) l.styles

@@ -1,19 +1,36 @@
-use Rattle.std.proofs.Common.{ℕ, List, ◌∙◌, ap, subst}
-use Rattle.book.specs.declared.style.Style.{Style}
-use Rattle.std.specs.Ordering.{nat_cmp}
-use Rattle.std.specs.Cmp.Lexicographic.{slice_cmp}
-use Rattle.book.specs.Places.{IsPlace, IsGap}
-use Rattle.book.specs.Style.{style_in}
-use Rattle.book.proofs.Entries.{style_at, style_gap}
+use Rattle.std.proofs.Common.{sym, ◌∙◌}
+use Rattle.book.proofs.Kept.{by_commodity, by_default, by_first, by_second, by_none}
 use Rattle.book.proofs.style.Styles.style.Goals as goal
 
-pub returns-in-Ok-clause-value : goal.returns-in-Ok-clause-value
-returns-in-Ok-clause-value c =
-    style_at c.self.inside.entries.items c.args.symbol.now c.in-Ok.at c.index.result.now c.self.invariant (subst (λ (es : List (List ℕ × Style)). IsPlace es c.args.symbol.now c.in-Ok.at) c.deref.ensures.value c.in-Ok.ensures.found) c.index.ensures
-    ∙ ap (λ (es : List (List ℕ × Style)). style_in es c.args.symbol.now) c.self.view_is
+pub returns-in-Some-clause-value : goal.returns-in-Some-clause-value
+returns-in-Some-clause-value c = by_commodity c.args.self.now c.args.symbol.now c.in-Some.style (sym c.last.ensures.value ∙ c.in-Some.is)
 
-pub returns-in-Err-clause-value : goal.returns-in-Err-clause-value
-returns-in-Err-clause-value c =
+pub returns-in-Some-last-clause-value : goal.returns-in-Some-last-clause-value
+returns-in-Some-last-clause-value c =
+    by_default c.args.self.now c.args.symbol.now c.in-Some-last.style
+    (sym c.last.ensures.value ∙ c.in_default.is)
+    (sym c.last-2.ensures.value ∙ c.in-Some-last.is)
+
+pub returns-in-Some-first-clause-value : goal.returns-in-Some-first-clause-value
+returns-in-Some-first-clause-value c =
+    by_first c.args.self.now c.args.symbol.now c.in-Some-first.style
+    (sym c.last.ensures.value ∙ c.in_default.is)
+    (sym c.last-2.ensures.value ∙ c.in_default-last.is)
+    (sym c.first.ensures.value ∙ c.in-Some-first.is)
+
+pub returns-in-Some-first-2-clause-value : goal.returns-in-Some-first-2-clause-value
+returns-in-Some-first-2-clause-value c =
+    by_second c.args.self.now c.args.symbol.now c.in-Some-first-2.style
+    (sym c.last.ensures.value ∙ c.in_default.is)
+    (sym c.last-2.ensures.value ∙ c.in_default-last.is)
+    (sym c.first.ensures.value ∙ c.in_default-first.is)
+    (sym c.first-2.ensures.value ∙ c.in-Some-first-2.is)
+
+pub returns-clause-value : goal.returns-clause-value
+returns-clause-value c =
+    by_none c.args.self.now c.args.symbol.now c.default_one.result
+    (sym c.last.ensures.value ∙ c.in_default.is)
+    (sym c.last-2.ensures.value ∙ c.in_default-last.is)
+    (sym c.first.ensures.value ∙ c.in_default-first.is)
+    (sym c.first-2.ensures.value ∙ c.in_default-first-2.is)
     c.default_one.ensures
-    ∙ style_gap c.self.inside.entries.items c.args.symbol.now c.in-Err.field-0 c.self.invariant (subst (λ (es : List (List ℕ × Style)). IsGap (slice_cmp nat_cmp) es c.args.symbol.now c.in-Err.field-0) c.deref.ensures.value c.in-Err.ensures.absent)
-    ∙ ap (λ (es : List (List ℕ × Style)). style_in es c.args.symbol.now) c.self.view_is

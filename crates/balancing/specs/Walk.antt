@@ -1,0 +1,45 @@
+-- What is known while groups are judged one after another.
+use Rattle.std.specs.Prelude.{◌≡◌, ◌≤◌, ℕ, Bool, true, false, List, [], ◌∷◌, ◌++◌, map, Option, Some, None}
+use Rattle.std.specs.List.{slice_get, AllByRecursion}
+use Rattle.book.specs.declared.fault.Cause.{Cause}
+use Rattle.book.specs.declared.fault.Fault.{Fault}
+use Rattle.book.specs.declared.transaction.Txn.{Txn}
+use Rattle.book.specs.Order.{each_once}
+use Rattle.balancing.specs.Values.{Value}
+use Rattle.balancing.specs.Tally.{turnover_fits}
+use Rattle.balancing.specs.Turnover.{IsTurnover}
+use Rattle.balancing.specs.Groups.{Group, groups_from, group_cmp}
+use Rattle.balancing.specs.Load.{moved_on, moved_of_group, group_cause, fault_at, fault_of_group, first_fault}
+use Rattle.balancing.specs.Settled.{AreSettled}
+
+-- The transactions that were read are settled, and their groups were noted.
+pub record IsRead (written txns : List Txn) (causes : List (Option Cause)) (noted : List Group) : Type 0 where
+  pub settled : AreSettled written txns causes
+  pub groups : (rest : List Group) → each_once group_cmp (noted ++ rest) ≡ each_once group_cmp (groups_from 0 written ++ rest)
+
+-- The fault of a group by its transaction's cause and the turnover; without a fault it was added to the turnover.
+pub record IsJudged (before : List Value) (day : ℕ) (txn : Txn) (cause : Option Cause) (sums : List Value) (fault : Option Fault) : Type 0 where
+  pub is : fault ≡ fault_at txn.line (group_cause (turnover_fits (before ++ moved_on day txn)) cause)
+  pub more : fault ≡ None → IsTurnover (before ++ moved_on day txn) sums
+
+-- the same, by the transactions as they are written
+pub record IsVisited (written : List Txn) (before : List Value) (group : Group) (sums : List Value) (fault : Option Fault) : Type 0 where
+  pub is : fault ≡ fault_of_group before group.0 (slice_get written group.1)
+  pub more : fault ≡ None → IsTurnover (before ++ moved_of_group group.0 (slice_get written group.1)) sums
+
+-- what some groups move, one after another
+abbrev pub moved_before : List Txn → List Value → List Group → List Value
+moved_before written before [] = before
+moved_before written before (g ∷ gs) = moved_before written (before ++ moved_of_group g.0 (slice_get written g.1)) gs
+
+-- What is known after some groups without a fault: the first fault is one of the others, and the turnover is theirs.
+pub record IsWalked (written : List Txn) (groups left : List Group) (before : List Value) (sums : List Value) : Type 0 where
+  pub rest : first_fault written [] groups ≡ first_fault written before left
+  pub all : moved_before written [] groups ≡ moved_before written before left
+  pub turnover : IsTurnover before sums
+
+-- The fault of the first group that has one; without a fault all that is moved is within the bound.
+pub record IsTold (written : List Txn) (groups : List Group) (fault : Option Fault) : Type 0 where
+  pub is : fault ≡ first_fault written [] groups
+  pub within : fault ≡ None → turnover_fits (moved_before written [] groups) ≡ true
+  pub few : fault ≡ None → AllByRecursion (λ v. v.1.places ≤ 36) (moved_before written [] groups)

@@ -1,0 +1,33 @@
+-- The styles of the items that stand under some numbers.
+use Rattle.std.specs.Prelude.{ℕ, List}
+use Rattle.book.specs.declared.item.Item.{Item}
+use Rattle.book.specs.declared.style.Style.{Style}
+use Rattle.book.specs.declared.style.Styles.{Styles}
+use Rattle.book.specs.Standing.{Numbered, Rise, Keeps, kept_of, styles_only, noted_all}
+use Rattle.book.specs.Style.{commodity_styles, default_styles, first_class, second_class, style_by}
+
+-- the style that is kept of a symbol
+abbrev pub style_in : Styles → List ℕ → Style
+style_in styles symbol =
+    style_by
+    (styles_only (kept_of styles.commodities symbol))
+    (styles_only (kept_of styles.defaults symbol))
+    (styles_only (kept_of styles.first symbol))
+    (styles_only (kept_of styles.second symbol))
+
+-- The styles are those of the items that stand under these numbers.
+pub record AreOf (standing : Numbered Item) (styles : Styles) : Type 0 where
+  pub rise : Rise standing
+  pub commodities : Keeps commodity_styles standing styles.commodities
+  pub defaults : Keeps default_styles standing styles.defaults
+  pub first : Keeps first_class standing styles.first
+  pub second : Keeps second_class standing styles.second
+
+-- the styles after an item under a number
+abbrev pub after_item : ℕ → Styles → Item → Styles
+after_item n styles i = record {
+  commodities = noted_all n styles.commodities (commodity_styles i);
+  defaults = noted_all n styles.defaults (default_styles i);
+  first = noted_all n styles.first (first_class i);
+  second = noted_all n styles.second (second_class i);
+}

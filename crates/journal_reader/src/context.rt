@@ -1,0 +1,86 @@
+//! What the items before an item say of how it is read.
+ghost use Rattle.std.specs.Prelude.{◌≡◌, [], true, IfOk};
+ghost use Rattle.std.specs.Str.{is_utf8};
+ghost use Rattle.journal_reader.specs.Contexts as spec;
+
+use hl_base::Memory;
+use std::marker::Model;
+
+/// What the items before an item say of how it is read: the year of dates without one. Directives aren't read yet, so
+/// nothing else is known.
+#[derive(Debug, Drop)]
+pub struct Context {
+    pub(crate) year: Option<u16>,
+}
+
+impl Model for Context {
+    ghost use Rattle.journal_reader.specs.Contexts as spec;
+
+    ghost Value = { spec.Context };
+
+    ghost view = { λ c. spec.year_alone c.year };
+}
+
+/// The decimal mark that a year alone decides: none.
+#[tactic(auto, using(crate::proofs::Bare::bare_mark))]
+fn bare_mark(_year: Option<u16>, _written: &[u8]) -> Option<u8>
+    ensures { result ≡ spec.decided_mark (spec.year_alone _year) _written.now }
+{
+    None
+}
+
+/// The symbol of an amount where a year alone is known: the one that is written.
+#[tactic(auto, using(crate::proofs::Bare::bare_symbol))]
+fn bare_symbol(_year: Option<u16>, written: &[u8]) -> &[u8]
+    ensures value { result.now ≡ spec.symbol_of (spec.year_alone _year) written.now }
+    ensures same { result.now ≡ written.now }
+{
+    written
+}
+
+/// The account that a name stands for where a year alone is known: the one that is written.
+fn bare_name(_year: Option<u16>, name: &[u8]) -> &[u8]
+    ensures value { result.now ≡ spec.account_named (spec.year_alone _year) name.now }
+    ensures same { result.now ≡ name.now }
+{
+    name
+}
+
+impl Context {
+    /// The context at a text's beginning, with a year that is handed in or with none.
+    pub fn start(year: Option<u16>) -> Result<Context, Memory>
+        ensures { IfOk result (λ context. context ≡ spec.context_of year []) }
+    {
+        Ok(Context { year })
+    }
+
+    /// The decimal mark that is decided for an amount of which this symbol is written.
+    pub(crate) fn decided_mark(&self, written: &[u8]) -> Option<u8>
+        ensures { result ≡ spec.decided_mark self.now written.now }
+    {
+        bare_mark(self.year, written)
+    }
+
+    /// The symbol of an amount of which this is written.
+    pub(crate) fn symbol_of<'a>(&self, written: &'a [u8]) -> &'a [u8]
+        ensures value { result.now ≡ spec.symbol_of self.now written.now }
+        ensures utf8 { is_utf8 written.now ≡ true → is_utf8 result.now ≡ true }
+    {
+        bare_symbol(self.year, written)
+    }
+
+    /// The account that a written name stands for.
+    pub(crate) fn account_named<'a>(&self, name: &'a [u8]) -> &'a [u8]
+        ensures value { result.now ≡ spec.account_named self.now name.now }
+        ensures utf8 { is_utf8 name.now ≡ true → is_utf8 result.now ≡ true }
+    {
+        bare_name(self.year, name)
+    }
+
+    /// The year of dates without one.
+    pub(crate) fn year(&self) -> Option<u16>
+        ensures { result ≡ self.now.year }
+    {
+        self.year
+    }
+}

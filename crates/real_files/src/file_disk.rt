@@ -1,0 +1,155 @@
+//! A file of the operating system as a disk.
+ghost use Rattle.std.specs.Prelude.{◌≡◌, Ok, IfOk, OnErr, IsOk};
+ghost use Rattle.hl_base.specs.Causes.{HasCause};
+
+use hl_base::{Disk, Failed};
+use std::fs::{File, OpenFile, OpenOptions};
+use std::io;
+use std::os::unix::fs::FileExt;
+use std::rt::Files;
+
+/// A file that is open for reading and writing.
+#[derive(Drop)]
+pub struct FileDisk {
+    file: File,
+    reach: u64,
+    faults: u64,
+}
+
+impl FileDisk {
+    /// Opens a file at a path; with `make` an absent one is made.
+    pub fn open<R: Files<File = File>>(files: &R, path: &str, make: bool) -> io::Result<FileDisk>
+        ensures reach { IfOk result (λ disk. ⟦<FileDisk as Disk>⟧.reach disk ≡ 0) }
+        ensures faults { IfOk result (λ disk. ⟦<FileDisk as Disk>⟧.failures disk ≡ 0) }
+    {
+        let file = OpenOptions::new()
+            .read(true)
+            .write(true)
+            .create(make)
+            .open(files, path)?;
+        Ok(FileDisk {
+            file,
+            reach: 0,
+            faults: 0,
+        })
+    }
+
+    // Counts a fault, if the call failed.
+    fn counted<T>(&mut self, outcome: io::Result<T>) -> Result<T, Failed>
+        ensures value { IfOk result (λ value. outcome ≡ Ok value) }
+        ensures cause { HasCause self.old.faults self.new.faults result }
+        ensures same { self.new ≡ record self.old { faults = self.new.faults } }
+    {
+        match outcome {
+            Ok(value) => Ok(value),
+            Err(_) => {
+                self.faults = self.faults.saturating_add(1);
+                Err(Failed)
+            }
+        }
+    }
+}
+
+impl Disk for FileDisk {
+    ghost use Rattle.std.specs.Prelude.{None, false};
+    ghost use Rattle.std.proofs.Common.{rules};
+
+    ghost seen = { λ _. None };
+
+    ghost tells_crashes = { λ _. false };
+
+    ghost may_leave = { λ _ _. Unit {0} };
+
+    ghost moment = { λ _. 0 };
+
+    ghost left_since = { λ _ _ _. Unit {0} };
+
+    ghost reach = { λ d. d.reach };
+
+    ghost failures = { λ d. d.faults };
+
+    ghost unfailing_to = { λ _. None };
+
+    ghost counts_now = { λ d t c le now. tt };
+
+    ghost only_now = { λ d c left. tt };
+
+    ghost unfailing = { λ d room is le. absurd (Prim.search rules) };
+
+    fn len(&mut self) -> Result<u64, Failed> {
+        let outcome = length_of(&self.file);
+        self.counted(outcome)
+    }
+
+    fn read(&mut self, at: u64, room: &mut [u8]) -> Result<usize, Failed> {
+        let outcome = self.file.read_at(room, at);
+        self.counted(outcome)
+    }
+
+    fn write_at(&mut self, at: u64, piece: &[u8]) -> Result<(), Failed> {
+        self.reach = self.reach.max(at + piece.len() as u64);
+        let outcome = self.file.write_all_at(piece, at);
+        self.counted(outcome)
+    }
+
+    fn cut(&mut self, len: u64) -> Result<(), Failed> {
+        self.reach = self.reach.max(len);
+        let outcome = shorten(&self.file, len);
+        self.counted(outcome)
+    }
+
+    fn sync(&mut self) -> Result<(), Failed> {
+        let outcome = self.file.sync_all();
+        self.counted(outcome)
+    }
+
+    fn faults(&self) -> u64 {
+        self.faults
+    }
+}
+
+// The file's length in bytes.
+fn length_of(file: &File) -> io::Result<u64> {
+    Ok(file.metadata()?.len())
+}
+
+// Cuts a file to a length; a shorter one stays.
+fn shorten(file: &File, len: u64) -> io::Result<()> {
+    if length_of(file)? > len {
+        file.set_len(len)?;
+    }
+    Ok(())
+}
+
+#[cfg(test)]
+mod tests {
+    use super::*;
+    use std::fs;
+    use std::test::Fail;
+    use std::time::{SystemTime, UNIX_EPOCH};
+
+    #[test]
+    fn a_file_is_a_disk(rt: HostRuntime) -> Result<(), Fail> {
+        let now = SystemTime::now(&rt)?.duration_since(UNIX_EPOCH);
+        let nanos = now.ok().ok_or("clock")?.as_nanos();
+        let path = format!(in rt.alloc(); "/tmp/real_files_{nanos}")?;
+        assert!(rt;
+            FileDisk::open(&rt, path.as_str(), false).is_err(),
+            "it isn't there"
+        );
+        let mut disk = FileDisk::open(&rt, path.as_str(), true)?;
+        disk.write_at(0, b"abc")?;
+        disk.write_at(5, b"fg")?;
+        let mut room = [9u8; 8];
+        assert_eq!(rt; disk.read(1, &mut room)?, 6);
+        assert_eq!(rt; &room[..6], b"bc\0\0fg".as_slice());
+        assert_eq!(rt; disk.read(7, &mut room)?, 0);
+        disk.cut(4)?;
+        disk.cut(9)?;
+        disk.sync()?;
+        assert_eq!(rt; disk.len()?, 4);
+        assert_eq!(rt; disk.faults(), 0);
+        fs::remove_file(&rt, path.as_str())?;
+        Ok(())
+    }
+}

@@ -1,0 +1,43 @@
+use Rattle.std.proofs.Common.{◌≡◌, ◌∙◌, sym, ap}
+use Rattle.text_store.proofs.Growing.{none_some}
+use Rattle.text_store.proofs.Opening.{found_in_half, found_older, half_chosen, keeps_half, limit_found, limit_older}
+use Rattle.text_store.proofs.store.Store.take_up.Goals as goal
+
+pub returns-in-Err-clause-keeps : goal.returns-in-Err-clause-keeps
+returns-in-Err-clause-keeps g c f s found =
+    let u = c.in-Half.place in
+    keeps_half g.D.Disk (c.args.first, c.args.second) _ f s u c.args.found.image u.in_second (found_in_half f s c.args.found.image c.args.found.place u c.in-Half.is found) c.in-Err.ensures.keeps
+
+pub returns-in-Ok-clause-opened : goal.returns-in-Ok-clause-opened
+returns-in-Ok-clause-opened g c f s first second found =
+    let half = found_in_half f s c.args.found.image c.args.found.place c.in-Half.place c.in-Half.is found in
+    (c.in-Ok.ensures.opened f s c.args.found.image first second half, c.in-Ok.ensures.numbers.0 ∙ sym (limit_found f s c.in-Half.place c.args.found.image half))
+
+pub returns-in-Ok-clause-older : goal.returns-in-Ok-clause-older
+returns-in-Ok-clause-older g c f s first second found none =
+    let half = half_chosen f s c.in-Half.place c.args.found.image (found_in_half f s c.args.found.image c.args.found.place c.in-Half.place c.in-Half.is found) in
+    none_some half.0 (sym none ∙ half.1)
+
+pub returns-in-Ok-clause-keeps : goal.returns-in-Ok-clause-keeps
+returns-in-Ok-clause-keeps g c f s found =
+    let u = c.in-Half.place in
+    keeps_half g.D.Disk (c.args.first, c.args.second) _ f s u c.args.found.image u.in_second (found_in_half f s c.args.found.image c.args.found.place u c.in-Half.is found) c.in-Ok.ensures.keeps
+
+pub returns-in-Err-renew-clause-any_moment : goal.returns-in-Err-renew-clause-any_moment
+returns-in-Err-renew-clause-any_moment g c f s first second found tell =
+    let old = found_older f s c.args.found.image c.args.found.place c.in-Older.limit c.in-Older.is found in
+    c.in-Err-renew.ensures.any_moment f s first second old.0 old.1 tell
+
+pub returns-in-Ok-renew-clause-opened : goal.returns-in-Ok-renew-clause-opened
+returns-in-Ok-renew-clause-opened g c f s first second found =
+    let old = found_older f s c.args.found.image c.args.found.place c.in-Older.limit c.in-Older.is found in
+    (c.in-Ok-renew.ensures.opened f s first second old.0, c.in-Ok-renew.ensures.numbers.0 ∙ limit_older f s c.args.found.image c.in-Older.limit old)
+
+pub returns-in-Ok-renew-clause-older : goal.returns-in-Ok-renew-clause-older
+returns-in-Ok-renew-clause-older g c f s first second found none =
+    (ap g.D.Disk.seen c.in-Ok-renew.ensures.beside ∙ first.told, c.in-Ok-renew.ensures.bytes s second)
+
+pub returns-in-Ok-renew-clause-any_moment : goal.returns-in-Ok-renew-clause-any_moment
+returns-in-Ok-renew-clause-any_moment g c f s first second found tell =
+    let old = found_older f s c.args.found.image c.args.found.place c.in-Older.limit c.in-Older.is found in
+    c.in-Ok-renew.ensures.any_moment f s first second old.0 old.1 tell

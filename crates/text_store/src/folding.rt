@@ -1,0 +1,252 @@
+//! The records of a file as changes of a text and of import states.
+ghost use Rattle.std.specs.Prelude.{◌≡◌, ℕ, ◌<◌, ◌≤◌, ◌+◌, ◌^◌, ◌++◌, length, take, drop, true, false, Some, None, IfOk, IfSome, OnOk, MatchBool};
+ghost use Rattle.std.specs.Int.{w32, from_le_bytes};
+ghost use Rattle.std.specs.List.{list_any};
+ghost use Rattle.text_store.specs.Contents.{content_in_code, if_content_in_code, end_in_code, IsStateAt, AreStatesAt, IsEnd};
+ghost use Rattle.text_store.specs.Files.{AreWritable};
+ghost use Rattle.text_store.specs.Image.{with_mark, spliced, changed, imported, mark_at, same_name, have_own_names, checkpointed, folded};
+ghost use Rattle.text_store.specs.Reads.{from_place};
+
+use crate::records::{number_at, record_at};
+use hl_base::{Latest, Memory, Text};
+use std::alloc::Global;
+
+/// A text and the states of its imports.
+#[derive(Drop)]
+pub struct Content {
+    pub text: Vec<u8>,
+    pub latest: Vec<Latest>,
+}
+
+/// What the records of a file from a place on come to: a content, the place of the gate behind them, and how many they are.
+#[derive(Drop)]
+pub struct Folded {
+    pub content: Content,
+    pub gate: usize,
+    pub count: u64,
+}
+
+/// Import states, and the place behind them.
+#[derive(Drop)]
+pub struct States {
+    pub latest: Vec<Latest>,
+    pub behind: usize,
+}
+
+// The number in four bytes, low byte first.
+fn short_number_at(file: &[u8], at: usize) -> u32
+    requires { at + 4 ≤ length file.now }
+    ensures { result ≡ from_le_bytes w32 (take 4 (drop at file.now)) }
+{
+    let mut bytes = [0u8; 4];
+    bytes.copy_from_slice(&file[at..at + 4]);
+    u32::from_le_bytes(bytes)
+}
+
+// Replaces a part of a text. What stands before the part isn't moved.
+fn replace_part(
+    alloc: Global,
+    text: &mut Vec<u8>,
+    at: usize,
+    removed: usize,
+    inserted: &[u8],
+) -> Result<(), Memory>
+    requires { at + removed ≤ length text.old.items }
+    ensures { OnOk result (text.new.items ≡ take at text.old.items ++ inserted.now ++ drop (at + removed) text.old.items) }
+{
+    let tail = Vec::from_slice(alloc, &text[at + removed..])?;
+    text.truncate(at);
+    text.extend_from_slice(inserted)?;
+    text.extend_from_slice(&tail)?;
+    Ok(())
+}
+
+// Replaces the part of a text that a splice's payload names; false, where it lies outside or the payload is short.
+fn splice_in(alloc: Global, text: &mut Vec<u8>, payload: &[u8]) -> Result<bool, Memory>
+    ensures { IfOk result (λ good. MatchBool good (spliced text.old.items payload.now ≡ Some text.new.items) (spliced text.old.items payload.now ≡ None)) }
+{
+    if payload.len() < 16 {
+        return Ok(false);
+    }
+    let at = number_at(payload, 0);
+    let removed = number_at(payload, 8);
+    let len = text.len() as u64;
+    if at > len || removed > len - at {
+        return Ok(false);
+    }
+    replace_part(alloc, text, at as usize, removed as usize, &payload[16..])?;
+    Ok(true)
+}
+
+// Puts a state in the place of that of its name, or behind the others.
+fn put_state(latest: &mut Vec<Latest>, state: Latest) -> Result<(), Memory>
+    ensures { OnOk result (latest.new.items ≡ with_mark state latest.old.items) }
+{
+    for i in 0..latest.len() {
+        if latest[i].name.as_bytes() == state.name.as_bytes() {
+            latest[i] = state;
+            return Ok(());
+        }
+    }
+    latest.push(state)?;
+    Ok(())
+}
+
+// An import's state at a place, and the place behind it, if one reads there.
+fn state_at(alloc: Global, bytes: &[u8], at: usize) -> Result<Option<(Latest, usize)>, Memory>
+    requires { at ≤ length bytes.now }
+    ensures { IfOk result (λ found. IsStateAt bytes.now at found) }
+{
+    if bytes.len() - at < 12 {
+        return Ok(None);
+    }
+    let size = short_number_at(bytes, at) as usize;
+    if size > bytes.len() - at - 12 {
+        return Ok(None);
+    }
+    let behind = at + 4 + size;
+    let Ok(name) = str::from_utf8(&bytes[at + 4..behind]) else {
+        return Ok(None);
+    };
+    let state = Latest {
+        name: Text::copied(alloc, name)?,
+        day: short_number_at(bytes, behind),
+        count: short_number_at(bytes, behind + 4),
+    };
+    Ok(Some((state, behind + 8)))
+}
+
+// Makes the change of a record; false, where it is bad.
+fn make_change(
+    alloc: Global,
+    content: &mut Content,
+    kind: u8,
+    payload: &[u8],
+) -> Result<bool, Memory>
+    ensures changed { (at : ℕ) → IfOk result (λ good. MatchBool good
+        (changed (content_in_code content.old) (record { at = at; kind = kind; payload = payload.now }) ≡ Some (content_in_code content.new))
+        (changed (content_in_code content.old) (record { at = at; kind = kind; payload = payload.now }) ≡ None)) }
+    ensures writable { IfOk result (λ good. good ≡ true → AreWritable content.old.latest.items → AreWritable content.new.latest.items) }
+{
+    match kind {
+        b'T' => {
+            content.text = Vec::from_slice(alloc, payload)?;
+            Ok(true)
+        }
+        b'S' => splice_in(alloc, &mut content.text, payload),
+        b'I' => import_in(alloc, content, payload),
+        _ => Ok(false),
+    }
+}
+
+// Puts an import's state and its splice into a content; false, where the payload doesn't read.
+fn import_in(alloc: Global, content: &mut Content, payload: &[u8]) -> Result<bool, Memory>
+    ensures changed { IfOk result (λ good. MatchBool good
+        (imported (content_in_code content.old) (mark_at payload.now) ≡ Some (content_in_code content.new))
+        (imported (content_in_code content.old) (mark_at payload.now) ≡ None)) }
+    ensures writable { IfOk result (λ good. good ≡ true → AreWritable content.old.latest.items → AreWritable content.new.latest.items) }
+{
+    let Some((state, behind)) = state_at(alloc, payload, 0)? else {
+        return Ok(false);
+    };
+    put_state(&mut content.latest, state)?;
+    if content.latest.len() as u64 >= 1 << 32 {
+        return Ok(false);
+    }
+    splice_in(alloc, &mut content.text, &payload[behind..])
+}
+
+// So many import states, if they read from a place on.
+fn states_at(alloc: Global, bytes: &[u8], at: usize, count: u32) -> Result<Option<States>, Memory>
+    requires { at ≤ length bytes.now }
+    ensures { IfOk result (λ found. AreStatesAt bytes.now at count found) }
+{
+    let mut latest = Vec::new(alloc);
+    let mut behind = at;
+    let mut left = count;
+    while left > 0 {
+        let Some((state, next)) = state_at(alloc, bytes, behind)? else {
+            return Ok(None);
+        };
+        latest.push(state)?;
+        behind = next;
+        left -= 1;
+    }
+    Ok(Some(States { latest, behind }))
+}
+
+// Whether one of the states has a name.
+fn is_named(latest: &[Latest], state: &Latest) -> bool
+    ensures { result ≡ list_any (same_name state.now) latest.now }
+{
+    for other in latest {
+        if state.name.as_bytes() == other.name.as_bytes() {
+            return true;
+        }
+    }
+    false
+}
+
+// Whether the names of the states differ.
+fn names_differ(latest: &[Latest]) -> bool
+    ensures { result ≡ have_own_names latest.now }
+{
+    for i in 0..latest.len() {
+        if is_named(&latest[i + 1..], &latest[i]) {
+            return false;
+        }
+    }
+    true
+}
+
+/// The content of a record of a whole image, if its payload reads.
+pub fn whole_content(alloc: Global, payload: &[u8]) -> Result<Option<Content>, Memory>
+    ensures reads { IfOk result (λ found. checkpointed payload.now ≡ if_content_in_code found) }
+    ensures writable { IfOk result (λ found. IfSome found (λ content. AreWritable content.latest.items)) }
+{
+    if payload.len() < 4 {
+        return Ok(None);
+    }
+    let count = short_number_at(payload, 0);
+    let Some(states) = states_at(alloc, payload, 4, count)? else {
+        return Ok(None);
+    };
+    if !names_differ(&states.latest) {
+        return Ok(None);
+    }
+    let text = Vec::from_slice(alloc, &payload[states.behind..])?;
+    Ok(Some(Content {
+        text,
+        latest: states.latest,
+    }))
+}
+
+/// What the open records of a file from a place on come to, or the gate of the first bad one.
+pub fn fold_from(
+    alloc: Global,
+    file: &[u8],
+    start: usize,
+    content: Content,
+) -> Result<Result<Folded, usize>, Memory>
+    requires { start < length file.now }
+    ensures folds { IfOk result (λ end. folded (from_place file.now start) (content_in_code content) ≡ end_in_code end) }
+    ensures ends { IfOk result (λ end. IfOk end (λ all. IsEnd file.now start all.gate all.count)) }
+    ensures writable { IfOk result (λ end. IfOk end (λ all. AreWritable content.latest.items → AreWritable all.content.latest.items)) }
+{
+    let mut content = content;
+    let mut at = start;
+    let mut count = 0;
+    while let Some(record) = record_at(file, at) {
+        let payload = &file[record.payload..record.payload + record.len];
+        if !make_change(alloc, &mut content, record.kind, payload)? {
+            return Ok(Err(record.at));
+        }
+        at = record.payload + record.len;
+        count += 1;
+    }
+    Ok(Ok(Folded {
+        content,
+        gate: at,
+        count,
+    }))
+}
