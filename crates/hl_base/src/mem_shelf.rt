@@ -74,7 +74,8 @@ impl MemShelf {
 
     /// The disk that was given back last under a name.
     pub fn disk(&self, name: &[u8]) -> Option<&MemDisk>
-        ensures { IfSome result (λ disk. ⟦<MemShelf as Shelf>⟧.file self.now name.now ≡ ⟦<MemDisk as Disk>⟧.seen disk.now) }
+        ensures some { IfSome result (λ disk. ⟦<MemShelf as Shelf>⟧.file self.now name.now ≡ ⟦<MemDisk as Disk>⟧.seen disk.now) }
+        ensures none { IfNone result (disk_of name.now self.now.places.items ≡ None) }
     {
         disk_under(&self.places, name)
     }
