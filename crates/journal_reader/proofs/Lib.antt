@@ -1,6 +1,7 @@
 mod Bare
 mod Both
 mod Entries
+mod Fronts
 mod Laws
 mod LineEnds
 mod Lines

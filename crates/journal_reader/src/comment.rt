@@ -38,14 +38,14 @@ fn comment_text(content: &[u8]) -> &[u8]
 }
 
 /// The comment line that a text begins with, and the text after the line.
-#[tactic(auto, using(crate::proofs::Remarks::one_comment, crate::proofs::Remarks::no_comment, crate::proofs::Remarks::no_line))]
+#[tactic(auto, using(crate::proofs::Remarks::one_comment, crate::proofs::Remarks::no_comment, crate::proofs::Remarks::no_line, crate::proofs::Fronts::no_remark))]
 fn next_comment(text: &[u8]) -> Option<(&[u8], &[u8])>
     ensures cut { MatchOption result (spec.comments_in (contents_of text.now) ≡ [])
         (λ x. spec.comments_in (contents_of text.now) ≡ x.0.now ∷ spec.comments_in (contents_of x.1.now)) }
     ensures shorter { IfSome result (λ x. length x.1.now < length text.now) }
     ensures utf8 { is_utf8 text.now ≡ true → IfSome result (λ x. (is_utf8 x.0.now ≡ true) × (is_utf8 x.1.now ≡ true)) }
 {
-    if text.is_empty() {
+    if text.is_empty() || !is_comment(text) {
         return None;
     }
     let (content, rest) = cut_line(text);
