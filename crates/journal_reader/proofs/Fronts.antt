@@ -40,11 +40,11 @@ comment_of_front n text h =
     ∙ white_of_front n 59 text (right (first_is is_white (take n text)) (begins (after_white (take n text)) 59) h)
 
 none_first : (c : List ℕ) (cs : List (List ℕ)) → (is_comment c ≡ true → ⊥) → comments_in (c ∷ cs) ≡ []
-none_first c cs no = by (is_comment c) no
+none_first c cs never = by (is_comment c) never
   where
     by : (t : Bool) → (t ≡ true → ⊥) → cond t (comment_text c ∷ comments_in cs) [] ≡ []
-    by true no = absurd (no refl)
-    by false no = refl
+    by true never = absurd (never refl)
+    by false never = refl
 
 -- a text that doesn't begin as a comment line has none in front
 pub no_remark : (text : List ℕ) → is_comment text ≡ false → comments_in (contents_of text) ≡ []
