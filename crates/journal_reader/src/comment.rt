@@ -1,5 +1,5 @@
 //! Comments: the one on a line, and the indented lines after it that begin with `;`.
-ghost use Rattle.std.specs.Prelude.{◌≡◌, ◌++◌, ◌∷◌, [], ◌+◌, ◌<◌, ◌^◌, true, IfOk, OnOk, IfSome, Some, MatchOption, length};
+ghost use Rattle.std.specs.Prelude.{◌≡◌, ◌++◌, ◌∷◌, [], ◌+◌, ◌<◌, ◌≤◌, ◌^◌, true, IfOk, OnOk, IfSome, Some, MatchOption, length};
 ghost use Rattle.std.specs.Str.{is_utf8};
 ghost use Rattle.std.specs.String.{string_bytes};
 ghost use Rattle.hl_base.specs.Gives.{Gives};
@@ -54,6 +54,16 @@ fn next_comment(text: &[u8]) -> Option<(&[u8], &[u8])>
     } else {
         None
     }
+}
+
+/// A text that begins as a comment line, or nothing.
+#[tactic(auto, using(crate::proofs::Fronts::no_remark, crate::proofs::Texts::empty_utf8))]
+pub(crate) fn comment_lines(text: &[u8]) -> &[u8]
+    ensures same { spec.comments_in (contents_of result.now) ≡ spec.comments_in (contents_of text.now) }
+    ensures shorter { length result.now ≤ length text.now }
+    ensures utf8 { is_utf8 text.now ≡ true → is_utf8 result.now ≡ true }
+{
+    if is_comment(text) { text } else { &[] }
 }
 
 /// Puts bytes behind a text.

@@ -1,5 +1,5 @@
 //! What the items before an item say of how it is read.
-ghost use Rattle.std.specs.Prelude.{◌≡◌, [], true, IfOk};
+ghost use Rattle.std.specs.Prelude.{◌≡◌, [], ℕ, List, true, false, IfOk};
 ghost use Rattle.std.specs.Str.{is_utf8};
 ghost use Rattle.journal_reader.specs.Contexts as spec;
 
@@ -46,6 +46,13 @@ fn bare_name(_year: Option<u16>, name: &[u8]) -> &[u8]
     name
 }
 
+/// Whether accounts have other names than are written where a year alone is known: none has.
+fn bare_change(_year: Option<u16>) -> bool
+    ensures { result ≡ false → (name : List ℕ) → spec.account_named (spec.year_alone _year) name ≡ name }
+{
+    false
+}
+
 impl Context {
     /// The context at a text's beginning, with a year that is handed in or with none.
     pub fn start(year: Option<u16>) -> Result<Context, Memory>
@@ -75,6 +82,13 @@ impl Context {
         ensures utf8 { is_utf8 name.now ≡ true → is_utf8 result.now ≡ true }
     {
         bare_name(self.year, name)
+    }
+
+    /// Whether accounts have other names than are written.
+    pub(crate) fn changes_names(&self) -> bool
+        ensures { result ≡ false → (name : List ℕ) → spec.account_named self.now name ≡ name }
+    {
+        bare_change(self.year)
     }
 
     /// The year of dates without one.

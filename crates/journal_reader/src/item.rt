@@ -12,7 +12,7 @@ ghost use Rattle.journal_reader.specs.Causes.{cause_in};
 ghost use Rattle.journal_reader.specs.Lines.{contents_of};
 ghost use Rattle.journal_reader.specs.Items as spec;
 
-use crate::comment::{read_comment, read_tags};
+use crate::comment::{comment_lines, read_comment, read_tags};
 use crate::context::Context;
 use crate::fault::{ReadFault, fault_at};
 use crate::head::read_head;
@@ -73,8 +73,9 @@ fn read_lines(
     let head = read_head(context, content, line)?;
     let year = civil_of(head.day).year;
     let postings = read_postings(alloc, context, year, after, line + 1)?;
-    let comment = read_comment(alloc, head.comment, after)?;
-    let tags = read_tags(alloc, head.comment, after)?;
+    let more = comment_lines(after);
+    let comment = read_comment(alloc, head.comment, more)?;
+    let tags = read_tags(alloc, head.comment, more)?;
     Ok(Item::Txn(Txn {
         line,
         day: head.day,
