@@ -1,3 +1,4 @@
+mod After
 mod Bare
 mod Both
 mod Entries
