@@ -38,9 +38,7 @@ pub(crate) fn fill(
 fn stay_single(postings: &[Posting], plan: &Plan) -> bool
     ensures { result ≡ list_all (stays_single plan.now.real.items plan.now.balanced.items) postings.now }
 {
-    postings
-        .iter()
-        .all(|posting| stays_single(posting, plan))
+    postings.iter().all(|posting| stays_single(posting, plan))
 }
 
 /// Whether a posting has an amount, or one is found for it.
@@ -78,11 +76,7 @@ fn fill_in(alloc: Global, posting: &mut Posting, plan: &Plan) -> Result<(), Memo
 }
 
 /// The postings, each once for each amount that was found for it, with the recorded cost.
-fn fill_anew(
-    alloc: Global,
-    postings: Vec<Posting>,
-    plan: &Plan,
-) -> Result<List<Posting>, Memory>
+fn fill_anew(alloc: Global, postings: Vec<Posting>, plan: &Plan) -> Result<List<Posting>, Memory>
     requires real { misses Real postings.items ≡ true → plan.now.real.items ≡ found_values Real postings.items }
     requires balanced { misses Balanced postings.items ≡ true → plan.now.balanced.items ≡ found_values Balanced postings.items }
     requires free { misses Free postings.items ≡ false }

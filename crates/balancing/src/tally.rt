@@ -136,11 +136,7 @@ fn add_to<'a>(
 }
 
 /// Puts the sum of a symbol into a map.
-fn put<'a>(
-    sums: &mut BTreeMap<&'a str, Dec>,
-    symbol: &'a str,
-    sum: Dec,
-) -> Result<(), TallyFault>
+fn put<'a>(sums: &mut BTreeMap<&'a str, Dec>, symbol: &'a str, sum: Dec) -> Result<(), TallyFault>
     ensures ok { OnOk result (named sums.new.entries ≡ put (slice_cmp nat_cmp) symbol.now sum (named sums.old.entries)) }
     ensures fault { IfErr result (λ e. IsRange e → ⊥) }
 {

@@ -35,4 +35,4 @@ pub unchanged_account : (context : Context) (line : ℕ) (text : List ℕ) (side
 unchanged_account context line text side name h same =
     ap (λ (n : List ℕ). cond {A = Result (Side × List ℕ) Fault} (has_parts n) (Ok (side, n)) (Err (fault_at line cause.Account))) (same name)
     ∙ ap (λ (t : Bool). cond {A = Result (Side × List ℕ) Fault} t (Ok (side, name)) (Err (fault_at line cause.Account)))
-        (parts_of_read (has_parts (name_of text)) line (side_of text) (name_of text) (side, name) (λ e. e) h)
+    (parts_of_read (has_parts (name_of text)) line (side_of text) (name_of text) (side, name) (λ e. e) h)

@@ -54,4 +54,4 @@ no_remark (b ∷ bs) h =
     let content : List ℕ = take (inside (b ∷ bs)) (b ∷ bs) in
     ap comments_in (contents_cut (b ∷ bs) (omega arith))
     ∙ none_first (before_white content) (contents_of (drop (inside (b ∷ bs) + 1) (b ∷ bs)))
-        (λ t. false≢true (sym h ∙ comment_of_front (inside (b ∷ bs)) (b ∷ bs) (comment_of_front _ content t)))
+    (λ t. false≢true (sym h ∙ comment_of_front (inside (b ∷ bs)) (b ∷ bs) (comment_of_front _ content t)))

@@ -20,11 +20,11 @@ pub returns-clause-ok : goal.returns-clause-ok
 returns-clause-ok c =
     let old = c.copied-old.ensures ∙ c.get.ensures.value ∙ held-named c.args.sums.now.entries c.args.symbol.now in
     on_ok c.put.result
-        (λ e. e ∙ ap (λ (v : Decimal). put (slice_cmp nat_cmp) c.args.symbol.now v (named c.args.sums.now.entries)) (c.in_ok-sum.ensures.value ∙ ap (λ (o : Option Decimal). sum_with o c.args.value) old))
-        c.put.ensures.ok
+    (λ e. e ∙ ap (λ (v : Decimal). put (slice_cmp nat_cmp) c.args.symbol.now v (named c.args.sums.now.entries)) (c.in_ok-sum.ensures.value ∙ ap (λ (o : Option Decimal). sum_with o c.args.value) old))
+    c.put.ensures.ok
 
 pub returns-clause-within : goal.returns-clause-within
 returns-clause-within c =
     on_ok c.put.result
-        (λ e h. ap are_within e ∙ within-put c.args.symbol.now c.in_ok-sum.sum (named c.args.sums.now.entries) c.in_ok-sum.ensures.within h)
-        c.put.ensures.ok
+    (λ e h. ap are_within e ∙ within-put c.args.symbol.now c.in_ok-sum.sum (named c.args.sums.now.entries) c.in_ok-sum.ensures.within h)
+    c.put.ensures.ok
