@@ -2,6 +2,7 @@
 //! the exact bytes of each reply.
 #![tactic(auto)]
 
+mod alone;
 pub mod answer;
 pub mod ask;
 pub mod conn_end;
@@ -19,6 +20,7 @@ pub mod target;
 #[cfg(test)]
 mod tests;
 
+pub use alone::Alone;
 pub use ask::{Ask, Spent};
 pub use conn_end::{ConnEnd, Way};
 pub use reading::one_reading;
