@@ -1,17 +1,15 @@
 -- What was sent of a reply answers its message.
-use Rattle.std.proofs.Common.{◌≡◌, ℕ, ◌≤◌, Bool, List, [], ◌∷◌, ◌++◌, length, take, drop, Option, Some, None, IfSome, Result, Ok, Err, IfErr, refl, ap, sym, ◌∙◌, subst, inl, inr, append-nil, take-append-drop}
-use Rattle.desk.specs.declared.request.Request.{Request}
+use Rattle.std.proofs.Common.{◌≡◌, ℕ, ◌≤◌, Bool, List, [], ◌∷◌, ◌++◌, length, take, drop, Option, Some, None, IfSome, Result, Ok, Err, IfErr, refl, ap, sym, ◌∙◌, inr, append-nil, take-append-drop}
 use Rattle.web_desk.specs.declared.conn_end.ConnEnd.{ConnEnd}
 use Rattle.web_desk.specs.declared.conn_end.ConnEnd.TheVariants as conn
-use Rattle.web_desk.specs.declared.receive.Stop.{Stop}
 use Rattle.web_desk.specs.declared.refusal.Refusal.{Refusal}
-use Rattle.web_desk.specs.Answers.{answer_to, entry_message, refusal_message}
+use Rattle.web_desk.specs.Answers.{entry_message, refusal_message}
 use Rattle.desk.specs.Entries.{Entry}
 use Rattle.web_desk.specs.Receipt.{IsBroken}
 use Rattle.web_desk.specs.Served.{IsFrontOf, AreOf}
 use Rattle.hl_time.specs.declared.day.Day.{Day}
 use Rattle.std.proofs.lemmas.List.Elements.{All-nil, All-cons}
-use Rattle.web_desk.specs.Turns.{SentSo, BreaksIn, FailsSo, AnswersSo}
+use Rattle.web_desk.specs.Turns.{SentSo, FailsSo, AnswersSo}
 
 -- the bytes before something was sent, and all those after it
 abbrev pub Sends : Option (List ℕ) → Option (List ℕ) → (List ℕ → Type 0) → Type 0

@@ -1,5 +1,5 @@
 -- Digits that go on, and the words of a value one after another.
-use Rattle.std.proofs.Common.{◌≡◌, ℕ, ◌+◌, ◌*◌, ◌-◌, ◌/◌, ◌^◌, ◌<◌, ◌≤◌, Bool, true, false, ltb, List, [], ◌∷◌, length, take, drop, get_or, Option, Some, None, cond, refl, sym, ap, ◌∙◌, arith, rules, ◌||◌, inl, inr, take_all}
+use Rattle.std.proofs.Common.{◌≡◌, ℕ, ◌+◌, ◌*◌, ◌<◌, ◌≤◌, Bool, true, false, ltb, List, [], ◌∷◌, length, take, drop, Some, None, cond, refl, ◌∙◌, arith, ◌||◌, inl, inr, take_all}
 use Rattle.std.proofs.Math.Bool.{or-false}
 use Rattle.std.proofs.lemmas.Bool.{cases_lt}
 use Rattle.std.proofs.lemmas.List.Sums.{fails_before_first}
@@ -7,7 +7,7 @@ use Rattle.std.proofs.lemmas.Bool.Decides.{nat_tests}
 use Rattle.std.proofs.lemmas.List.Splits.{slice_split_first, slice_split_none}
 use Rattle.std.specs.Str.Parse.{digits_value_after}
 use Rattle.std.specs.Char.{digit_value}
-use Rattle.std.specs.List.{slice_split, position_or_len, before_first, after_first, All}
+use Rattle.std.specs.List.{position_or_len, All}
 use Rattle.web_desk.specs.Fields.{is_between, is_word, close, has_close}
 
 -- more digits make no smaller number

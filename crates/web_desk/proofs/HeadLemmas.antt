@@ -1,16 +1,15 @@
 -- What the parser's answers say of the front of a stream.
-use Rattle.std.proofs.Common.{◌≡◌, ℕ, ◌+◌, ◌<◌, ◌≤◌, ◌⊎◌, Bool, true, false, List, [], ◌∷◌, ◌++◌, length, take, drop, map, refl, ap, sym, ◌∙◌, subst, inl, inr, arith, append_assoc, length-append, length-take, append-nil}
+use Rattle.std.proofs.Common.{◌≡◌, ℕ, ◌<◌, ◌≤◌, true, false, List, [], ◌∷◌, ◌++◌, length, take, drop, ap, ◌∙◌, inl, inr, arith, length-append, length-take, append-nil}
 use Rattle.std.proofs.lemmas.List.{length-map}
 use Rattle.std.specs.List.{flat_map}
 use Rattle.httparse.specs.declared.spans.HeaderSpan.{HeaderSpan}
 use Rattle.httparse.specs.declared.spans.RequestSpans.{RequestSpans}
-use Rattle.httparse.specs.Grammar.{Field, print_field, print_end, print_section, LineEnd, lf, RequestHead, print_request, ReadsRequest, HasNoRequest, NeverHasRequest, MayBecomeRequest}
+use Rattle.httparse.specs.Grammar.{Field, print_field, print_end, lf, RequestHead, print_request, HasNoRequest, NeverHasRequest, MayBecomeRequest}
 use Rattle.httparse.specs.Spans.{header_bytes, name_and_value, IsRequestAt, IsRequestOf, RequestOverflows, RequestExceeds}
 use Rattle.web_desk.specs.declared.head.Head.{Head}
-use Rattle.web_desk.specs.declared.head.Judged.{Judged}
 use Rattle.web_desk.specs.declared.head.Judged.TheVariants.{Whole, Long, Bad, Open}
 use Rattle.web_desk.specs.Heads.{facts_of, JudgedSo}
-use Rattle.web_desk.specs.Streams.{IsBad, IsOpen, most_fields}
+use Rattle.web_desk.specs.Streams.{most_fields}
 use Rattle.web_desk.specs.Targets.{ends_in_target}
 
 -- each field has a byte at least

@@ -1,17 +1,16 @@
 -- A stream has one reading: its messages and its ending are determined.
-use Rattle.std.proofs.Common.{◌≡◌, ℕ, ◌+◌, ◌-◌, ◌<◌, ◌≤◌, ◌⊎◌, Bool, true, false, cond, List, [], ◌∷◌, ◌++◌, length, take, drop, Option, Some, None, refl, ap, sym, ◌∙◌, subst, inl, inr, arith, append_assoc, length-append, length-take, append-nil, ltb, ◌||◌, ◌==◌, take-append-drop, take_all}
+use Rattle.std.proofs.Common.{◌≡◌, ℕ, ◌+◌, ◌-◌, ◌<◌, ◌≤◌, true, false, cond, List, [], ◌∷◌, ◌++◌, length, take, drop, Option, Some, None, refl, ap, sym, ◌∙◌, subst, inl, inr, arith, append_assoc, length-append, append-nil, ltb, ◌||◌, ◌==◌}
 use Rattle.std.proofs.lemmas.Bool.Decides.{nat_tests}
 use Rattle.std.proofs.lemmas.List.Elements.{All-head, All-tail, All-nil, All-cons}
 use Rattle.std.proofs.lemmas.List.Sums.{fold-append}
 use Rattle.std.proofs.Math.Seq.{take-append_seam, drop-append_seam, take-append-add}
 use Rattle.std.specs.List.{flat_map, All}
 use Rattle.std.specs.Bool.{IsTrue}
-use Rattle.httparse.specs.Grammar.{LineEnd, crlf, lf, print_end, print_blank, is_token_byte, is_uri_byte, IsToken, AllPass, Field, IsField, RequestHead, IsRequestHead, print_request, ReadsRequest, HasNoRequest, NeverHasRequest, EndsInTarget}
+use Rattle.httparse.specs.Grammar.{LineEnd, crlf, lf, print_blank, is_token_byte, is_uri_byte, IsToken, AllPass, IsField, RequestHead, IsRequestHead, print_request, ReadsRequest, EndsInTarget}
 use Rattle.httparse.proofs.GrammarLemmas.{request_unique}
-use Rattle.web_desk.specs.declared.target.Place.{Place}
-use Rattle.web_desk.specs.declared.target.Place.TheVariants.{Start, Return, Method, Target, Past}
+use Rattle.web_desk.specs.declared.target.Place.TheVariants.{Start, Method, Target}
 use Rattle.web_desk.specs.Fields.{fields_of, body_length, closes}
-use Rattle.web_desk.specs.Streams.{Message, message_bytes, IsWhole, IsShort, IsBad, IsOpen, BeginsWith, is_last, Ending, over, last, unframed, bad_head, long_head, long_body, cut_body, cut_head, EndsSo, Messages, most_head, most_fields, most_body, most_messages, front}
+use Rattle.web_desk.specs.Streams.{Message, message_bytes, IsWhole, IsBad, IsOpen, BeginsWith, is_last, Ending, over, last, unframed, bad_head, long_head, long_body, cut_body, cut_head, EndsSo, Messages, most_head, most_fields, most_body, most_messages, front}
 use Rattle.web_desk.specs.Targets.{from_start, from_method, from_target, next_place, place_from, is_target, ends_in_target}
 use Rattle.web_desk.proofs.ReceiptLemmas.{front_all}
 
@@ -69,11 +68,11 @@ in_target_of bytes p =
 pub not_both : (bytes : List ℕ) → IsBad bytes → IsOpen bytes → ⊥
 not_both bytes bad still =
     elim still.open_still [
-      inl may ↦ elim may [
-        inl becomes ↦ bad.never becomes.0 becomes.1 [] becomes.2
-      | inr inside ↦ cc (in_target_of bytes inside, bad.outside)
+      | inl may ↦ elim may [
+        | inl becomes ↦ bad.never becomes.0 becomes.1 [] becomes.2
+        | inr inside ↦ cc (in_target_of bytes inside, bad.outside)
       ]
-    | inr inside ↦ cc (inside, bad.outside)
+      | inr inside ↦ cc (inside, bad.outside)
     ]
 
 -- a head has bytes
@@ -86,8 +85,7 @@ in_front : (rest more : List ℕ) (h : RequestHead) → ReadsRequest rest h more
     → (x : List ℕ) × ReadsRequest (front rest) h x
 in_front rest more h reads l =
     let room = most_head - length (print_request h) in
-    let e : most_head ≡ length (print_request h) + room = omega arith in
-    (
+    let e : most_head ≡ length (print_request h) + room = omega arith in (
       take room more,
       (reads.0, ap front reads.1 ∙ ap (λ n. take n (print_request h ++ more)) e ∙ take-append-add (print_request h) more room),
     )
@@ -258,12 +256,11 @@ one_message : (rest more other : List ℕ) (m k : Message) → IsWhole m → IsW
     → (m ≡ k) × (more ≡ other)
 one_message rest more other m k w v a b =
     let s = short_only rest (m.body ++ more) m.head (last k) (whole_begins rest more m w a)
-        (short k.head (k.body ++ other) (whole_begins rest other k v b) (sym (whole_site k other v))) in
-    let same : k ≡ m = last_same k m (s ∙ whole_site m more w) in
-    (
+    (short k.head (k.body ++ other) (whole_begins rest other k v b) (sym (whole_site k other v))) in
+    let same : k ≡ m = last_same k m (s ∙ whole_site m more w) in (
       sym same,
       sym (drop-append_seam (message_bytes m) more) ∙ ap (λ l. drop (length (message_bytes m)) l) (sym a ∙ b ∙ ap (λ x. message_bytes x ++ other) same)
-      ∙ drop-append_seam (message_bytes m) other,
+          ∙ drop-append_seam (message_bytes m) other,
     )
 
 -- a message isn't the last where it says nothing and others may follow
@@ -283,12 +280,12 @@ reads_same count bytes [] [] rest other_rest e other_e a w c l p b v d k q =
     (refl, (sym same, one_ending rest e other_e (site_of (count + 0) rest e p) (site_of (count + 0) rest other_e (subst P same q))))
 reads_same count bytes [] (m ∷ ms) rest other_rest e other_e a w c l p b v d k q =
     absurd (goes_on (count + 0) rest (flat_map message_bytes ms ++ other_rest) m e (All-head IsWhole m ms v)
-        (sym a ∙ b ∙ append_assoc (message_bytes m) (flat_map message_bytes ms) other_rest)
-        (not_last_of (count + 0) m (All-head (λ x. closes x.head ≡ false) m ms d) (omega (arith, k))) p)
+    (sym a ∙ b ∙ append_assoc (message_bytes m) (flat_map message_bytes ms) other_rest)
+    (not_last_of (count + 0) m (All-head (λ x. closes x.head ≡ false) m ms d) (omega (arith, k))) p)
 reads_same count bytes (m ∷ ms) [] rest other_rest e other_e a w c l p b v d k q =
     absurd (goes_on (count + 0) other_rest (flat_map message_bytes ms ++ rest) m other_e (All-head IsWhole m ms w)
-        (sym b ∙ a ∙ append_assoc (message_bytes m) (flat_map message_bytes ms) rest)
-        (not_last_of (count + 0) m (All-head (λ x. closes x.head ≡ false) m ms c) (omega (arith, l))) q)
+    (sym b ∙ a ∙ append_assoc (message_bytes m) (flat_map message_bytes ms) rest)
+    (not_last_of (count + 0) m (All-head (λ x. closes x.head ≡ false) m ms c) (omega (arith, l))) q)
 reads_same count bytes (m ∷ ms) (n ∷ ns) rest other_rest e other_e a w c l p b v d k q =
     let mine : bytes ≡ message_bytes m ++ (flat_map message_bytes ms ++ rest) = a ∙ append_assoc (message_bytes m) (flat_map message_bytes ms) rest in
     let theirs : bytes ≡ message_bytes n ++ (flat_map message_bytes ns ++ other_rest) = b ∙ append_assoc (message_bytes n) (flat_map message_bytes ns) other_rest in
@@ -298,8 +295,8 @@ reads_same count bytes (m ∷ ms) (n ∷ ns) rest other_rest e other_e a w c l p
     let i : count + length (m ∷ ms) ≡ (count + 1) + length ms = omega arith in
     let j : count + length (n ∷ ns) ≡ (count + 1) + length ns = omega arith in
     let more = reads_same (count + 1) (flat_map message_bytes ms ++ rest) ms ns rest other_rest e other_e
-        refl (All-tail IsWhole m ms w) (All-tail (λ x. closes x.head ≡ false) m ms c) (omega (arith, l)) (subst P i p)
-        one.1 (All-tail IsWhole n ns v) (All-tail (λ x. closes x.head ≡ false) n ns d) (omega (arith, k)) (subst Q j q) in
+    refl (All-tail IsWhole m ms w) (All-tail (λ x. closes x.head ≡ false) m ms c) (omega (arith, l)) (subst P i p)
+    one.1 (All-tail IsWhole n ns v) (All-tail (λ x. closes x.head ≡ false) n ns d) (omega (arith, k)) (subst Q j q) in
     (ap (λ x. x ∷ ms) one.0 ∙ ap (λ xs. n ∷ xs) more.0, more.1)
 
 -- a stream has one reading

@@ -1,24 +1,21 @@
 -- What is settled of the front of a stream stays so whatever follows.
-use Rattle.std.proofs.Common.{◌≡◌, ℕ, ◌+◌, ◌-◌, ◌<◌, ◌≤◌, ◌⊎◌, Bool, true, false, List, [], ◌∷◌, ◌++◌, length, take, drop, Option, Some, None, IfSome, refl, ap, sym, ◌∙◌, subst, inl, inr, arith, append_assoc, length-append, length-take, length-drop, append-nil, take_all, take-append-drop, min, suc, cond}
+use Rattle.std.proofs.Common.{◌≡◌, ℕ, ◌+◌, ◌-◌, ◌<◌, ◌≤◌, Bool, true, false, List, [], ◌∷◌, ◌++◌, length, take, drop, Option, Some, None, IfSome, refl, ap, sym, ◌∙◌, subst, inl, inr, arith, append_assoc, length-append, length-take, append-nil, take_all, take-append-drop, min, suc, cond}
 use Rattle.std.proofs.lemmas.List.{take-append-le, drop-append-le}
 use Rattle.std.proofs.lemmas.Bool.{cases_lt, leb-true, leb-false}
 use Rattle.std.specs.Prelude.{nat_le, ◌||◌}
 use Rattle.std.proofs.lemmas.List.Sums.{fold-append}
 use Rattle.std.proofs.Math.Seq.{take-append-add}
-use Rattle.httparse.specs.Grammar.{RequestHead, print_request, ReadsRequest, HasNoRequest, NeverHasRequest}
+use Rattle.httparse.specs.Grammar.{RequestHead, print_request, ReadsRequest, NeverHasRequest}
 use Rattle.web_desk.specs.declared.head.Head.{Head}
 use Rattle.web_desk.specs.declared.head.Judged.{Judged}
 use Rattle.web_desk.specs.declared.head.Judged.TheVariants as judged
 use Rattle.web_desk.specs.declared.receive.Stop.TheVariants as stop
 use Rattle.web_desk.specs.declared.receive.Next.TheVariants as next
-use Rattle.web_desk.specs.declared.target.Place.{Place}
 use Rattle.web_desk.specs.declared.target.Place.TheVariants.{Start, Past}
-use Rattle.web_desk.specs.Fields.{fields_of, body_length}
-use Rattle.web_desk.specs.Heads.{facts_of}
-use Rattle.web_desk.specs.Receipt.{IsStream, Keeps, GoesOn, Whatever, is_settled, SettledSo, NextSo, StartsWith, ending_of}
-use Rattle.web_desk.specs.Streams.{Message, message_bytes, IsWhole, IsShort, IsBad, IsOpen, Ending, EndsSo, BeginsWith, most_head, most_body, most_fields, front}
+use Rattle.web_desk.specs.Receipt.{IsStream, GoesOn, Whatever, SettledSo, NextSo, StartsWith, ending_of}
+use Rattle.web_desk.specs.Streams.{IsBad, IsOpen, EndsSo, BeginsWith, most_head, most_body, front}
 use Rattle.web_desk.specs.Unread.{Unread}
-use Rattle.web_desk.specs.Targets.{next_place, place_from, ends_in_target, is_target}
+use Rattle.web_desk.specs.Targets.{next_place, place_from, is_target}
 
 -- bytes that never have a head never have one with more after them
 pub never_more : (bytes more : List ℕ) → NeverHasRequest bytes → NeverHasRequest (bytes ++ more)

@@ -1,32 +1,28 @@
 -- One message after another, and then the end.
-use Rattle.std.proofs.Common.{◌≡◌, ℕ, ◌+◌, ◌<◌, ◌≤◌, ◌⊎◌, Bool, true, false, List, [], ◌∷◌, ◌++◌, length, take, drop, Option, Some, None, IfSome, OnOk, Result, Ok, Err, refl, ap, sym, ◌∙◌, subst, inl, inr, arith, append_assoc, length-append, append-nil, lit<, ◌||◌, ◌==◌, map}
-use Rattle.std.proofs.Math.Bool.{or-false}
+use Rattle.std.proofs.Common.{◌≡◌, ℕ, ◌+◌, ◌<◌, Bool, true, false, List, [], ◌∷◌, ◌++◌, length, take, drop, Option, Some, None, IfSome, OnOk, Result, Ok, Err, refl, ap, sym, ◌∙◌, subst, inl, inr, arith, append_assoc, length-append, append-nil, lit<, ◌||◌, ◌==◌}
 use Rattle.std.proofs.Math.Seq.{take-append_seam, drop-append_seam}
 use Rattle.std.proofs.lemmas.Bool.Decides.{nat_tests}
 use Rattle.std.proofs.lemmas.Grind.{flat_map-append}
 use Rattle.std.proofs.lemmas.List.Elements.{All-push, All-append, All-nil}
-use Rattle.std.specs.List.{flat_map, All}
-use Rattle.std.specs.Option.{option_to_list}
-use Rattle.httparse.specs.Grammar.{RequestHead, print_request}
+use Rattle.std.specs.List.{flat_map}
+use Rattle.httparse.specs.Grammar.{print_request}
 use Rattle.desk.specs.declared.request.Request.{Request}
 use Rattle.web_desk.specs.declared.conn_end.ConnEnd.{ConnEnd}
 use Rattle.web_desk.specs.declared.conn_end.ConnEnd.TheVariants as conn
 use Rattle.web_desk.specs.declared.head.Head.{Head}
 use Rattle.web_desk.specs.declared.receive.Stop.{Stop}
 use Rattle.web_desk.specs.declared.receive.Stop.TheVariants as stop
-use Rattle.web_desk.specs.declared.receive.Next.TheVariants as next
 use Rattle.web_desk.specs.declared.refusal.Refusal.{Refusal}
-use Rattle.web_desk.specs.Answers.{answer_to}
 use Rattle.web_desk.specs.Calls.{call_at}
 use Rattle.desk.specs.Entries.{Entry}
 use Rattle.web_desk.specs.Fields.{closes}
 use Rattle.web_desk.specs.Heads.{facts_of}
-use Rattle.web_desk.specs.Receipt.{IsStream, Whatever, IsBroken, NextSo, ending_of}
-use Rattle.web_desk.specs.Served.{Exchange, IsServed, exchanged, entry_of, answer_of, asks, FitsCall, Finishes, Served, IsLog, entries_of, log_text, AreOf, IsFrontOf, ending_text}
-use Rattle.web_desk.specs.Streams.{Message, message_bytes, IsWhole, is_last, most_messages, Ending, last, EndsSo, end_of}
-use Rattle.web_desk.specs.Turns.{ClosesSo, BreaksIn, FailsSo, AnswersSo, StepSo}
+use Rattle.web_desk.specs.Receipt.{IsStream, Whatever, IsBroken, ending_of}
+use Rattle.web_desk.specs.Served.{Exchange, IsServed, exchanged, entry_of, answer_of, asks, Finishes, Served, IsLog, entries_of, log_text, AreOf, IsFrontOf, ending_text}
+use Rattle.web_desk.specs.Streams.{Message, message_bytes, IsWhole, is_last, most_messages, last, EndsSo, end_of}
+use Rattle.web_desk.specs.Turns.{ClosesSo, FailsSo, AnswersSo, StepSo}
 use Rattle.web_desk.specs.Unread.{Unread}
-use Rattle.web_desk.proofs.AnswerLemmas.{Sends, sends_more, sends_nothing, none_of, day_of}
+use Rattle.web_desk.proofs.AnswerLemmas.{Sends, day_of}
 
 -- only a last message depends on how many came before
 pub ends_at : (count : ℕ) (rest : List ℕ) (s : Stop) → EndsSo 0 rest (ending_of s) → EndsSo count rest (ending_of s)

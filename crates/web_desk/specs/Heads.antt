@@ -1,6 +1,6 @@
 -- What the server keeps of a head, and what it finds at the front of a stream.
-use Rattle.std.specs.Prelude.{◌≡◌, ℕ, ◌<◌, ◌≤◌, ◌++◌, List, length, Bool, true, false}
-use Rattle.httparse.specs.Grammar.{RequestHead, IsRequestHead, print_request, ReadsRequest}
+use Rattle.std.specs.Prelude.{◌≡◌, ℕ, ◌<◌, ◌≤◌, List, length}
+use Rattle.httparse.specs.Grammar.{RequestHead, print_request, ReadsRequest}
 use Rattle.web_desk.specs.declared.head.Head.{Head}
 use Rattle.web_desk.specs.declared.head.Judged.{Judged}
 use Rattle.web_desk.specs.declared.head.Judged.TheVariants.{Whole, Long, Bad, Open}

@@ -1,7 +1,6 @@
 -- The lines in which replies say what was done or why not. Each ends with LF.
 use Rattle.std.specs.Prelude.{ℕ, List, [], ◌∷◌, ◌++◌, codes}
 use Rattle.std.specs.Fmt.{decimal}
-use Rattle.book.specs.declared.fault.Fault.{Fault}
 use Rattle.book.specs.FaultLine.{fault_line}
 use Rattle.desk.specs.declared.request.Allow.{Allow}
 use Rattle.desk.specs.declared.request.Allow.TheVariants as allow

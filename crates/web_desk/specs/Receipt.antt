@@ -1,9 +1,8 @@
 -- What has come over a link and isn't used yet.
-use Rattle.std.specs.Prelude.{◌≡◌, ◌⊎◌, ℕ, ◌+◌, ◌≤◌, ◌||◌, Bool, true, false, List, [], ◌++◌, length, nat_le, Option, Some, IfSome, Result, Ok, Err}
+use Rattle.std.specs.Prelude.{◌≡◌, ◌⊎◌, ℕ, ◌||◌, Bool, true, List, [], ◌++◌, length, nat_le, Option, Some}
 use Rattle.httparse.specs.Grammar.{RequestHead}
 use Rattle.web_desk.specs.declared.conn_end.ConnEnd.{ConnEnd}
 use Rattle.web_desk.specs.declared.conn_end.ConnEnd.TheVariants as conn
-use Rattle.web_desk.specs.declared.conn_end.Way.TheVariants.{Read, Write}
 use Rattle.web_desk.specs.declared.head.Head.{Head}
 use Rattle.web_desk.specs.declared.head.Judged.{Judged}
 use Rattle.web_desk.specs.declared.head.Judged.TheVariants as judged
@@ -13,7 +12,7 @@ use Rattle.web_desk.specs.declared.receive.Next.{Next}
 use Rattle.web_desk.specs.declared.receive.Next.TheVariants as next
 use Rattle.web_desk.specs.declared.target.Place.TheVariants.{Start, Past}
 use Rattle.web_desk.specs.Heads.{facts_of, JudgedSo}
-use Rattle.web_desk.specs.Streams.{Message, message_bytes, IsWhole, IsBad, IsOpen, Ending, over, unframed, bad_head, long_head, long_body, cut_body, cut_head, EndsSo, BeginsWith, most_head, front}
+use Rattle.web_desk.specs.Streams.{Message, message_bytes, IsWhole, IsBad, IsOpen, Ending, over, unframed, bad_head, long_head, long_body, cut_body, cut_head, EndsSo, BeginsWith, most_head}
 use Rattle.web_desk.specs.Targets.{place_from}
 use Rattle.web_desk.specs.Unread.{Unread}
 

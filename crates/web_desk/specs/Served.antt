@@ -1,7 +1,6 @@
 -- What a connection did: which entries the messages of its stream led to, and which bytes were sent.
-use Rattle.std.specs.Prelude.{◌≡◌, ℕ, ◌+◌, ◌<◌, ◌⊎◌, Bool, true, false, List, [], ◌++◌, length, map, Option, Some, None, IfSome, Result, Ok, Err, All, option_to_list}
+use Rattle.std.specs.Prelude.{◌≡◌, ℕ, ◌<◌, ◌⊎◌, Bool, true, false, List, [], ◌++◌, length, Option, Some, None, Result, Ok, Err, All, option_to_list}
 use Rattle.std.specs.List.{flat_map}
-use Rattle.hl_time.specs.declared.day.Day.{Day}
 use Rattle.desk.specs.declared.request.Request.{Request}
 use Rattle.web_desk.specs.declared.conn_end.ConnEnd.{ConnEnd}
 use Rattle.web_desk.specs.declared.conn_end.ConnEnd.TheVariants as conn

@@ -1,5 +1,5 @@
 -- What one message, or one end, brings.
-use Rattle.std.specs.Prelude.{◌≡◌, ◌⊎◌, ℕ, ◌+◌, ◌<◌, Bool, true, false, List, [], ◌++◌, length, Option, Some, None, IfSome, Result, Ok, Err, option_to_list}
+use Rattle.std.specs.Prelude.{◌≡◌, ◌⊎◌, ℕ, ◌+◌, ◌<◌, Bool, false, List, [], ◌++◌, length, Option, Some, None, Result, Ok, Err, option_to_list}
 use Rattle.desk.specs.declared.request.Request.{Request}
 use Rattle.web_desk.specs.declared.conn_end.ConnEnd.{ConnEnd}
 use Rattle.web_desk.specs.declared.conn_end.ConnEnd.TheVariants as conn
@@ -7,7 +7,7 @@ use Rattle.web_desk.specs.declared.receive.Stop.{Stop}
 use Rattle.web_desk.specs.declared.receive.Stop.TheVariants as stop
 use Rattle.web_desk.specs.declared.refusal.Refusal.{Refusal}
 use Rattle.web_desk.specs.declared.refusal.Refusal.TheVariants as refusal
-use Rattle.web_desk.specs.Answers.{answer_to, refusal_message}
+use Rattle.web_desk.specs.Answers.{answer_to}
 use Rattle.desk.specs.Entries.{Entry}
 use Rattle.web_desk.specs.Receipt.{IsBroken, ending_of}
 use Rattle.web_desk.specs.Served.{FitsCall, IsFrontOf, Finishes, Exchange, IsServed, exchanged, entry_of, answer_of, ending_text}

@@ -8,5 +8,4 @@ pub fn one_reading()
     ensures { (bytes : List ℕ) (before other : List Message) (rest other_rest : List ℕ) (ending other_ending : Ending)
         → Messages bytes before rest ending → Messages bytes other other_rest other_ending
         → (before ≡ other) × ((rest ≡ other_rest) × (ending ≡ other_ending)) }
-{
-}
+{}

@@ -400,5 +400,11 @@ fn limits(rt: HostRuntime) -> Result<(), Fail> {
     is_limited(alloc, long, b"x", 16_359, (ConnEnd::HeadTooLong, LONG_HEAD))?;
     let wide = b"GET /none HTTP/1.1";
     is_limited(alloc, wide, b"\r\na:", 64, (ConnEnd::Closed, NO_PATH))?;
-    is_limited(alloc, wide, b"\r\na:", 65, (ConnEnd::HeadTooLong, LONG_HEAD))
+    is_limited(
+        alloc,
+        wide,
+        b"\r\na:",
+        65,
+        (ConnEnd::HeadTooLong, LONG_HEAD),
+    )
 }

@@ -1,4 +1,4 @@
-use Rattle.std.proofs.Common.{◌≡◌, ℕ, ◌+◌, ◌<◌, ◌≤◌, length, arith, rules, sym, ap, ◌∙◌, true, false, drop}
+use Rattle.std.proofs.Common.{◌≡◌, ◌<◌, length, rules, sym, ap, ◌∙◌, true, false}
 use Rattle.web_desk.specs.Fields.{has_close}
 use Rattle.web_desk.proofs.FieldLemmas.{close_now, close_never, close_later, found_of}
 use Rattle.web_desk.proofs.fields.has_close_word.Goals as goal

@@ -1,4 +1,4 @@
-use Rattle.std.proofs.Common.{ℕ, length, sym, arith, rules}
+use Rattle.std.proofs.Common.{length, sym, arith, rules}
 use Rattle.std.proofs.lemmas.List.Sums.{position_or_len_is}
 use Rattle.web_desk.specs.Fields.{is_between}
 use Rattle.web_desk.proofs.fields.word_length.Goals as goal

@@ -1,4 +1,4 @@
-use Rattle.std.proofs.Common.{◌≡◌, ℕ, ◌≤◌, length, arith, rules}
+use Rattle.std.proofs.Common.{rules}
 use Rattle.web_desk.proofs.HeadLemmas.{whole_judged}
 use Rattle.web_desk.proofs.head.judge.Goals as goal
 

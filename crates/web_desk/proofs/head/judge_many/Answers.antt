@@ -1,4 +1,4 @@
-use Rattle.std.proofs.Common.{◌≡◌, ℕ, ◌≤◌, length, arith, rules, refl}
+use Rattle.std.proofs.Common.{length, rules, refl}
 use Rattle.web_desk.proofs.HeadLemmas.{never_exceeds}
 use Rattle.web_desk.proofs.head.judge_many.Goals as goal
 

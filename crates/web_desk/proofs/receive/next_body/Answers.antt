@@ -1,5 +1,4 @@
-use Rattle.std.proofs.Common.{◌≡◌, ℕ, ◌+◌, ◌<◌, ◌≤◌, List, length, ◌-◌, true, inl, inr, arith, rules, ap, sym}
-use Rattle.web_desk.specs.Streams.{most_head}
+use Rattle.std.proofs.Common.{◌≡◌, length, ◌-◌, true, inl, inr, arith, rules, ap}
 use Rattle.web_desk.proofs.ReceiptLemmas.{unframed_stays, long_body_stays, cut_body_stays, message_there, starts_more}
 use Rattle.web_desk.proofs.receive.next_body.Goals as goal
 

@@ -1,4 +1,4 @@
-use Rattle.std.proofs.Common.{◌≡◌, ◌∙◌, ap, subst, rules}
+use Rattle.std.proofs.Common.{subst}
 use Rattle.web_desk.specs.declared.head.Judged.{Judged}
 use Rattle.web_desk.specs.Receipt.{is_settled, SettledSo}
 use Rattle.web_desk.specs.Streams.{front}

@@ -1,4 +1,4 @@
-use Rattle.std.proofs.Common.{◌≡◌, refl, rules}
+use Rattle.std.proofs.Common.{rules}
 use Rattle.web_desk.proofs.ReceiptLemmas.{shrinks}
 use Rattle.web_desk.proofs.receive.read_head.Goals as goal
 

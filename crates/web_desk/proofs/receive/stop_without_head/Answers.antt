@@ -1,6 +1,5 @@
-use Rattle.std.proofs.Common.{◌≡◌, ℕ, ◌+◌, ◌<◌, ◌≤◌, List, length, arith, rules, ap, sym}
-use Rattle.web_desk.specs.Streams.{most_head}
-use Rattle.web_desk.proofs.ReceiptLemmas.{over_stays, too_long_stays, cut_stays}
+use Rattle.std.proofs.Common.{length, arith, ap}
+use Rattle.web_desk.proofs.ReceiptLemmas.{too_long_stays, cut_stays}
 use Rattle.web_desk.proofs.receive.stop_without_head.Goals as goal
 
 pub returns-then-had-ge-MOST_HEAD : goal.returns-then-had-ge-MOST_HEAD

@@ -1,4 +1,4 @@
-use Rattle.std.proofs.Common.{◌≡◌, ℕ, List, [], Err, subst}
+use Rattle.std.proofs.Common.{ℕ, List, [], Err, subst}
 use Rattle.web_desk.specs.Answers.{refusal_message}
 use Rattle.web_desk.specs.Turns.{SentSo, AnswersSo}
 use Rattle.web_desk.proofs.AnswerLemmas.{Sends, sends_more, refusal_answers}

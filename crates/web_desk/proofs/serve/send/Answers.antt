@@ -1,4 +1,3 @@
-use Rattle.std.proofs.Common.{◌≡◌, ℕ, List}
 use Rattle.web_desk.proofs.AnswerLemmas.{front_sent}
 use Rattle.web_desk.proofs.serve.send.Goals as goal
 

@@ -1,4 +1,4 @@
-use Rattle.std.proofs.Common.{◌≡◌, ℕ, List, subst}
+use Rattle.std.proofs.Common.{ℕ, List, subst}
 use Rattle.web_desk.specs.Turns.{SentSo}
 use Rattle.web_desk.proofs.AnswerLemmas.{Sends}
 use Rattle.web_desk.proofs.serve.send_refusal.Goals as goal

@@ -1,4 +1,4 @@
-use Rattle.std.proofs.Common.{◌≡◌, ◌∙◌, ◌+◌, ◌*◌, ◌≤◌, ℕ, List, [], ◌++◌, Option, IfSome, sym, subst, refl, lit<, arith}
+use Rattle.std.proofs.Common.{◌∙◌, ℕ, [], ◌++◌, Option, IfSome, sym, subst, refl, lit<, arith}
 use Rattle.web_desk.specs.Served.{AreOf}
 use Rattle.web_desk.specs.Unread.{Unread}
 use Rattle.web_desk.proofs.AnswerLemmas.{none_of}

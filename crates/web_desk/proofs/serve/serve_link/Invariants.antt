@@ -1,4 +1,4 @@
-use Rattle.std.proofs.Common.{◌≡◌, ℕ, List, ◌*◌, ◌<◌, ◌≤◌, IfSome}
+use Rattle.std.proofs.Common.{◌≡◌, List, ◌*◌, ◌<◌, ◌≤◌, IfSome}
 use Rattle.desk.specs.Entries.{Entry}
 use Rattle.web_desk.specs.Served.{AreOf}
 use Rattle.web_desk.specs.Streams.{most_messages}

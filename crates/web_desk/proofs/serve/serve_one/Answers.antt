@@ -1,9 +1,7 @@
-use Rattle.std.proofs.Common.{◌≡◌, ◌∙◌, ℕ, List, [], ◌++◌, Bool, true, false, Option, Ok, Err, Result, ap, sym, subst, refl, drop, take, rules}
+use Rattle.std.proofs.Common.{◌∙◌, ℕ, List, [], ◌++◌, true, false, Option, Ok, Err, ap, sym, subst, refl, drop, take}
 use Rattle.std.proofs.lemmas.Result.{err_from_is_err_and}
-use Rattle.web_desk.specs.declared.conn_end.ConnEnd.{ConnEnd}
 use Rattle.web_desk.specs.declared.conn_end.ConnEnd.TheVariants as conn
 use Rattle.web_desk.specs.declared.receive.Next.{Next}
-use Rattle.web_desk.specs.Calls.{call_at}
 use Rattle.web_desk.specs.Receipt.{NextSo}
 use Rattle.web_desk.specs.Served.{Finishes, asks}
 use Rattle.web_desk.specs.Streams.{is_last}

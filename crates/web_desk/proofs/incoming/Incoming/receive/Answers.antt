@@ -1,4 +1,4 @@
-use Rattle.std.proofs.Common.{◌≡◌, ℕ, List, ◌≤◌, length, arith, rules, ap, sym}
+use Rattle.std.proofs.Common.{length, rules, ap, sym}
 use Rattle.web_desk.proofs.ReceiptLemmas.{more_read, end_read, goes_on}
 use Rattle.web_desk.proofs.incoming.Incoming.receive.Goals as goal
 
