@@ -50,6 +50,14 @@ fn told(fault: &EditFault) -> Told {
     }
 }
 
+fn meets(told: Told, wanted: Told) -> Result<(), Fail> {
+    if told == wanted {
+        Ok(())
+    } else {
+        Err(Fail::new(wanted.0))
+    }
+}
+
 /// An edit is refused so.
 fn refuses<L: Ledger>(
     live: &mut Live,
@@ -57,9 +65,10 @@ fn refuses<L: Ledger>(
     wanted: Told,
     steps: &mut Steps<L>,
 ) -> Result<(), Fail> {
-    match live.prepare(&edit?, steps) {
-        Err(fault) if told(&fault) == wanted => Ok(()),
-        _ => Err(Fail::new(wanted.0)),
+    let edit = edit?;
+    match live.prepare(&edit, steps) {
+        Ok(_plan) => Err(Fail::new("it is refused")),
+        Err(fault) => meets(told(&fault), wanted),
     }
 }
 
@@ -69,7 +78,8 @@ fn put<L: Ledger>(
     edit: Result<Edit, Memory>,
     steps: &mut Steps<L>,
 ) -> Result<(bool, u64), Fail> {
-    let plan = live.prepare(&edit?, steps)?;
+    let edit = edit?;
+    let plan = live.prepare(&edit, steps)?;
     if live.revision() > 100 {
         return Err(Fail::new("few edits"));
     }
