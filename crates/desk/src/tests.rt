@@ -21,6 +21,70 @@ const OFF: &[u8] = b"2024-01-05 bread\n    expenses:food  10 EUR\n    assets:cas
 
 const TODAY: Day = Day(739_052);
 
+/// A request in short.
+#[derive(Clone, Copy)]
+enum Ask {
+    Report(&'static str),
+    Download,
+    Add(&'static [u8]),
+    Change(u64, u64, &'static [u8]),
+    Replace(u64, &'static [u8]),
+}
+
+/// A reply's name and its numbers.
+type Told = (&'static str, u64, u64);
+
+/// A request, what its reply tells, and the text in it.
+type Row = (Ask, Told, &'static [u8]);
+
+/// An entry that was added is in the report and in the text.
+const ADDED: [Row; 4] = [
+    (Ask::Add(BREAD), ("done", 1, 0), b""),
+    (Ask::Report("balance"), ("text", 1, 0), LIST),
+    (Ask::Download, ("text", 1, 0), BREAD),
+    (Ask::Replace(1, b""), ("forbidden", 0, 0), b""),
+];
+
+/// Edits that don't stand.
+const REFUSED: [Row; 8] = [
+    (Ask::Add(BREAD), ("done", 1, 0), b""),
+    (Ask::Replace(0, b""), ("stale", 0, 1), b""),
+    (Ask::Replace(2, b""), ("bad base", 2, 1), b""),
+    (Ask::Change(1, 9, b""), ("no such item", 9, 1), b""),
+    (Ask::Add(b"; no entry\n"), ("not transactions", 1, 0), b""),
+    (Ask::Add(OFF), ("load", 5, 0), b""),
+    (Ask::Replace(1, BREAD), ("same", 1, 0), b""),
+    (Ask::Report("print"), ("words", 0, 0), b""),
+];
+
+/// A record of 94 bytes behind a new store's 47.
+const PAST_THE_LIMIT: [Row; 1] = [(Ask::Add(BREAD), ("full", 141, 140), b"")];
+
+/// The third record has room in a new store alone.
+const WRITTEN_ANEW: [Row; 3] = [
+    (Ask::Add(BREAD), ("done", 1, 0), b""),
+    (Ask::Change(1, 1, b""), ("done", 2, 0), b""),
+    (Ask::Add(BREAD), ("done", 3, 0), b""),
+];
+
+const FAULTY: [Row; 2] = [
+    (Ask::Add(BREAD), ("disk fault", 0, 1), b""),
+    (Ask::Add(BREAD), ("done", 1, 0), b""),
+];
+
+/// The text of the entry above, after the next opening.
+const LATER: [Row; 1] = [(Ask::Download, ("text", 1, 0), BREAD)];
+
+/// The tables above.
+struct Tables {
+    added: &'static [Row],
+    refused: &'static [Row],
+    past: &'static [Row],
+    anew: &'static [Row],
+    faulty: &'static [Row],
+    later: &'static [Row],
+}
+
 fn add(alloc: Global, entry: &[u8]) -> Result<Request, Memory> {
     let entry = Bytes::copied(alloc, entry)?;
     Ok(Request::Add { entry })
@@ -43,6 +107,77 @@ fn report(alloc: Global, word: &str) -> Result<Request, Memory> {
     Ok(Request::Report {
         words: List::from_vec(words),
     })
+}
+
+fn request_of(alloc: Global, ask: Ask) -> Result<Request, Memory> {
+    match ask {
+        Ask::Report(word) => report(alloc, word),
+        Ask::Download => Ok(Request::Download),
+        Ask::Add(entry) => add(alloc, entry),
+        Ask::Change(base, item, entry) => change(alloc, base, item, entry),
+        Ask::Replace(base, text) => replace(alloc, base, text),
+    }
+}
+
+fn told(reply: &Reply) -> Told {
+    match reply {
+        Reply::Done { revision } => ("done", *revision, 0),
+        Reply::Same { revision } => ("same", *revision, 0),
+        Reply::Text { revision, .. } => ("text", *revision, 0),
+        Reply::Forbidden { .. } => ("forbidden", 0, 0),
+        Reply::Stale { base, current } => ("stale", *base, *current),
+        Reply::BadBase { base, current } => ("bad base", *base, *current),
+        Reply::NoSuchItem { n, count } => ("no such item", *n, *count),
+        Reply::NotTransactions { line } => ("not transactions", *line, 0),
+        Reply::Load(fault) => ("load", fault.line, 0),
+        Reply::TooLarge { limit, size } => ("too large", *limit, *size),
+        Reply::DiskFault { before, after } => ("disk fault", *before, *after),
+        Reply::Words(_) => ("words", 0, 0),
+        Reply::Full { size, limit } => ("full", *size, *limit),
+        Reply::Memory => ("memory", 0, 0),
+    }
+}
+
+/// The text in a reply.
+fn text_in(reply: &Reply) -> &[u8] {
+    match reply {
+        Reply::Text { revision: _, bytes } => bytes.as_slice(),
+        _ => b"",
+    }
+}
+
+/// A reply tells this, with this text.
+fn meets(reply: &Reply, wanted: Told, text: &[u8]) -> Result<(), Fail> {
+    if told(reply) == wanted && text_in(reply) == text {
+        Ok(())
+    } else {
+        Err(Fail::new(wanted.0))
+    }
+}
+
+/// A request has this reply.
+fn expect<L: Ledger>(
+    alloc: Global,
+    desk: &mut Desk<MemDisk>,
+    row: &Row,
+    steps: &mut Steps<L>,
+) -> Result<(), Fail> {
+    let (ask, wanted, text) = *row;
+    let request = request_of(alloc, ask)?;
+    let reply = desk.request(alloc, &request, TODAY, steps);
+    meets(&reply, wanted, text)
+}
+
+fn expect_all<L: Ledger>(
+    alloc: Global,
+    desk: &mut Desk<MemDisk>,
+    rows: &[Row],
+    steps: &mut Steps<L>,
+) -> Result<(), Fail> {
+    for row in rows {
+        expect(alloc, desk, row, steps)?;
+    }
+    Ok(())
 }
 
 /// A machine of the empty text, with a disk of which some calls fail and one without a fault.
@@ -75,184 +210,114 @@ fn opened_again<L: Ledger>(
     }
 }
 
-/// A reply's name and its numbers.
-type Told = (&'static str, u64, u64);
-
-fn told(reply: &Reply) -> Told {
-    match reply {
-        Reply::Done { revision } => ("done", *revision, 0),
-        Reply::Same { revision } => ("same", *revision, 0),
-        Reply::Text { revision, .. } => ("text", *revision, 0),
-        Reply::Forbidden { .. } => ("forbidden", 0, 0),
-        Reply::Stale { base, current } => ("stale", *base, *current),
-        Reply::BadBase { base, current } => ("bad base", *base, *current),
-        Reply::NoSuchItem { n, count } => ("no such item", *n, *count),
-        Reply::NotTransactions { line } => ("not transactions", *line, 0),
-        Reply::Load(fault) => ("load", fault.line, 0),
-        Reply::TooLarge { limit, size } => ("too large", *limit, *size),
-        Reply::DiskFault { before, after } => ("disk fault", *before, *after),
-        Reply::Words(_) => ("words", 0, 0),
-        Reply::Full { size, limit } => ("full", *size, *limit),
-        Reply::Memory => ("memory", 0, 0),
-    }
-}
-
-/// What a machine replies to a request.
+/// A machine of the empty text after these requests.
 fn asked<L: Ledger>(
     alloc: Global,
-    desk: &mut Desk<MemDisk>,
-    request: Result<Request, Memory>,
+    limit: u64,
+    allow: Allow,
+    fails: &[u64],
+    rows: &[Row],
     steps: &mut Steps<L>,
-) -> Result<Told, Fail> {
-    let reply = desk.request(alloc, &request?, TODAY, steps);
-    Ok(told(&reply))
+) -> Result<Desk<MemDisk>, Fail> {
+    let mut desk = new_desk(alloc, limit, allow, fails, steps)?;
+    expect_all(alloc, &mut desk, rows, steps)?;
+    Ok(desk)
 }
 
-/// A request has this reply.
-fn expect<L: Ledger>(
+/// The entry is there after the next opening.
+fn is_kept<L: Ledger>(
     alloc: Global,
-    desk: &mut Desk<MemDisk>,
-    request: Result<Request, Memory>,
-    wanted: Told,
+    desk: Desk<MemDisk>,
+    later: &[Row],
     steps: &mut Steps<L>,
 ) -> Result<(), Fail> {
-    if asked(alloc, desk, request, steps)? == wanted {
-        Ok(())
-    } else {
-        Err(Fail::new(wanted.0))
-    }
-}
-
-/// A request is replied with this text, of revision 1.
-fn expect_text<L: Ledger>(
-    alloc: Global,
-    desk: &mut Desk<MemDisk>,
-    request: Result<Request, Memory>,
-    text: &[u8],
-    steps: &mut Steps<L>,
-) -> Result<(), Fail> {
-    match desk.request(alloc, &request?, TODAY, steps) {
-        Reply::Text { revision: 1, bytes } if bytes.as_slice() == text => Ok(()),
-        _ => Err(Fail::new("the text of revision 1")),
-    }
-}
-
-fn expect_counts(desk: &Desk<MemDisk>, wanted: (u64, u64, u64)) -> Result<(), Fail> {
-    if desk.counts() == wanted {
-        Ok(())
-    } else {
-        Err(Fail::new("the counts"))
-    }
-}
-
-/// An entry that was added is in the reports, in the text, and there after the next opening.
-fn shows_what_was_added<L: Ledger>(alloc: Global, steps: &mut Steps<L>) -> Result<(), Fail> {
-    let mut desk = new_desk(alloc, 4000, Allow::Add, &[], steps)?;
-    expect(alloc, &mut desk, add(alloc, BREAD), ("done", 1, 0), steps)?;
-    expect_text(alloc, &mut desk, report(alloc, "balance"), LIST, steps)?;
-    expect_text(alloc, &mut desk, Ok(Request::Download), BREAD, steps)?;
-    let edit = replace(alloc, 1, b"");
-    expect(alloc, &mut desk, edit, ("forbidden", 0, 0), steps)?;
-    expect_counts(&desk, (1, 4, 1))?;
     let mut desk = opened_again(alloc, desk, Allow::View, steps)?;
-    expect_counts(&desk, (1, 0, 0))?;
-    expect_text(alloc, &mut desk, Ok(Request::Download), BREAD, steps)
-}
-
-/// Edits that don't stand.
-fn refuses_edits<L: Ledger>(alloc: Global, steps: &mut Steps<L>) -> Result<(), Fail> {
-    let mut desk = new_desk(alloc, 4000, Allow::Edit, &[], steps)?;
-    let desk = &mut desk;
-    expect(alloc, desk, add(alloc, BREAD), ("done", 1, 0), steps)?;
-    expect(alloc, desk, replace(alloc, 0, b""), ("stale", 0, 1), steps)?;
-    expect(
-        alloc,
-        desk,
-        replace(alloc, 2, b""),
-        ("bad base", 2, 1),
-        steps,
-    )?;
-    let absent = change(alloc, 1, 9, b"");
-    expect(alloc, desk, absent, ("no such item", 9, 1), steps)?;
-    let remark = add(alloc, b"; no entry\n");
-    expect(alloc, desk, remark, ("not transactions", 1, 0), steps)?;
-    expect(alloc, desk, add(alloc, OFF), ("load", 5, 0), steps)?;
-    expect(alloc, desk, replace(alloc, 1, BREAD), ("same", 1, 0), steps)?;
-    expect(alloc, desk, report(alloc, "print"), ("words", 0, 0), steps)
-}
-
-/// A record of 94 bytes in stores of which a new one has 47.
-fn keeps_to_the_limit<L: Ledger>(alloc: Global, steps: &mut Steps<L>) -> Result<(), Fail> {
-    let mut small = new_desk(alloc, 140, Allow::Edit, &[], steps)?;
-    expect(
-        alloc,
-        &mut small,
-        add(alloc, BREAD),
-        ("full", 141, 140),
-        steps,
-    )?;
-    let mut desk = new_desk(alloc, 250, Allow::Edit, &[], steps)?;
-    let desk = &mut desk;
-    expect(alloc, desk, add(alloc, BREAD), ("done", 1, 0), steps)?;
-    expect(alloc, desk, change(alloc, 1, 1, b""), ("done", 2, 0), steps)?;
-    expect(alloc, desk, add(alloc, BREAD), ("done", 3, 0), steps)
-}
-
-/// Adds an entry to an empty machine, again where a disk failed, and opens it again. Says whether a disk failed.
-fn adds_after_a_fault<L: Ledger>(
-    alloc: Global,
-    mut desk: Desk<MemDisk>,
-    steps: &mut Steps<L>,
-) -> Result<bool, Fail> {
-    let failed = asked(alloc, &mut desk, add(alloc, BREAD), steps)? == ("disk fault", 0, 1);
-    if failed {
-        expect(alloc, &mut desk, add(alloc, BREAD), ("done", 1, 0), steps)?;
-    }
-    let mut desk = opened_again(alloc, desk, Allow::View, steps)?;
-    expect_text(alloc, &mut desk, Ok(Request::Download), BREAD, steps)?;
-    Ok(failed)
+    expect_all(alloc, &mut desk, later, steps)
 }
 
 /// Each call of the first disk for the addition fails once: a new store takes ten calls, and a record four more.
-fn goes_on_after_a_fault<L: Ledger>(alloc: Global, steps: &mut Steps<L>) -> Result<(), Fail> {
-    let mut faults: u64 = 0;
+fn goes_on_after_a_fault<L: Ledger>(
+    alloc: Global,
+    rows: &[Row],
+    later: &[Row],
+    steps: &mut Steps<L>,
+) -> Result<(), Fail> {
     for call in 11..15u64 {
-        let desk = new_desk(alloc, 4000, Allow::Edit, &[call], steps)?;
-        if adds_after_a_fault(alloc, desk, steps)? {
-            faults = faults.saturating_add(1);
-        }
+        let desk = asked(alloc, 4000, Allow::Edit, &[call], rows, steps)?;
+        is_kept(alloc, desk, later, steps)?;
     }
-    if faults == 4 {
-        Ok(())
-    } else {
-        Err(Fail::new("four calls of an addition"))
+    Ok(())
+}
+
+/// Of four requests one was refused.
+fn counts_requests<L: Ledger>(
+    alloc: Global,
+    rows: &[Row],
+    later: &[Row],
+    steps: &mut Steps<L>,
+) -> Result<(), Fail> {
+    let desk = asked(alloc, 4000, Allow::Add, &[], rows, steps)?;
+    if desk.counts() != (1, 4, 1) {
+        return Err(Fail::new("the counts"));
     }
+    is_kept(alloc, desk, later, steps)
+}
+
+fn refuses_edits<L: Ledger>(
+    alloc: Global,
+    rows: &[Row],
+    later: &[Row],
+    steps: &mut Steps<L>,
+) -> Result<(), Fail> {
+    let desk = asked(alloc, 4000, Allow::Edit, &[], rows, steps)?;
+    is_kept(alloc, desk, later, steps)
+}
+
+fn keeps_to_the_limit<L: Ledger>(
+    alloc: Global,
+    past: &[Row],
+    anew: &[Row],
+    steps: &mut Steps<L>,
+) -> Result<(), Fail> {
+    asked(alloc, 140, Allow::Edit, &[], past, steps)?;
+    asked(alloc, 250, Allow::Edit, &[], anew, steps)?;
+    Ok(())
 }
 
 /// A report without a word.
 fn tells_the_words<L: Ledger>(alloc: Global, steps: &mut Steps<L>) -> Result<(), Fail> {
     let live = Live::open(alloc, BREAD, None, 0, steps)?;
-    match report_text(alloc, &live, &[], TODAY, steps) {
-        Err(WordsFault::NoCommand { word }) if word.as_bytes().is_empty() => Ok(()),
-        _ => Err(Fail::new("no command")),
+    let told = report_text(alloc, &live, &[], TODAY, steps);
+    if matches!(told, Err(WordsFault::NoCommand { .. })) {
+        Ok(())
+    } else {
+        Err(Fail::new("no command"))
     }
 }
 
-fn each_request<L: Ledger>(alloc: Global, blank: Blank) -> Result<(), Fail>
+fn each_request<L: Ledger>(alloc: Global, blank: Blank, tables: &Tables) -> Result<(), Fail>
     requires name { blank.name ≡ L.name }
     requires parts { blank.parts ≡ L.parts }
     requires three { blank.parts ≡ 3 }
 {
     let mut steps = Steps::<L>::start(blank);
     let steps = &mut steps;
-    shows_what_was_added(alloc, steps)?;
-    refuses_edits(alloc, steps)?;
-    keeps_to_the_limit(alloc, steps)?;
-    goes_on_after_a_fault(alloc, steps)?;
+    counts_requests(alloc, tables.added, tables.later, steps)?;
+    refuses_edits(alloc, tables.refused, tables.later, steps)?;
+    keeps_to_the_limit(alloc, tables.past, tables.anew, steps)?;
+    goes_on_after_a_fault(alloc, tables.faulty, tables.later, steps)?;
     tells_the_words(alloc, steps)
 }
 
 #[test]
 fn requests(rt: HostRuntime) -> Result<(), Fail> {
-    each_request::<Brand>(rt.alloc(), Blank::new(3))
+    let tables = Tables {
+        added: &ADDED,
+        refused: &REFUSED,
+        past: &PAST_THE_LIMIT,
+        anew: &WRITTEN_ANEW,
+        faulty: &FAULTY,
+        later: &LATER,
+    };
+    each_request::<Brand>(rt.alloc(), Blank::new(3), &tables)
 }

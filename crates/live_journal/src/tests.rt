@@ -14,29 +14,64 @@ const TEA: &[u8] = b"2024-01-06 tea\n    a  1 EUR\n    b  -1 EUR";
 
 const TEA_TEXT: &[u8] = b"2024-01-06 tea\n    a  1 EUR\n    b  -1 EUR\n";
 
+/// The second entry behind the blank line that stood before it.
+const TEA_ALONE: &[u8] = b"\n2024-01-06 tea\n    a  1 EUR\n    b  -1 EUR\n";
+
 const BOTH: &[u8] =
     b"2024-01-05 bread\n    expenses:food  10 EUR\n    assets:cash  -10 EUR\n\n2024-01-06 tea\n    a  1 EUR\n    b  -1 EUR\n";
 
 /// An entry of which the sum isn't zero, in its first line.
 const OFF: &[u8] = b"2024-01-06 x\n    a  1 EUR\n    b  -2 EUR\n";
 
-fn add(alloc: Global, entry: &[u8]) -> Result<Edit, Memory> {
-    let entry = Bytes::copied(alloc, entry)?;
-    Ok(Edit::Add { entry })
-}
-
-fn change(alloc: Global, base: u64, item: u64, entry: &[u8]) -> Result<Edit, Memory> {
-    let entry = Bytes::copied(alloc, entry)?;
-    Ok(Edit::Change { base, item, entry })
-}
-
-fn replace(alloc: Global, base: u64, text: &[u8]) -> Result<Edit, Memory> {
-    let text = Bytes::copied(alloc, text)?;
-    Ok(Edit::Replace { base, text })
+/// An edit in short.
+#[derive(Clone, Copy)]
+enum Ask {
+    Add(&'static [u8]),
+    Change(u64, u64, &'static [u8]),
+    Replace(u64, &'static [u8]),
 }
 
 /// A refusal's name and its numbers.
 type Told = (&'static str, u64, u64);
+
+/// Refusals of edits of the first entry at revision 5.
+const REFUSED: [(Ask, Told); 7] = [
+    (Ask::Replace(4, BREAD), ("stale", 4, 5)),
+    (Ask::Replace(9, BREAD), ("bad base", 9, 5)),
+    (Ask::Change(5, 99, TEA), ("no such item", 99, 1)),
+    (Ask::Add(b"alias a=b"), ("not transactions", 1, 0)),
+    (Ask::Add(b"; no entry"), ("not transactions", 1, 0)),
+    (Ask::Change(5, 1, b"\nP 1"), ("not transactions", 2, 0)),
+    (Ask::Add(OFF), ("load", 5, 0)),
+];
+
+/// An edit, the place where it changes the text, the revision after it, and the text.
+type Row = (Ask, u64, u64, &'static [u8]);
+
+/// Edits of the first entry at revision 5, one after another.
+const PUT: [Row; 4] = [
+    (Ask::Add(TEA), 68, 6, BOTH),
+    (Ask::Change(6, 1, b""), 0, 7, TEA_ALONE),
+    (Ask::Replace(7, TEA_TEXT), 0, 8, TEA_TEXT),
+    (Ask::Replace(8, TEA_TEXT), 0, 8, TEA_TEXT),
+];
+
+fn edit_of(alloc: Global, ask: Ask) -> Result<Edit, Memory> {
+    match ask {
+        Ask::Add(entry) => Ok(Edit::Add {
+            entry: Bytes::copied(alloc, entry)?,
+        }),
+        Ask::Change(base, item, entry) => Ok(Edit::Change {
+            base,
+            item,
+            entry: Bytes::copied(alloc, entry)?,
+        }),
+        Ask::Replace(base, text) => Ok(Edit::Replace {
+            base,
+            text: Bytes::copied(alloc, text)?,
+        }),
+    }
+}
 
 fn told(fault: &EditFault) -> Told {
     match fault {
@@ -50,32 +85,50 @@ fn told(fault: &EditFault) -> Told {
     }
 }
 
-/// An edit is refused so.
-fn refuses<L: Ledger>(
-    live: &mut Live,
-    edit: Result<Edit, Memory>,
-    wanted: Told,
-    steps: &mut Steps<L>,
-) -> Result<(), Fail> {
-    match live.prepare(&edit?, steps) {
-        Err(fault) if told(&fault) == wanted => Ok(()),
-        _ => Err(Fail::new(wanted.0)),
+fn meets(told: Told, wanted: Told) -> Result<(), Fail> {
+    if told == wanted {
+        Ok(())
+    } else {
+        Err(Fail::new(wanted.0))
     }
 }
 
-/// Puts in an edit. Says whether the text stayed the same, and where it changed.
-fn put<L: Ledger>(
+/// An edit is refused so.
+fn refuses<L: Ledger>(
     live: &mut Live,
-    edit: Result<Edit, Memory>,
+    edit: &Edit,
+    wanted: Told,
     steps: &mut Steps<L>,
-) -> Result<(bool, u64), Fail> {
-    let plan = live.prepare(&edit?, steps)?;
+) -> Result<(), Fail> {
+    match live.prepare(edit, steps) {
+        Ok(_plan) => Err(Fail::new("it is refused")),
+        Err(fault) => meets(told(&fault), wanted),
+    }
+}
+
+/// Each edit is refused so.
+fn refuses_all<L: Ledger>(
+    alloc: Global,
+    live: &mut Live,
+    rows: &[(Ask, Told)],
+    steps: &mut Steps<L>,
+) -> Result<(), Fail> {
+    for row in rows {
+        let edit = edit_of(alloc, row.0)?;
+        refuses(live, &edit, row.1, steps)?;
+    }
+    Ok(())
+}
+
+/// Puts in an edit. Gives the place where it changes the text.
+fn put<L: Ledger>(live: &mut Live, edit: &Edit, steps: &mut Steps<L>) -> Result<u64, Fail> {
+    let plan = live.prepare(edit, steps)?;
     if live.revision() > 100 {
         return Err(Fail::new("few edits"));
     }
-    let change = (plan.same(), plan.splice().at);
+    let at = plan.splice().at;
     live.put(plan);
-    Ok(change)
+    Ok(at)
 }
 
 /// A journal has this text and this revision.
@@ -87,53 +140,46 @@ fn expect(live: &Live, text: &[u8], revision: u64) -> Result<(), Fail> {
     }
 }
 
-fn refuses_edits<L: Ledger>(alloc: Global, steps: &mut Steps<L>) -> Result<(), Fail> {
-    let mut live = Live::open(alloc, BREAD, None, 5, steps)?;
-    let live = &mut live;
-    refuses(live, replace(alloc, 4, BREAD), ("stale", 4, 5), steps)?;
-    refuses(live, replace(alloc, 9, BREAD), ("bad base", 9, 5), steps)?;
-    refuses(
-        live,
-        change(alloc, 5, 99, TEA),
-        ("no such item", 99, 1),
-        steps,
-    )?;
-    refuses(
-        live,
-        add(alloc, b"alias a=b"),
-        ("not transactions", 1, 0),
-        steps,
-    )?;
-    refuses(
-        live,
-        add(alloc, b"; no entry"),
-        ("not transactions", 1, 0),
-        steps,
-    )?;
-    refuses(
-        live,
-        change(alloc, 5, 1, b"\nP 1"),
-        ("not transactions", 2, 0),
-        steps,
-    )?;
-    refuses(live, add(alloc, OFF), ("load", 5, 0), steps)?;
-    expect(live, BREAD, 5)
+/// Puts in each edit.
+fn puts_all<L: Ledger>(
+    alloc: Global,
+    live: &mut Live,
+    rows: &[Row],
+    steps: &mut Steps<L>,
+) -> Result<(), Fail> {
+    for row in rows {
+        let edit = edit_of(alloc, row.0)?;
+        let at = put(live, &edit, steps)?;
+        if at != row.1 {
+            return Err(Fail::new("the place of the change"));
+        }
+        expect(live, row.3, row.2)?;
+    }
+    Ok(())
 }
 
-fn puts_edits<L: Ledger>(alloc: Global, steps: &mut Steps<L>) -> Result<(), Fail> {
+/// A journal of the first entry, after edits that are refused and edits that stand.
+fn edits_a_journal<L: Ledger>(
+    alloc: Global,
+    refused: &[(Ask, Told)],
+    rows: &[Row],
+    steps: &mut Steps<L>,
+) -> Result<(), Fail> {
     let mut live = Live::open(alloc, BREAD, None, 5, steps)?;
-    let live = &mut live;
-    if put(live, add(alloc, TEA), steps)? != (false, 68) {
-        return Err(Fail::new("an entry is put at the end"));
+    refuses_all(alloc, &mut live, refused, steps)?;
+    puts_all(alloc, &mut live, rows, steps)
+}
+
+/// A text without an edit is the same.
+fn plans_no_change<L: Ledger>(alloc: Global, steps: &mut Steps<L>) -> Result<(), Fail> {
+    let mut live = Live::open(alloc, BREAD, None, 5, steps)?;
+    let edit = edit_of(alloc, Ask::Replace(5, BREAD))?;
+    let plan = live.prepare(&edit, steps)?;
+    if plan.same() {
+        Ok(())
+    } else {
+        Err(Fail::new("the same text"))
     }
-    expect(live, BOTH, 6)?;
-    put(live, change(alloc, 6, 1, b""), steps)?;
-    put(live, replace(alloc, 7, TEA_TEXT), steps)?;
-    expect(live, TEA_TEXT, 8)?;
-    if put(live, replace(alloc, 8, TEA_TEXT), steps)? != (true, 0) {
-        return Err(Fail::new("the text stays"));
-    }
-    expect(live, TEA_TEXT, 8)
 }
 
 /// What is made of a text of two entries.
@@ -166,20 +212,25 @@ fn judges_sizes<L: Ledger>(alloc: Global, steps: &mut Steps<L>) -> Result<(), Fa
     }
 }
 
-fn each_journal<L: Ledger>(alloc: Global, blank: Blank) -> Result<(), Fail>
+fn each_journal<L: Ledger>(
+    alloc: Global,
+    blank: Blank,
+    refused: &[(Ask, Told)],
+    rows: &[Row],
+) -> Result<(), Fail>
     requires name { blank.name ≡ L.name }
     requires parts { blank.parts ≡ L.parts }
     requires three { blank.parts ≡ 3 }
 {
     let mut steps = Steps::<L>::start(blank);
     let steps = &mut steps;
-    refuses_edits(alloc, steps)?;
-    puts_edits(alloc, steps)?;
+    edits_a_journal(alloc, refused, rows, steps)?;
+    plans_no_change(alloc, steps)?;
     loads_a_text(alloc, steps)?;
     judges_sizes(alloc, steps)
 }
 
 #[test]
 fn journals(rt: HostRuntime) -> Result<(), Fail> {
-    each_journal::<Brand>(rt.alloc(), Blank::new(3))
+    each_journal::<Brand>(rt.alloc(), Blank::new(3), &REFUSED, &PUT)
 }
