@@ -1,0 +1,229 @@
+//! Connections of `talk`: heads and forms at their edges, and what is sent for them.
+use crate::case::answer;
+use crate::talks::{ADDED, ENDED_BADLY, is, joined, over};
+use std::alloc::Global;
+use std::test::Fail;
+
+const NO_PATH: &[u8] =
+    b"HTTP/1.1 404 Not Found\r\nContent-Type: text/plain; charset=utf-8\r\nContent-Length: 12\r\n\r\nerror: path\n";
+
+const BAD_MESSAGE: &[u8] =
+    b"HTTP/1.1 400 Bad Request\r\nContent-Type: text/plain; charset=utf-8\r\nConnection: close\r\nContent-Length: 15\r\n\r\nerror: message\n";
+
+const LONG_HEAD: &[u8] =
+    b"HTTP/1.1 431 Request Header Fields Too Large\r\nContent-Type: text/plain; charset=utf-8\r\nConnection: close\r\nContent-Length: 12\r\n\r\nerror: head\n";
+
+const LONG_BODY: &[u8] =
+    b"HTTP/1.1 413 Payload Too Large\r\nContent-Type: text/plain; charset=utf-8\r\nConnection: close\r\nContent-Length: 12\r\n\r\nerror: body\n";
+
+const BAD_FORM: &[u8] =
+    b"HTTP/1.1 400 Bad Request\r\nContent-Type: text/plain; charset=utf-8\r\nContent-Length: 12\r\n\r\nerror: form\n";
+
+/// The balance of the empty text, before the connection is closed.
+const LISTED_LAST: &[u8] =
+    b"HTTP/1.1 200 OK\r\nContent-Type: text/plain; charset=utf-8\r\nX-Revision: 0\r\nConnection: close\r\nContent-Length: 44\r\n\r\n--------------------\n                   0  \n";
+
+/// Each stream ends with this status and error line, after these bytes were sent.
+fn all_are(
+    alloc: Global,
+    streams: &[&[u8]],
+    status: u8,
+    sent: &[u8],
+    error: &[u8],
+) -> Result<(), Fail> {
+    for stream in streams {
+        let seen = answer(alloc, &over(stream))?;
+        if !is(&seen, status, sent, error) {
+            return Err(Fail::new("a stream"));
+        }
+    }
+    Ok(())
+}
+
+/// A request with one field so long that its head has so many bytes.
+fn long_request(alloc: Global, bytes: usize) -> Result<Vec<u8>, Fail> {
+    let mut text = Vec::from_slice(alloc, b"GET /none HTTP/1.1\r\na:")?;
+    for _ in 0..bytes.saturating_sub(26) {
+        text.push(b'x')?;
+    }
+    text.extend_from_slice(b"\r\n\r\n")?;
+    Ok(text)
+}
+
+/// A request with so many fields.
+fn wide_request(alloc: Global, fields: usize) -> Result<Vec<u8>, Fail> {
+    let mut text = Vec::from_slice(alloc, b"GET /none HTTP/1.1\r\n")?;
+    for _ in 0..fields {
+        text.extend_from_slice(b"a:\r\n")?;
+    }
+    text.extend_from_slice(b"\r\n")?;
+    Ok(text)
+}
+
+#[test]
+fn takes_heads_up_to_their_limits(rt: HostRuntime) -> Result<(), Fail> {
+    let long = long_request(rt.alloc(), 16_384)?;
+    let wide = wide_request(rt.alloc(), 64)?;
+    all_are(
+        rt.alloc(),
+        &[long.as_slice(), wide.as_slice()],
+        0,
+        NO_PATH,
+        b"",
+    )
+}
+
+#[test]
+fn refuses_heads_past_their_limits(rt: HostRuntime) -> Result<(), Fail> {
+    let long = long_request(rt.alloc(), 16_385)?;
+    let wide = wide_request(rt.alloc(), 65)?;
+    all_are(
+        rt.alloc(),
+        &[long.as_slice(), wide.as_slice()],
+        1,
+        LONG_HEAD,
+        ENDED_BADLY,
+    )
+}
+
+#[test]
+fn closes_after_a_length_that_says_nothing(rt: HostRuntime) -> Result<(), Fail> {
+    all_are(
+        rt.alloc(),
+        &[
+            b"POST /add HTTP/1.1\r\nContent-Length: 1\r\nContent-Length: 1\r\n\r\nxGET /none HTTP/1.1\r\n\r\n".as_slice(),
+            b"POST /add HTTP/1.1\r\nContent-Length: 18446744073709551616\r\n\r\nx".as_slice(),
+            b"POST /add HTTP/1.1\r\nContent-Length: -1\r\n\r\nx".as_slice(),
+            b"POST /add HTTP/1.1\r\nTransfer-Encoding: chunked\r\n\r\n0\r\n\r\n".as_slice(),
+        ],
+        0,
+        BAD_MESSAGE,
+        b"",
+    )
+}
+
+#[test]
+fn refuses_bodies_past_their_limit(rt: HostRuntime) -> Result<(), Fail> {
+    all_are(
+        rt.alloc(),
+        &[
+            b"POST /add HTTP/1.1\r\nContent-Length: 8388609\r\n\r\nx".as_slice(),
+            b"POST /add HTTP/1.1\r\nContent-Length: 18446744073709551615\r\n\r\nx".as_slice(),
+        ],
+        1,
+        LONG_BODY,
+        ENDED_BADLY,
+    )
+}
+
+#[test]
+fn waits_for_a_body_at_its_limit(rt: HostRuntime) -> Result<(), Fail> {
+    let coming = b"POST /add HTTP/1.1\r\nContent-Length: 8388608\r\n\r\nx".as_slice();
+    all_are(rt.alloc(), &[coming], 1, b"", ENDED_BADLY)
+}
+
+#[test]
+fn refuses_what_is_no_head(rt: HostRuntime) -> Result<(), Fail> {
+    all_are(
+        rt.alloc(),
+        &[
+            b"\0".as_slice(),
+            b"GET /balance HTTP/2.0\r\n\r\n".as_slice(),
+            b"GET  /balance HTTP/1.1\r\n\r\n".as_slice(),
+        ],
+        1,
+        BAD_MESSAGE,
+        ENDED_BADLY,
+    )
+}
+
+#[test]
+fn closes_where_the_message_says_so(rt: HostRuntime) -> Result<(), Fail> {
+    all_are(
+        rt.alloc(),
+        &[
+            b"GET /balance HTTP/1.0\r\n\r\nGET /none HTTP/1.1\r\n\r\n".as_slice(),
+            b"GET /balance HTTP/1.1\r\nConnection: close\r\n\r\nGET /none HTTP/1.1\r\n\r\n".as_slice(),
+            b"GET /balance HTTP/1.1\r\nconnection: keep-alive, Close\r\n\r\nGET ".as_slice(),
+        ],
+        0,
+        LISTED_LAST,
+        b"",
+    )
+}
+
+#[test]
+fn knows_three_paths(rt: HostRuntime) -> Result<(), Fail> {
+    all_are(
+        rt.alloc(),
+        &[
+            b"GET /none HTTP/1.1\r\n\r\n".as_slice(),
+            b"GET /balance/ HTTP/1.1\r\n\r\n".as_slice(),
+            b"POST /register HTTP/1.1\r\n\r\n".as_slice(),
+        ],
+        0,
+        NO_PATH,
+        b"",
+    )
+}
+
+#[test]
+fn says_which_method_a_path_has(rt: HostRuntime) -> Result<(), Fail> {
+    let get =
+        b"HTTP/1.1 405 Method Not Allowed\r\nContent-Type: text/plain; charset=utf-8\r\nAllow: GET\r\nContent-Length: 14\r\n\r\nerror: method\n".as_slice();
+    let post =
+        b"HTTP/1.1 405 Method Not Allowed\r\nContent-Type: text/plain; charset=utf-8\r\nAllow: POST\r\nContent-Length: 14\r\n\r\nerror: method\n".as_slice();
+    let streams = [
+        b"DELETE /balance HTTP/1.1\r\n\r\n".as_slice(),
+        b"POST /download HTTP/1.1\r\n\r\n".as_slice(),
+    ];
+    all_are(rt.alloc(), &streams, 0, get, b"")?;
+    let add = b"GET /add HTTP/1.1\r\n\r\n".as_slice();
+    all_are(rt.alloc(), &[add], 0, post, b"")
+}
+
+#[test]
+fn refuses_parameters_that_are_not_its_own(rt: HostRuntime) -> Result<(), Fail> {
+    all_are(
+        rt.alloc(),
+        &[
+            b"GET /balance?p=a HTTP/1.1\r\n\r\n".as_slice(),
+            b"GET /download?q=a HTTP/1.1\r\n\r\n".as_slice(),
+            b"POST /add HTTP/1.1\r\nContent-Length: 6\r\n\r\ntext=a".as_slice(),
+            b"POST /add HTTP/1.1\r\nContent-Length: 0\r\n\r\n".as_slice(),
+            b"POST /add HTTP/1.1\r\nContent-Length: 15\r\n\r\nentry=a&entry=b".as_slice(),
+            b"POST /add HTTP/1.1\r\nContent-Length: 14\r\n\r\nentry=a&base=1".as_slice(),
+        ],
+        0,
+        BAD_FORM,
+        b"",
+    )
+}
+
+#[test]
+fn refuses_a_word_that_has_no_place(rt: HostRuntime) -> Result<(), Fail> {
+    let sent =
+        b"HTTP/1.1 400 Bad Request\r\nContent-Type: text/plain; charset=utf-8\r\nX-Revision: 0\r\nContent-Length: 17\r\n\r\nerror: usage: -N\n".as_slice();
+    let coming = b"GET /balance?q=-N HTTP/1.1\r\n\r\n".as_slice();
+    all_are(rt.alloc(), &[coming], 0, sent, b"")
+}
+
+#[test]
+fn refuses_what_is_no_transaction(rt: HostRuntime) -> Result<(), Fail> {
+    let sent =
+        b"HTTP/1.1 400 Bad Request\r\nContent-Type: text/plain; charset=utf-8\r\nX-Revision: 0\r\nContent-Length: 39\r\n\r\nerror: entry line 1: not a transaction\n".as_slice();
+    let coming = b"POST /add HTTP/1.1\r\nContent-Length: 17\r\n\r\nentry=alias+a%3Db".as_slice();
+    all_are(rt.alloc(), &[coming], 0, sent, b"")
+}
+
+#[test]
+fn reads_forms_that_are_not_well_encoded(rt: HostRuntime) -> Result<(), Fail> {
+    let coming =
+        b"POST /add HTTP/1.1\r\nContent-Length: 51\r\n\r\nentry=2024-01-05+%ff+5%25+%%0A++++a++1+E%0A++++b%0AGET /download HTTP/1.1\r\n\r\n".as_slice();
+    let sent = joined(
+        rt.alloc(),
+        ADDED,
+        b"HTTP/1.1 200 OK\r\nContent-Type: text/plain; charset=utf-8\r\nX-Revision: 1\r\nContent-Length: 37\r\n\r\n2024-01-05 \xef\xbf\xbd 5% %\n    a  1 E\n    b\n",
+    )?;
+    all_are(rt.alloc(), &[coming], 0, sent.as_slice(), b"")
+}
