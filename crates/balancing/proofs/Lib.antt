@@ -3,7 +3,9 @@ mod Rows
 pub mod Causes
 pub mod Covers
 pub mod Filled
+pub mod InPlace
 pub mod Named
+pub mod Only
 pub mod Ordered
 pub mod Trimmed
 pub mod Turned

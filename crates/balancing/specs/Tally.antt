@@ -1,5 +1,5 @@
 -- Sums of values by their symbols.
-use Rattle.std.specs.Prelude.{ℕ, pos, ◌^◌, nat_lt, Bool, List, map, filter, unsigned_abs}
+use Rattle.std.specs.Prelude.{ℕ, pos, ◌^◌, nat_lt, Bool, List, [], ◌∷◌, map, filter, unsigned_abs, Option, Some, None}
 use Rattle.std.specs.List.{fold, list_all}
 use denote.Ref.{Bor}
 use Rattle.std.specs.Str.{bytes_eq}
@@ -46,6 +46,16 @@ turnover_fits values = are_within (sums_of (map absolute_value values))
 -- entries by the texts that they are named by
 abbrev pub named : List (Bor (List ℕ) × Decimal) → List Value
 named entries = map (λ e. (e.0.now, e.1)) entries
+
+-- a sum that is the only one, by its symbol's bytes
+abbrev pub only_sum : Option (Bor (List ℕ) × Decimal) → List Value
+only_sum None = []
+only_sum (Some e) = (e.0.now, e.1) ∷ []
+
+-- the entries of a map, or the only sum where the map has none
+abbrev pub all_sums : Option (Bor (List ℕ) × Decimal) → List (Bor (List ℕ) × Decimal) → List Value
+all_sums only [] = only_sum only
+all_sums only (e ∷ es) = named (e ∷ es)
 
 -- sums after one more number
 abbrev pub added_to : List Value → List ℕ → Decimal → List Value

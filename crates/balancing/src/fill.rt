@@ -1,9 +1,10 @@
 //! Postings with what balancing finds for them.
 ghost use Rattle.std.specs.Prelude.{◌≡◌, ◌++◌, ◌∷◌, [], true, false, map, OnOk, IfOk, IsSome, None, List, Option};
+ghost use Rattle.std.specs.List.{list_all};
 ghost use Rattle.book.specs.declared.transaction.Side.TheVariants.{Real, Balanced, Free};
 ghost use Rattle.balancing.specs.Values.{Value};
 ghost use Rattle.balancing.specs.Entry.{misses, found_values, found_posting, plain_amount, plain_shape, costed_posting, recorded_cost, solved};
-ghost use Rattle.balancing.specs.Fill.{filled_posting, found_for};
+ghost use Rattle.balancing.specs.Fill.{filled_posting, filled_in_place, found_for, stays_single};
 
 use crate::plan::Plan;
 use crate::rules::{Found, Recorded, is_real_of};
@@ -12,7 +13,8 @@ use hl_base::{List, Memory, Text};
 use hl_num::Dec;
 use std::alloc::Global;
 
-/// The postings with their missing amounts and the recorded cost.
+/// The postings with their missing amounts and the recorded cost. They stay where they are if none becomes several and
+/// no cost is recorded.
 pub(crate) fn fill(
     alloc: Global,
     postings: List<Posting>,
@@ -24,8 +26,65 @@ pub(crate) fn fill(
     requires recorded { plan.now.recorded ≡ recorded_cost postings }
     ensures { IfOk result (λ filled. filled ≡ solved postings) }
 {
-    let mut filled = Vec::new(alloc);
-    for posting in postings.into_vec() {
+    let mut postings = postings.into_vec();
+    if plan.recorded.is_none() && stay_single(&postings, plan) {
+        fill_in_place(alloc, &mut postings, plan)?;
+        return Ok(List::from_vec(postings));
+    }
+    fill_anew(alloc, postings, plan)
+}
+
+/// Whether each posting stays one posting.
+fn stay_single(postings: &[Posting], plan: &Plan) -> bool
+    ensures { result ≡ list_all (stays_single plan.now.real.items plan.now.balanced.items) postings.now }
+{
+    postings.iter().all(|posting| stays_single(posting, plan))
+}
+
+/// Whether a posting has an amount, or one is found for it.
+fn stays_single(posting: &Posting, plan: &Plan) -> bool
+    ensures { result ≡ stays_single plan.now.real.items plan.now.balanced.items posting.now }
+{
+    posting.amount.is_some() || found_for(plan, posting.side).len() == 1
+}
+
+/// Fills each posting where it stands.
+fn fill_in_place(alloc: Global, postings: &mut [Posting], plan: &Plan) -> Result<(), Memory>
+    ensures { OnOk result (postings.new ≡ map (filled_in_place plan.now.real.items plan.now.balanced.items) postings.old) }
+{
+    for posting in postings.iter_mut() {
+        fill_in(alloc, posting, plan)?;
+    }
+    Ok(())
+}
+
+/// Gives a posting without an amount the one that was found for it.
+fn fill_in(alloc: Global, posting: &mut Posting, plan: &Plan) -> Result<(), Memory>
+    ensures { OnOk result (posting.new ≡ filled_in_place plan.now.real.items plan.now.balanced.items posting.old) }
+{
+    if posting.amount.is_some() {
+        return Ok(());
+    }
+    if let [value] = found_for(plan, posting.side) {
+        posting.amount = Some(plain_amount(alloc, value)?);
+        posting.cost = None;
+        posting.wanted = None;
+        posting.filled = true;
+        posting.costed = false;
+    }
+    Ok(())
+}
+
+/// The postings, each once for each amount that was found for it, with the recorded cost.
+fn fill_anew(alloc: Global, postings: Vec<Posting>, plan: &Plan) -> Result<List<Posting>, Memory>
+    requires real { misses Real postings.items ≡ true → plan.now.real.items ≡ found_values Real postings.items }
+    requires balanced { misses Balanced postings.items ≡ true → plan.now.balanced.items ≡ found_values Balanced postings.items }
+    requires free { misses Free postings.items ≡ false }
+    requires recorded { plan.now.recorded ≡ recorded_cost postings.items }
+    ensures { IfOk result (λ filled. filled ≡ solved postings.items) }
+{
+    let mut filled = Vec::with_capacity(alloc, postings.len())?;
+    for posting in postings {
         fill_one(alloc, &mut filled, posting, plan)?;
     }
     Ok(List::from_vec(filled))

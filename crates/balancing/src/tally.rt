@@ -5,7 +5,7 @@ ghost use Rattle.std.specs.Cmp.Lexicographic.{slice_cmp};
 ghost use Rattle.std.specs.FinMap.Entries.{put};
 ghost use Rattle.book.specs.Entries.{held, IsRising};
 ghost use Rattle.book.specs.Mixed.{plus, sum_with, fits_with};
-ghost use Rattle.balancing.specs.Tally.{is_within, are_within, named, added_to, IsRange};
+ghost use Rattle.balancing.specs.Tally.{is_within, are_within, named, only_sum, all_sums, added_to, IsRange};
 
 use hl_base::Memory;
 use hl_num::{Dec, Range};
@@ -17,8 +17,10 @@ use std::marker::Model;
 pub(crate) type Sum<'a> = (&'a str, Dec);
 
 /// The sum of each symbol that was added. Contracts see the symbols with their sums, in the order of the symbols.
+/// A sum that is the only one stands by itself, so that most tallies take no memory.
 #[derive(Drop)]
 pub(crate) struct Tally<'a> {
+    only: Option<Sum<'a>>,
     sums: BTreeMap<&'a str, Dec>,
 }
 
@@ -32,11 +34,11 @@ pub(crate) enum TallyFault {
 impl<'a> Model for Tally<'a> {
     ghost use Rattle.std.specs.Prelude.{List, ℕ};
     ghost use Rattle.hl_num.specs.Decimal.{Decimal};
-    ghost use Rattle.balancing.specs.Tally.{named};
+    ghost use Rattle.balancing.specs.Tally.{all_sums};
 
     ghost Value = { List (List ℕ × Decimal) };
 
-    ghost view = { λ t. named t.sums.entries };
+    ghost view = { λ t. all_sums t.only t.sums.entries };
 }
 
 impl<'a> Tally<'a> {
@@ -45,6 +47,7 @@ impl<'a> Tally<'a> {
         ensures { result ≡ [] }
     {
         Tally {
+            only: None,
             sums: BTreeMap::new(alloc),
         }
     }
@@ -55,11 +58,10 @@ impl<'a> Tally<'a> {
         ensures within { OnOk result (are_within self.old ≡ true → are_within self.new ≡ true) }
         ensures range { IfErr result (λ e. IsRange e → fits_with (held symbol.now self.old) value ≡ false) }
     {
-        let old = self.sums.get(symbol).copied();
-        let sum = sum_with(old, value)?;
-        match self.sums.insert(symbol, sum) {
-            Ok(_) => Ok(()),
-            Err(_) => Err(TallyFault::Memory),
+        if self.sums.is_empty() {
+            add_to_only(&mut self.only, &mut self.sums, symbol, value)
+        } else {
+            add_to(&mut self.sums, symbol, value)
         }
     }
 
@@ -67,7 +69,80 @@ impl<'a> Tally<'a> {
     pub(crate) fn sums(&self, alloc: Global) -> Result<Vec<Sum<'a>>, Memory>
         ensures { IfOk result (λ sums. named sums.items ≡ self.now) }
     {
-        listed(alloc, &self.sums)
+        if self.sums.is_empty() {
+            only_listed(alloc, &self.only)
+        } else {
+            listed(alloc, &self.sums)
+        }
+    }
+}
+
+/// The only sum, if there is one.
+fn only_listed<'a>(alloc: Global, only: &Option<Sum<'a>>) -> Result<Vec<Sum<'a>>, Memory>
+    ensures { IfOk result (λ list. named list.items ≡ only_sum only.now) }
+{
+    let mut list = Vec::new(alloc);
+    if let Some(sum) = only {
+        match list.push((sum.0, sum.1)) {
+            Ok(()) => {}
+            Err(_) => return Err(Memory),
+        }
+    }
+    Ok(list)
+}
+
+/// Adds a number to the only sum, if it is of its symbol; else both go into the map.
+fn add_to_only<'a>(
+    only: &mut Option<Sum<'a>>,
+    sums: &mut BTreeMap<&'a str, Dec>,
+    symbol: &'a str,
+    value: Dec,
+) -> Result<(), TallyFault>
+    requires { sums.old.entries ≡ [] }
+    ensures ok { OnOk result (all_sums only.new sums.new.entries ≡ added_to (only_sum only.old) symbol.now value) }
+    ensures within { OnOk result (are_within (only_sum only.old) ≡ true → are_within (all_sums only.new sums.new.entries) ≡ true) }
+    ensures range { IfErr result (λ e. IsRange e → fits_with (held symbol.now (only_sum only.old)) value ≡ false) }
+{
+    match *only {
+        None => {
+            *only = Some((symbol, value));
+            Ok(())
+        }
+        Some((first, sum)) => {
+            if symbol == first {
+                *only = Some((first, checked_sum(sum, value)?));
+                Ok(())
+            } else {
+                put(sums, first, sum)?;
+                put(sums, symbol, value)
+            }
+        }
+    }
+}
+
+/// Adds a number to the sum of a symbol in a map.
+fn add_to<'a>(
+    sums: &mut BTreeMap<&'a str, Dec>,
+    symbol: &'a str,
+    value: Dec,
+) -> Result<(), TallyFault>
+    ensures ok { OnOk result (named sums.new.entries ≡ added_to (named sums.old.entries) symbol.now value) }
+    ensures within { OnOk result (are_within (named sums.old.entries) ≡ true → are_within (named sums.new.entries) ≡ true) }
+    ensures range { IfErr result (λ e. IsRange e → fits_with (held symbol.now (named sums.old.entries)) value ≡ false) }
+{
+    let old = sums.get(symbol).copied();
+    let sum = sum_with(old, value)?;
+    put(sums, symbol, sum)
+}
+
+/// Puts the sum of a symbol into a map.
+fn put<'a>(sums: &mut BTreeMap<&'a str, Dec>, symbol: &'a str, sum: Dec) -> Result<(), TallyFault>
+    ensures ok { OnOk result (named sums.new.entries ≡ put (slice_cmp nat_cmp) symbol.now sum (named sums.old.entries)) }
+    ensures fault { IfErr result (λ e. IsRange e → ⊥) }
+{
+    match sums.insert(symbol, sum) {
+        Ok(_) => Ok(()),
+        Err(_) => Err(TallyFault::Memory),
     }
 }
 

@@ -27,7 +27,7 @@ equal_from Equal h = refl
 equal_from Greater h = absurd (false≢true h)
 
 -- what is kept of a symbol after one more style
-kept-noted : (n : ℕ) (t : Table) (said : List ℕ × Style) (q : List ℕ) → kept_of (noted n t said) q ≡ cond (bytes_eq said.0 q) (with_number n said.1 (kept_of t q)) (kept_of t q)
+pub kept-noted : (n : ℕ) (t : Table) (said : List ℕ × Style) (q : List ℕ) → kept_of (noted n t said) q ≡ cond (bytes_eq said.0 q) (with_number n said.1 (kept_of t q)) (kept_of t q)
 kept-noted n t said q =
     ap (λ (o : Option (Numbered Style)). unwrap_or o []) (find-put (slice_cmp nat_cmp) nat_list_cmp_total q said.0 (with_number n said.1 (kept_of t said.0)) t)
     ∙ (elim (bytes_eq said.0 q) as (λ b. eq_by_cmp (slice_cmp nat_cmp) q said.0 ≡ b → unwrap_or (cond (eq_by_cmp (slice_cmp nat_cmp) q said.0) (Some (with_number n said.1 (kept_of t said.0))) (held q t)) [] ≡ cond b (with_number n said.1 (kept_of t q)) (kept_of t q)) [
@@ -168,7 +168,7 @@ AreOf-with n i es styles h free = record {
     keeps saying t k q = kept-all n t (saying i) q ∙ ap (with_all n (of_symbol q (saying i))) (k q) ∙ said-with saying n i es q h.rise
 
 -- what is kept of a symbol without what stands under a number
-kept-forgotten : (n : ℕ) (t : Table) (q : List ℕ) → kept_of (forgotten n t) q ≡ without_number n (kept_of t q)
+pub kept-forgotten : (n : ℕ) (t : Table) (q : List ℕ) → kept_of (forgotten n t) q ≡ without_number n (kept_of t q)
 kept-forgotten n [] q = refl
 kept-forgotten n (e ∷ t) q =
     elim (eq_by_cmp (slice_cmp nat_cmp) q e.0) as (λ b. unwrap_or (cond b (Some (without_number n e.1)) (held q (forgotten n t))) [] ≡ without_number n (unwrap_or (cond b (Some e.1) (held q t)) [])) [
@@ -197,7 +197,7 @@ without-said n k (s ∷ ss) =
     twice true = refl
     twice false = refl
 
-said-without : (saying : Item → List (List ℕ × Style)) (n : ℕ) (es : Numbered Item) (q : List ℕ) → without_number n (said_under saying es q) ≡ said_under saying (without_number n es) q
+pub said-without : (saying : Item → List (List ℕ × Style)) (n : ℕ) (es : Numbered Item) (q : List ℕ) → without_number n (said_under saying es q) ≡ said_under saying (without_number n es) q
 said-without saying n [] q = refl
 said-without saying n (e ∷ es) q =
     filter-append (λ (x : ℕ × Style). not (x.0 == n)) (map (λ s. (e.0, s)) (of_symbol q (saying e.1))) (said_under saying es q)

@@ -3,6 +3,7 @@ pub mod Added
 pub mod Entries
 pub mod Kept
 pub mod Order
+pub mod Others
 pub mod Places
 pub mod Standing
 pub mod Tables

@@ -65,6 +65,10 @@ noted_all n table said = fold (noted n) table said
 abbrev pub forgotten : ℕ → Table → Table
 forgotten n table = map (λ e. (e.0, without_number n e.1)) table
 
+-- What is kept under all other numbers is the same.
+pub record IsSameBut (n : ℕ) (before after : Table) : Type 0 where
+  pub kept : (symbol : List ℕ) → without_number n (kept_of after symbol) ≡ without_number n (kept_of before symbol)
+
 abbrev pub styles_only : Numbered Style → List Style
 styles_only kept = map (λ s. s.1) kept
 

@@ -3,7 +3,7 @@ use Rattle.std.specs.Prelude.{ℕ, List}
 use Rattle.book.specs.declared.item.Item.{Item}
 use Rattle.book.specs.declared.style.Style.{Style}
 use Rattle.book.specs.declared.style.Styles.{Styles}
-use Rattle.book.specs.Standing.{Numbered, Rise, Keeps, kept_of, styles_only, noted_all}
+use Rattle.book.specs.Standing.{Numbered, Rise, Keeps, IsSameBut, kept_of, styles_only, noted_all, forgotten}
 use Rattle.book.specs.Style.{commodity_styles, default_styles, first_class, second_class, style_by}
 
 -- the style that is kept of a symbol
@@ -31,3 +31,19 @@ after_item n styles i = record {
   first = noted_all n styles.first (first_class i);
   second = noted_all n styles.second (second_class i);
 }
+
+-- the styles without what stands under a number
+abbrev pub without_item : ℕ → Styles → Styles
+without_item n styles = record {
+  commodities = forgotten n styles.commodities;
+  defaults = forgotten n styles.defaults;
+  first = forgotten n styles.first;
+  second = forgotten n styles.second;
+}
+
+-- What is kept under all other numbers is the same.
+pub record AreSameBut (n : ℕ) (before after : Styles) : Type 0 where
+  pub commodities : IsSameBut n before.commodities after.commodities
+  pub defaults : IsSameBut n before.defaults after.defaults
+  pub first : IsSameBut n before.first after.first
+  pub second : IsSameBut n before.second after.second

@@ -1,8 +1,9 @@
-//! How the amounts of items go into the tables of styles.
+//! How the amounts of items go into the tables of styles. After an error some of them may have gone there, all under
+//! the number of the item.
 ghost use Rattle.std.specs.Prelude.{◌≡◌, OnOk, map};
 ghost use Rattle.std.specs.List.{flat_map};
 ghost use Rattle.std.specs.Option.{option_to_list};
-ghost use Rattle.book.specs.Standing.{noted, noted_all};
+ghost use Rattle.book.specs.Standing.{noted, noted_all, IsSameBut};
 ghost use Rattle.book.specs.Style.{written_as, cost_amount, amount_style, further_styles, rule_styles};
 
 use crate::amount::{Amount, Assertion, Cost};
@@ -22,7 +23,8 @@ pub(crate) fn note_amount(
     symbol: &Text,
     amount: &Amount,
 ) -> Result<(), Memory>
-    ensures { OnOk result (table.new ≡ noted number table.old (symbol.now, (written_as amount.now).1)) }
+    ensures ok { OnOk result (table.new ≡ noted number table.old (symbol.now, (written_as amount.now).1)) }
+    ensures others { IsSameBut number table.old table.new }
 {
     let style = Style {
         shape: amount.shape,
@@ -38,7 +40,8 @@ fn note_present(
     number: u64,
     amount: &Option<Amount>,
 ) -> Result<(), Memory>
-    ensures { OnOk result (table.new ≡ noted_all number table.old (map written_as (option_to_list amount.now))) }
+    ensures ok { OnOk result (table.new ≡ noted_all number table.old (map written_as (option_to_list amount.now))) }
+    ensures others { IsSameBut number table.old table.new }
 {
     match amount {
         Some(amount) => note_amount(table, alloc, number, &amount.symbol, amount),
@@ -53,7 +56,8 @@ fn note_cost(
     number: u64,
     cost: &Option<Boxed<Cost>>,
 ) -> Result<(), Memory>
-    ensures { OnOk result (table.new ≡ noted_all number table.old (map (λ c. written_as (cost_amount c)) (option_to_list cost.now))) }
+    ensures ok { OnOk result (table.new ≡ noted_all number table.old (map (λ c. written_as (cost_amount c)) (option_to_list cost.now))) }
+    ensures others { IsSameBut number table.old table.new }
 {
     match cost {
         Some(cost) => {
@@ -81,7 +85,8 @@ fn note_wanted(
     number: u64,
     wanted: &Option<Boxed<Assertion>>,
 ) -> Result<(), Memory>
-    ensures { OnOk result (table.new ≡ noted_all number table.old (map (λ w. written_as w.amount) (option_to_list wanted.now))) }
+    ensures ok { OnOk result (table.new ≡ noted_all number table.old (map (λ w. written_as w.amount) (option_to_list wanted.now))) }
+    ensures others { IsSameBut number table.old table.new }
 {
     match wanted {
         Some(wanted) => {
@@ -99,7 +104,8 @@ fn note_further(
     number: u64,
     posting: &Posting,
 ) -> Result<(), Memory>
-    ensures { OnOk result (table.new ≡ noted_all number table.old (further_styles posting.now)) }
+    ensures ok { OnOk result (table.new ≡ noted_all number table.old (further_styles posting.now)) }
+    ensures others { IsSameBut number table.old table.new }
 {
     note_cost(table, alloc, number, &posting.cost)?;
     note_wanted(table, alloc, number, &posting.wanted)
@@ -107,7 +113,8 @@ fn note_further(
 
 /// Notes all amounts of a rule's posting.
 fn note_rule(table: &mut Table, alloc: Global, number: u64, posting: &Posting) -> Result<(), Memory>
-    ensures { OnOk result (table.new ≡ noted_all number table.old (rule_styles posting.now)) }
+    ensures ok { OnOk result (table.new ≡ noted_all number table.old (rule_styles posting.now)) }
+    ensures others { IsSameBut number table.old table.new }
 {
     note_present(table, alloc, number, &posting.amount)?;
     note_further(table, alloc, number, posting)
@@ -120,7 +127,8 @@ pub(crate) fn note_amounts(
     number: u64,
     postings: &[Posting],
 ) -> Result<(), Memory>
-    ensures { OnOk result (table.new ≡ noted_all number table.old (flat_map amount_style postings.now)) }
+    ensures ok { OnOk result (table.new ≡ noted_all number table.old (flat_map amount_style postings.now)) }
+    ensures others { IsSameBut number table.old table.new }
 {
     for posting in postings {
         note_present(table, alloc, number, &posting.amount)?;
@@ -135,7 +143,8 @@ pub(crate) fn note_all_further(
     number: u64,
     postings: &[Posting],
 ) -> Result<(), Memory>
-    ensures { OnOk result (table.new ≡ noted_all number table.old (flat_map further_styles postings.now)) }
+    ensures ok { OnOk result (table.new ≡ noted_all number table.old (flat_map further_styles postings.now)) }
+    ensures others { IsSameBut number table.old table.new }
 {
     for posting in postings {
         note_further(table, alloc, number, posting)?;
@@ -150,7 +159,8 @@ pub(crate) fn note_auto(
     number: u64,
     postings: &[RulePosting],
 ) -> Result<(), Memory>
-    ensures { OnOk result (table.new ≡ noted_all number table.old (flat_map (λ p. rule_styles p.posting) postings.now)) }
+    ensures ok { OnOk result (table.new ≡ noted_all number table.old (flat_map (λ p. rule_styles p.posting) postings.now)) }
+    ensures others { IsSameBut number table.old table.new }
 {
     for posting in postings {
         note_rule(table, alloc, number, &posting.posting)?;
@@ -165,7 +175,8 @@ pub(crate) fn note_periodic(
     number: u64,
     postings: &[Posting],
 ) -> Result<(), Memory>
-    ensures { OnOk result (table.new ≡ noted_all number table.old (flat_map rule_styles postings.now)) }
+    ensures ok { OnOk result (table.new ≡ noted_all number table.old (flat_map rule_styles postings.now)) }
+    ensures others { IsSameBut number table.old table.new }
 {
     for posting in postings {
         note_rule(table, alloc, number, posting)?;

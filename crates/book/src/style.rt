@@ -1,7 +1,7 @@
 //! The styles in which amounts are printed.
-ghost use Rattle.std.specs.Prelude.{◌≡◌, ◌≤◌, IfOk, OnOk, List, ℕ, [], IsTrue};
+ghost use Rattle.std.specs.Prelude.{◌≡◌, ◌≤◌, IfOk, OnOk, OnErr, List, ℕ, [], IsTrue};
 ghost use Rattle.book.specs.Style.{default_style, style_of};
-ghost use Rattle.book.specs.Styles.{style_in, AreOf, after_item};
+ghost use Rattle.book.specs.Styles.{style_in, AreOf, AreSameBut, after_item, without_item};
 ghost use Rattle.book.specs.declared.item.Item.{Item};
 ghost use Rattle.book.specs.declared.item.Item.TheVariants as kinds;
 ghost use Rattle.book.specs.Standing.{Numbered, with_number, without_number, is_free, places_from};
@@ -74,21 +74,25 @@ impl Styles {
         Ok(styles)
     }
 
-    /// Adds an item under a number under which none stands. After an error the styles are of no use.
+    /// Adds an item under a number under which none stands. After an error the styles are those of the items before.
     pub fn add_item(&mut self, alloc: Global, number: u64, item: &Item) -> Result<(), Memory>
-        ensures { OnOk result ((standing : Numbered Item) → AreOf standing self.old → IsTrue (is_free number standing) → AreOf (with_number number item.now standing) self.new) }
+        ensures ok { OnOk result ((standing : Numbered Item) → AreOf standing self.old → IsTrue (is_free number standing) → AreOf (with_number number item.now standing) self.new) }
+        ensures err { OnErr result ((standing : Numbered Item) → AreOf standing self.old → IsTrue (is_free number standing) → AreOf standing self.new) }
     {
-        note_item(self, alloc, number, item)
+        match note_item(self, alloc, number, item) {
+            Ok(()) => Ok(()),
+            Err(error) => {
+                forget_item(self, number);
+                Err(error)
+            }
+        }
     }
 
     /// Takes away the item under a number, which takes no memory.
     pub fn remove_item(&mut self, number: u64)
         ensures { (standing : Numbered Item) → AreOf standing self.old → AreOf (without_number number standing) self.new }
     {
-        self.commodities.forget(number);
-        self.defaults.forget(number);
-        self.first.forget(number);
-        self.second.forget(number);
+        forget_item(self, number);
     }
 
     /// Styles of the same items.
@@ -126,9 +130,20 @@ impl Styles {
     }
 }
 
-/// Notes the amounts of an item under its number.
+/// Forgets what stands under a number.
+fn forget_item(styles: &mut Styles, number: u64)
+    ensures { styles.new ≡ without_item number styles.old }
+{
+    styles.commodities.forget(number);
+    styles.defaults.forget(number);
+    styles.first.forget(number);
+    styles.second.forget(number);
+}
+
+/// Notes the amounts of an item under its number. After an error some of them may be noted.
 fn note_item(styles: &mut Styles, alloc: Global, number: u64, item: &Item) -> Result<(), Memory>
-    ensures { OnOk result (styles.new ≡ after_item number styles.old item.now) }
+    ensures ok { OnOk result (styles.new ≡ after_item number styles.old item.now) }
+    ensures others { AreSameBut number styles.old styles.new }
 {
     match item {
         Item::Txn(txn) => {
@@ -159,7 +174,8 @@ fn note_directive(
     number: u64,
     directive: &Directive,
 ) -> Result<(), Memory>
-    ensures { OnOk result (styles.new ≡ after_item number styles.old (kinds.Directive directive.now)) }
+    ensures ok { OnOk result (styles.new ≡ after_item number styles.old (kinds.Directive directive.now)) }
+    ensures others { AreSameBut number styles.old styles.new }
 {
     match directive {
         Directive::Commodity(symbol, Some(amount)) => {

@@ -61,7 +61,12 @@ fn balance_of(alloc: Global, items: Items) -> Result<Bytes, Refusal>
 {
     let styles = Styles::of(alloc, items.as_slice())?;
     match check(alloc, items) {
-        Ok(book) => Ok(book_list(alloc, &book, &styles)?),
+        Ok(book) => {
+            let list = book_list(alloc, &book, &styles)?;
+            // The program ends after its report, so a large book isn't taken apart first.
+            std::mem::forget(book);
+            Ok(list)
+        }
         Err(CheckFault::Journal(fault)) => Err(refuse_fault(alloc, &fault)),
         Err(CheckFault::Memory) => Err(Refusal::Memory),
     }

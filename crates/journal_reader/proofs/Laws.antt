@@ -85,7 +85,7 @@ lines_plain : (context : Context) (line : ℕ) (contents : List (List ℕ)) → 
 lines_plain context line [] = tt
 lines_plain context line (c ∷ cs) = entry_plain context line c cs
 
-said_plain : (kind : Kind) (context : Context) (line : ℕ) (bytes : List ℕ) → IfOk (said_by kind context line bytes) IsPlain
+pub said_plain : (kind : Kind) (context : Context) (line : ℕ) (bytes : List ℕ) → IfOk (said_by kind context line bytes) IsPlain
 said_plain kinds.Gap context line bytes = (refl, tt)
 said_plain kinds.Block context line bytes = tt
 said_plain kinds.Stray context line bytes = tt

@@ -1,6 +1,8 @@
+mod After
 mod Bare
 mod Both
 mod Entries
+mod Fronts
 mod Laws
 mod LineEnds
 mod Lines

@@ -1,3 +1,4 @@
+pub mod After
 pub mod Accounts
 pub mod Amounts
 pub mod Causes

@@ -1,5 +1,5 @@
 //! Comments: the one on a line, and the indented lines after it that begin with `;`.
-ghost use Rattle.std.specs.Prelude.{◌≡◌, ◌++◌, ◌∷◌, [], ◌+◌, ◌<◌, ◌^◌, true, IfOk, OnOk, IfSome, Some, MatchOption, length};
+ghost use Rattle.std.specs.Prelude.{◌≡◌, ◌++◌, ◌∷◌, [], ◌+◌, ◌<◌, ◌≤◌, ◌^◌, true, IfOk, OnOk, IfSome, Some, MatchOption, length};
 ghost use Rattle.std.specs.Str.{is_utf8};
 ghost use Rattle.std.specs.String.{string_bytes};
 ghost use Rattle.hl_base.specs.Gives.{Gives};
@@ -38,14 +38,14 @@ fn comment_text(content: &[u8]) -> &[u8]
 }
 
 /// The comment line that a text begins with, and the text after the line.
-#[tactic(auto, using(crate::proofs::Remarks::one_comment, crate::proofs::Remarks::no_comment, crate::proofs::Remarks::no_line))]
+#[tactic(auto, using(crate::proofs::Remarks::one_comment, crate::proofs::Remarks::no_comment, crate::proofs::Remarks::no_line, crate::proofs::Fronts::no_remark))]
 fn next_comment(text: &[u8]) -> Option<(&[u8], &[u8])>
     ensures cut { MatchOption result (spec.comments_in (contents_of text.now) ≡ [])
         (λ x. spec.comments_in (contents_of text.now) ≡ x.0.now ∷ spec.comments_in (contents_of x.1.now)) }
     ensures shorter { IfSome result (λ x. length x.1.now < length text.now) }
     ensures utf8 { is_utf8 text.now ≡ true → IfSome result (λ x. (is_utf8 x.0.now ≡ true) × (is_utf8 x.1.now ≡ true)) }
 {
-    if text.is_empty() {
+    if text.is_empty() || !is_comment(text) {
         return None;
     }
     let (content, rest) = cut_line(text);
@@ -54,6 +54,16 @@ fn next_comment(text: &[u8]) -> Option<(&[u8], &[u8])>
     } else {
         None
     }
+}
+
+/// A text that begins as a comment line, or nothing.
+#[tactic(auto, using(crate::proofs::Fronts::no_remark, crate::proofs::Texts::empty_utf8))]
+pub(crate) fn comment_lines(text: &[u8]) -> &[u8]
+    ensures same { spec.comments_in (contents_of result.now) ≡ spec.comments_in (contents_of text.now) }
+    ensures shorter { length result.now ≤ length text.now }
+    ensures utf8 { is_utf8 text.now ≡ true → is_utf8 result.now ≡ true }
+{
+    if is_comment(text) { text } else { &[] }
 }
 
 /// Puts bytes behind a text.

@@ -1,5 +1,5 @@
 //! Reads an item: an entry or a gap.
-ghost use Rattle.std.specs.Prelude.{◌≡◌, ◌==◌, ◌+◌, ◌<◌, ◌^◌, true, false, length, OnOk, IfErr};
+ghost use Rattle.std.specs.Prelude.{◌≡◌, ◌==◌, ◌+◌, ◌<◌, ◌^◌, true, false, length, OnOk, IfOk, IfErr, IsTrue};
 ghost use Rattle.std.specs.List.{count_by};
 ghost use Rattle.std.specs.Str.{is_utf8};
 ghost use Rattle.hl_base.specs.Gives.{Gives};
@@ -7,12 +7,13 @@ ghost use Rattle.hl_base.specs.Lines.{first_line};
 ghost use Rattle.hl_base.specs.Items as items;
 ghost use Rattle.book.specs.declared.fault.Cause.TheVariants.{Encoding};
 ghost use Rattle.journal_reader.specs.declared.fault.ReadFault.TheVariants.{Read};
+ghost use Rattle.journal_reader.specs.After.{says_year_at_most};
 ghost use Rattle.journal_reader.specs.Causes as causes;
 ghost use Rattle.journal_reader.specs.Causes.{cause_in};
 ghost use Rattle.journal_reader.specs.Lines.{contents_of};
 ghost use Rattle.journal_reader.specs.Items as spec;
 
-use crate::comment::{read_comment, read_tags};
+use crate::comment::{comment_lines, read_comment, read_tags};
 use crate::context::Context;
 use crate::fault::{ReadFault, fault_at};
 use crate::head::read_head;
@@ -73,8 +74,9 @@ fn read_lines(
     let head = read_head(context, content, line)?;
     let year = civil_of(head.day).year;
     let postings = read_postings(alloc, context, year, after, line + 1)?;
-    let comment = read_comment(alloc, head.comment, after)?;
-    let tags = read_tags(alloc, head.comment, after)?;
+    let more = comment_lines(after);
+    let comment = read_comment(alloc, head.comment, more)?;
+    let tags = read_tags(alloc, head.comment, more)?;
     Ok(Item::Txn(Txn {
         line,
         day: head.day,
@@ -141,6 +143,7 @@ pub fn read_item<L: Ledger>(
 ) -> Result<Item, ReadFault>
     requires { line + length bytes.now < 2 ^ 64 }
     ensures value { Gives (λ item. item) cause_in result (spec.reading context.now line bytes.now) }
+    ensures year { IfOk result (λ item. IsTrue (says_year_at_most item)) }
     ensures steps { steps.new ≡ record steps.old { bytes_read = steps.old.bytes_read + length bytes.now } }
 {
     steps.read_bytes(bytes.len() as u64);

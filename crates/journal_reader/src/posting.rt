@@ -9,7 +9,7 @@ ghost use Rattle.journal_reader.specs.Postings as spec;
 
 use crate::account::{cut_account, has_parts, read_name};
 use crate::amount::{amount_at, cost_at};
-use crate::comment::{is_comment, read_comment, read_own_day, read_tags};
+use crate::comment::{comment_lines, is_comment, read_comment, read_own_day, read_tags};
 use crate::context::Context;
 use crate::fault::{ReadFault, fault_at};
 use crate::head::read_mark;
@@ -103,7 +103,7 @@ fn own_comment(text: &[u8]) -> &[u8]
 }
 
 /// The account that a text is, as the context has it.
-#[tactic(auto, unfolding(crate::specs::Postings::account_at))]
+#[tactic(auto, using(crate::proofs::Bare::unchanged_account), unfolding(crate::specs::Postings::account_at))]
 fn read_account_in<'a>(
     context: &Context,
     text: &'a [u8],
@@ -114,6 +114,9 @@ fn read_account_in<'a>(
     ensures utf8 { IfOk result (λ x. is_utf8 x.1.now ≡ true) }
 {
     let (side, written) = read_name(text, line)?;
+    if !context.changes_names() {
+        return Ok((side, written));
+    }
     let name = context.account_named(written);
     if has_parts(name) {
         Ok((side, name))
@@ -176,9 +179,10 @@ fn read_posting(
         return Err(fault_at(line, Cause::Form));
     }
     let read = read_line(alloc, context, content, line)?;
-    let day = read_own_day(read.comment, after, year, line)?;
-    let comment = read_comment(alloc, read.comment, after)?;
-    let tags = read_tags(alloc, read.comment, after)?;
+    let more = comment_lines(after);
+    let day = read_own_day(read.comment, more, year, line)?;
+    let comment = read_comment(alloc, read.comment, more)?;
+    let tags = read_tags(alloc, read.comment, more)?;
     Ok(Posting {
         line,
         mark: read.mark,
@@ -202,6 +206,9 @@ pub(crate) fn line_ends(text: &[u8]) -> usize
     text.iter().filter(|b| **b == b'\n').count()
 }
 
+/// How many postings most entries have.
+const USUAL_POSTINGS: usize = 2;
+
 /// The postings that the lines of a text are, of which the first is the `line`-th.
 #[tactic(auto, unfolding(crate::specs::Postings::postings_of))]
 pub(crate) fn read_postings(
@@ -215,7 +222,7 @@ pub(crate) fn read_postings(
     requires lines { line + length text.now < 2 ^ 64 }
     ensures { Gives (λ postings. postings) cause_in result (spec.postings_of context.now year line (contents_of text.now)) }
 {
-    let mut postings = Vec::with_capacity(alloc, line_ends(text))?;
+    let mut postings = Vec::with_capacity(alloc, USUAL_POSTINGS)?;
     let mut rest = text;
     let mut next = line;
     while !rest.is_empty() {

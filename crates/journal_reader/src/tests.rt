@@ -2,7 +2,7 @@
 ghost use Rattle.std.specs.Prelude.{◌≡◌};
 
 use crate::{Context, ReadFault, read_account, read_amount, read_item, read_journal};
-use book::{Amount, Cause, Cost, Fault, Item, Items, Mark, Posting, Side, Txn};
+use book::{Amount, Cause, Cost, Directive, Fault, Item, Items, Mark, Posting, Side, Txn};
 use hl_base::{Steps, Text};
 use std::alloc::{AllocError, Global};
 use std::marker::Brand;
@@ -1108,4 +1108,58 @@ fn whole_text<L: Ledger, R: Abort>(
 fn journals(rt: HostRuntime) -> Result<(), Fail> {
     let rows = [(65_536, 0, "none"), (65_537, 7, "too long")];
     whole_text::<Brand, HostRuntime>(&rt, rt.alloc(), Blank::new(3), TWO, &rows)
+}
+
+/// An entry on the 29th of February of the context's year.
+const LEAP_DAY: &[u8] = b"2/29 y\n";
+
+/// Reads the leap day in a context, and takes what it says into it.
+fn leap_day<L: Ledger>(
+    alloc: Global,
+    context: &mut Context,
+    steps: &mut Steps<L>,
+) -> Result<u32, Fail> {
+    match read_item(alloc, LEAP_DAY, context, 7, steps) {
+        Ok(item) => {
+            context.after(&item)?;
+            Ok(day_of(&item))
+        }
+        Err(_) => Ok(0),
+    }
+}
+
+fn day_of(item: &Item) -> u32 {
+    match item {
+        Item::Txn(txn) => txn.day.0,
+        _ => 0,
+    }
+}
+
+fn each_year<L: Ledger, R: Abort>(
+    rt: &R,
+    alloc: Global,
+    blank: Blank,
+    rows: &[(u16, u32)],
+) -> Result<(), Fail>
+    requires name { blank.name ≡ L.name }
+    requires parts { blank.parts ≡ L.parts }
+    requires three { blank.parts ≡ 3 }
+{
+    let mut steps = Steps::<L>::start(blank);
+    let mut context = Context::start(None)?;
+    context.after(&Item::Gap)?;
+    assert_eq!(rt; leap_day(alloc, &mut context, &mut steps)?, 0);
+    for (year, day) in rows {
+        context.after(&Item::Directive(Directive::Year(*year)))?;
+        assert_eq!(rt; leap_day(alloc, &mut context, &mut steps)?, *day, "{year}");
+        context.after(&Item::Directive(Directive::EndAliases))?;
+        assert_eq!(rt; leap_day(alloc, &mut context, &mut steps)?, *day, "{year}");
+    }
+    Ok(())
+}
+
+#[test]
+fn years(rt: HostRuntime) -> Result<(), Fail> {
+    let rows = [(2024, 738_945), (2023, 0), (2028, 740_406), (1, 0)];
+    each_year::<Brand, HostRuntime>(&rt, rt.alloc(), Blank::new(3), &rows)
 }

@@ -1,5 +1,5 @@
 -- How what a crash leaves of two disks goes on.
-use Rattle.std.proofs.Common.{inl, inr, ℕ, ◌≤◌, List, [], ◌∷◌, ◌++◌, Bool, true, false, IsTrue, if◌then◌else◌, refl, sym, subst}
+use Rattle.std.proofs.Common.{inl, inr, ℕ, ◌≤◌, List, [], ◌∷◌, ◌++◌, Bool, true, false, IsTrue, refl, sym, subst}
 use Rattle.hl_base.specs.declared.disk.Disk.{Ghosts}
 use Rattle.hl_base.specs.Disk.{LeavesOnly}
 use Rattle.text_store.specs.Stores.{placed, Tell, Leaves, Moves, Passes, Throughout}

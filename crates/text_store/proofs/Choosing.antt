@@ -1,5 +1,5 @@
 -- What is read of two files, and which half is in use.
-use Rattle.std.proofs.Common.{◌≡◌, ◌≢◌, ◌∙◌, ◌⊎◌, inl, inr, ℕ, zero, suc, ◌+◌, ◌*◌, ◌%◌, ◌-◌, ◌<◌, ◌≤◌, ◌^◌, ◌==◌, ◌&&◌, not, nat_lt, nat_le, if◌then◌else◌, Bool, true, false, List, [], ◌∷◌, ◌++◌, length, take, drop, Option, Some, None, Result, Ok, Err, IfOk, IfErr, refl, sym, ap, subst, arith, length-take}
+use Rattle.std.proofs.Common.{◌≡◌, ◌≢◌, ◌∙◌, ℕ, ◌+◌, ◌%◌, ◌-◌, ◌<◌, ◌≤◌, ◌^◌, ◌==◌, ◌&&◌, not, nat_lt, nat_le, if◌then◌else◌, Bool, true, false, List, [], ◌∷◌, ◌++◌, length, take, drop, Option, Some, None, Result, Ok, Err, IfOk, IfErr, refl, sym, ap, subst, arith, length-take}
 use Rattle.std.specs.Int.{w64, from_le_bytes}
 use Rattle.std.specs.Str.{bytes_eq}
 use Rattle.std.proofs.lemmas.Bool.Decides.{nat_tests}
@@ -16,7 +16,7 @@ use Rattle.text_store.specs.declared.records.Record.{Record}
 use Rattle.text_store.specs.Contents.{content_in_code, IsEnd}
 use Rattle.text_store.specs.Entries.{Entry, IsFront, open_entries}
 use Rattle.text_store.specs.Files.{next_generation, AreWritable, IsWritable}
-use Rattle.text_store.specs.Found.{half_in_code, half_found, IsHead, IsLiveHalf, IfLive, IsHalfInUse, IsInUse, IsFound, HalfRefused, ImageRefused, OldRefused}
+use Rattle.text_store.specs.Found.{half_in_code, half_found, IsHead, IsLiveHalf, IfLive, IsInUse, IsFound, HalfRefused, ImageRefused, OldRefused}
 use Rattle.text_store.specs.Halves.{IsHalf}
 use Rattle.text_store.specs.Image.{Half, Content, NoImage, NotAStore, letters, number_8, live, live_of, first_of, started, checkpointed, chosen, folded, image, image_at, image_of, half_image, old_image, old_records}
 use Rattle.text_store.specs.Reads.{entry_of, from_place, IsNext}
@@ -24,8 +24,7 @@ use Rattle.text_store.specs.Stores.{IsChosen}
 use Rattle.text_store.proofs.Holding.{choice}
 use Rattle.text_store.proofs.OpenEntries.{front_begins}
 use Rattle.text_store.proofs.Reading.{begins}
-use Rattle.text_store.proofs.Walking.{sliced, entry_is}
-use Rattle.text_store.proofs.Wholes.{live_nothing}
+use Rattle.text_store.proofs.Walking.{entry_is}
 
 greater : (a b : ℕ) → b < a → nat_le a b ≡ false
 greater a b more = grind (arith, nat_tests)

@@ -1,11 +1,11 @@
 -- A file behind whose front no open record stands.
-use Rattle.std.proofs.Common.{◌≡◌, ◌∙◌, ◌⊎◌, inl, inr, ℕ, zero, suc, ◌+◌, ◌-◌, ◌<◌, ◌≤◌, List, [], ◌∷◌, ◌++◌, length, get_or, take, drop, Option, Some, None, refl, sym, ap, subst, arith, append_assoc, length-append, length-take, length-drop, take-append-drop}
+use Rattle.std.proofs.Common.{◌≡◌, ◌∙◌, inl, inr, ℕ, suc, ◌+◌, ◌-◌, ◌<◌, List, [], ◌∷◌, ◌++◌, length, get_or, take, drop, sym, ap, arith, append_assoc, length-append, length-take, length-drop, take-append-drop}
 use Rattle.std.proofs.lemmas.List.{take_at, drop_more, append-nil, take-append-le}
 use Rattle.hl_base.specs.Disk.{Torn, Cut}
 use Rattle.text_store.specs.Ends.{IsShutAt}
-use Rattle.text_store.specs.Entries.{Entry, open_from, open_entries}
+use Rattle.text_store.specs.Entries.{Entry, open_from}
 use Rattle.text_store.specs.Halves.{IsHalf}
-use Rattle.text_store.specs.Image.{Half, live, live_of}
+use Rattle.text_store.specs.Image.{live, live_of}
 use Rattle.text_store.specs.Reads.{from_place}
 use Rattle.text_store.proofs.Gates.{cut_form, torn_gate}
 use Rattle.text_store.proofs.OpenEntries.{enough, lone_gate}

@@ -1,5 +1,5 @@
 -- What opening two files comes to.
-use Rattle.std.proofs.Common.{◌≡◌, ◌∙◌, inr, ℕ, ◌≤◌, max, List, Option, Some, Result, Ok, Err, IfOk, sym, ap, subst, arith}
+use Rattle.std.proofs.Common.{◌≡◌, ◌∙◌, inr, ℕ, List, Result, Ok, Err, IfOk, sym, subst, arith}
 use Rattle.hl_base.specs.declared.disk.Disk.{Ghosts}
 use Rattle.text_store.specs.declared.fault.StoreFault.{StoreFault}
 use Rattle.text_store.specs.declared.fault.StoreFault.TheVariants.{DiskFault, NotAStore, Newer, Full, Exists, Memory}
@@ -7,8 +7,8 @@ use Rattle.text_store.specs.declared.finding.Place.{Place}
 use Rattle.text_store.specs.declared.finding.Place.TheVariants.{Half as InHalf, Older}
 use Rattle.text_store.specs.declared.image.Image.{Image}
 use Rattle.text_store.specs.Files.{WhileOpened}
-use Rattle.text_store.specs.Found.{IsFound, OldRefused, ImageRefused}
-use Rattle.text_store.specs.Image.{NoImage, image}
+use Rattle.text_store.specs.Found.{IsFound, ImageRefused}
+use Rattle.text_store.specs.Image.{image}
 use Rattle.text_store.specs.Refusals.{OpenRefused, ReadTheSame, Told}
 use Rattle.text_store.specs.Rest.{IsReadOn}
 use Rattle.text_store.specs.Stores.{placed, Tell, Throughout, Shows, Keeps}

@@ -1,31 +1,29 @@
 -- A store opened in two files.
-use Rattle.std.proofs.Common.{◌≡◌, ◌∙◌, ◌⊎◌, inl, inr, ℕ, ◌+◌, ◌^◌, ◌<◌, ◌≤◌, ◌==◌, ◌%◌, max, if◌then◌else◌, Bool, true, false, IsTrue, List, [], ◌∷◌, ◌++◌, length, take, drop, Option, Some, None, Result, Ok, Err, refl, sym, ap, subst, arith, append_assoc, length-append, length-take}
+use Rattle.std.proofs.Common.{◌≡◌, ◌∙◌, ◌⊎◌, inl, inr, ℕ, ◌+◌, ◌^◌, ◌<◌, ◌≤◌, ◌==◌, ◌%◌, max, if◌then◌else◌, Bool, true, false, IsTrue, List, [], ◌∷◌, ◌++◌, length, take, Option, Some, None, Ok, refl, sym, ap, subst, arith, append_assoc, length-append, length-take}
 use Rattle.std.proofs.lemmas.Bool.Decides.{nat_tests}
 use Rattle.hl_base.specs.declared.disk.Disk.{Ghosts}
 use Rattle.hl_base.specs.Causes.{Rose}
-use Rattle.hl_base.specs.Disk.{LeavesOnly, Only}
+use Rattle.hl_base.specs.Disk.{LeavesOnly}
 use Rattle.text_store.specs.declared.finding.InUse.{InUse}
-use Rattle.text_store.specs.declared.half.Half.{Half as HalfInCode}
 use Rattle.text_store.specs.declared.image.Image.{Image}
 use Rattle.text_store.specs.declared.store.Store.{Store}
 use Rattle.text_store.specs.Changes.{AreStates}
 use Rattle.text_store.specs.Ends.{IsShutAt}
-use Rattle.text_store.specs.Entries.{Entry, body, open_from, open_entries}
+use Rattle.text_store.specs.Entries.{body, open_entries}
 use Rattle.text_store.specs.Files.{header, whole_payload, IsWritable, limit_in, opened_limit}
 use Rattle.text_store.specs.declared.finding.Place.{Place}
 use Rattle.text_store.specs.declared.finding.Place.TheVariants.{Half as InHalf, Older}
 use Rattle.text_store.specs.Edits.{whole_size}
 use Rattle.text_store.specs.Found.{IsHalfInUse, half_found, IsFound}
-use Rattle.text_store.specs.Image.{Half, NoImage, live, chosen, image, image_of, half_image, other_image}
-use Rattle.text_store.specs.Rest.{RestsAs, StandsIn, IsAt, IsRewritten, IsReadOn}
-use Rattle.text_store.specs.Settled.{IsSettled}
-use Rattle.text_store.specs.Stores.{Tell, Throughout, Shows, fault_count, disks, image_beside, IsChosen, Leads, Holds, Keeps}
+use Rattle.text_store.specs.Image.{Half, live, chosen, image, image_of}
+use Rattle.text_store.specs.Rest.{RestsAs, StandsIn, IsRewritten, IsReadOn}
+use Rattle.text_store.specs.Stores.{Tell, Throughout, Shows, fault_count, image_beside, IsChosen, Leads, Holds, Keeps}
 use Rattle.text_store.proofs.Appending.{rose_left, rose_right}
 use Rattle.text_store.specs.Stores.{placed}
 use Rattle.text_store.proofs.Both.{stays, once, then_on, moves_live, tell_live, tell_spare}
 use Rattle.text_store.proofs.Ending.{shut_from, same_half}
 use Rattle.text_store.proofs.Growing.{none_some}
-use Rattle.text_store.proofs.Holding.{choice, holds, led, shown_at, leads_on, live_empty}
+use Rattle.text_store.proofs.Holding.{choice, holds, led, shown_at, leads_on}
 use Rattle.text_store.proofs.Moments.{weakened}
 use Rattle.text_store.proofs.OpenEntries.{shut_gate}
 use Rattle.text_store.proofs.Prefixes.{front_chosen}

@@ -1,9 +1,9 @@
 -- A disk that is read and brought to rest.
-use Rattle.std.proofs.Common.{◌≡◌, ◌∙◌, ◌⊎◌, inl, inr, ◌≢◌, ℕ, ◌+◌, ◌-◌, ◌<◌, ◌≤◌, List, [], ◌∷◌, ◌++◌, length, take, drop, Option, Some, IsTrue, IfSome, refl, sym, ap, subst, arith, length-take, length-drop, length-append, take-append-drop}
-use Rattle.std.proofs.lemmas.List.{take_all, take-take, take_at}
+use Rattle.std.proofs.Common.{◌≡◌, ◌∙◌, ◌⊎◌, inl, inr, ℕ, ◌+◌, ◌-◌, ◌<◌, ◌≤◌, List, [], ◌++◌, length, take, drop, sym, ap, arith, length-take, length-drop, length-append, take-append-drop}
+use Rattle.std.proofs.lemmas.List.{take_at}
 use Rattle.hl_base.proofs.Files.{take_past}
 use Rattle.hl_base.specs.declared.disk.Disk.{Ghosts}
-use Rattle.hl_base.specs.Disk.{NoMore, Elapses, LeavesOnly, ReadsAt}
+use Rattle.hl_base.specs.Disk.{NoMore, Elapses, ReadsAt}
 use Rattle.text_store.specs.Rest.{IsReadOn}
 use Rattle.text_store.proofs.Moments.{started, goes_on, joined}
 

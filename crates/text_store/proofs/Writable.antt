@@ -1,17 +1,16 @@
 -- An image that can be written stays so over a change.
-use Rattle.std.proofs.Common.{◌≡◌, ℕ, ◌+◌, ◌<◌, ◌^◌, Bool, true, false, not, ◌&&◌, ◌||◌, nat_lt, List, [], ◌∷◌, length, if◌then◌else◌, Option, Some, None, refl, sym, ◌∙◌, ap, subst, arith}
+use Rattle.std.proofs.Common.{◌≡◌, ℕ, ◌+◌, ◌<◌, ◌^◌, Bool, true, false, not, ◌||◌, nat_lt, List, [], ◌∷◌, length, if◌then◌else◌, Option, Some, None, refl, sym, ◌∙◌, ap, subst, arith}
 use Rattle.std.specs.Str.{bytes_eq}
 use Rattle.std.specs.List.{list_any}
 use Rattle.std.proofs.lemmas.Bool.Decides.{nat_tests}
 use Rattle.std.proofs.lemmas.Bool.{and_parts, and_from}
 use Rattle.std.proofs.lemmas.Slice.Eq.{bytes_eq-Decides}
 use Rattle.hl_base.specs.declared.change.Latest.{Latest}
-use Rattle.hl_base.specs.declared.change.Splice.{Splice as Part}
 use Rattle.text_store.specs.declared.change.Change.{Change}
 use Rattle.text_store.specs.declared.change.Change.TheVariants.{Splice, Whole, Import}
 use Rattle.text_store.specs.declared.image.Image.{Image}
 use Rattle.text_store.specs.Changes.{HasShortName}
-use Rattle.text_store.specs.Edits.{edited, edited_content, content_in, at_revision, replaced}
+use Rattle.text_store.specs.Edits.{edited, edited_content, content_in, replaced}
 use Rattle.text_store.specs.Files.{HaveShortNames, AreWritable, IsWritable}
 use Rattle.text_store.specs.Image.{Content, same_name, with_mark, with_text, have_own_names}
 use Rattle.text_store.proofs.Growing.{none_some, content_edited}

@@ -1,4 +1,4 @@
-use Rattle.std.proofs.Common.{◌≡◌, ◌<◌, ◌≤◌, ◌++◌, ℕ, Option, List, Some, IfSome, length, take, sym, rules, subst}
+use Rattle.std.proofs.Common.{◌≡◌, ◌≤◌, ℕ, Option, List, IfSome, length, take, sym, rules, subst}
 use Rattle.hl_base.specs.Disk.{ReadsAt}
 use Rattle.text_store.proofs.Unwritten.{front_more}
 use Rattle.text_store.proofs.disk_whole.read_more.Goals as goal

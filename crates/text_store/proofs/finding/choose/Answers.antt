@@ -1,4 +1,4 @@
-use Rattle.std.proofs.Common.{◌≡◌, ◌∙◌}
+use Rattle.std.proofs.Common.{◌∙◌}
 use Rattle.text_store.proofs.Choosing.{second_follows}
 use Rattle.text_store.proofs.finding.choose.Goals as goal
 

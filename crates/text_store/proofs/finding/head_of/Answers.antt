@@ -1,4 +1,4 @@
-use Rattle.std.proofs.Common.{◌≡◌, ◌∙◌, sym, ◌<◌, arith}
+use Rattle.std.proofs.Common.{◌∙◌, sym, arith}
 use Rattle.text_store.specs.Image.{first_of}
 use Rattle.text_store.proofs.Choosing.{no_head, one_head, good_head, other_word, great_generation, great_base}
 use Rattle.text_store.proofs.finding.head_of.Goals as goal

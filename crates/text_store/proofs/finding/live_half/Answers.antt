@@ -1,4 +1,4 @@
-use Rattle.std.proofs.Common.{◌≡◌, ◌∙◌, Option, Some, None, List, refl, ap, subst, take, IfSome}
+use Rattle.std.proofs.Common.{◌∙◌, Option, None, List, refl, ap, subst, take, IfSome}
 use Rattle.text_store.specs.declared.folding.Content.{Content}
 use Rattle.text_store.specs.Contents.{if_content_in_code}
 use Rattle.text_store.specs.Entries.{Entry}

@@ -1,4 +1,4 @@
-use Rattle.std.proofs.Common.{◌≡◌, ◌∙◌, Result, Ok, ℕ, IfOk, refl, ap, sym, subst}
+use Rattle.std.proofs.Common.{◌∙◌, Result, Ok, ℕ, IfOk, refl, ap, sym, subst}
 use Rattle.text_store.specs.declared.folding.Folded.{Folded}
 use Rattle.text_store.specs.Contents.{content_in_code, end_in_code, IsEnd}
 use Rattle.text_store.specs.Found.{half_in_code}

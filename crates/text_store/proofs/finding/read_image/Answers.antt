@@ -1,4 +1,3 @@
-use Rattle.std.proofs.Common.{◌≡◌}
 use Rattle.text_store.specs.Found.{half_in_code}
 use Rattle.text_store.proofs.Choosing.{found_first, found_second, first_image, second_image, refused_as}
 use Rattle.text_store.proofs.finding.read_image.Goals as goal

@@ -1,10 +1,10 @@
-use Rattle.std.proofs.Common.{◌≡◌, ◌∙◌, ◌≤◌, ◌^◌, ◌+◌, Result, Ok, ℕ, IfOk, [], List, refl, ap, sym, subst, arith}
+use Rattle.std.proofs.Common.{◌∙◌, ◌≤◌, ◌^◌, ◌+◌, Result, Ok, ℕ, IfOk, List, refl, ap, sym, subst, arith}
 use Rattle.hl_base.specs.declared.change.Latest.{Latest}
 use Rattle.text_store.specs.declared.folding.Folded.{Folded}
 use Rattle.text_store.specs.declared.image.Image.{Image}
 use Rattle.text_store.specs.Contents.{content_in_code, end_in_code, IsEnd}
 use Rattle.text_store.specs.Files.{AreWritable, IsWritable}
-use Rattle.text_store.specs.Image.{image_at, Content}
+use Rattle.text_store.specs.Image.{image_at}
 use Rattle.text_store.proofs.Choosing.{old_none, old_kind, old_shows, writable_image}
 use Rattle.text_store.proofs.finding.read_old.Goals as goal
 

@@ -1,8 +1,7 @@
-use Rattle.std.proofs.Common.{◌≡◌, ◌∙◌, Bool, true, false, Some, None, MatchBool, ap, subst}
+use Rattle.std.proofs.Common.{◌≡◌, ◌∙◌, Bool, Some, None, MatchBool, ap, subst}
 use Rattle.text_store.specs.Contents.{content_in_code}
 use Rattle.text_store.specs.Entries.{Entry}
 use Rattle.text_store.specs.Image.{changed}
-use Rattle.text_store.specs.Reads.{entry_of}
 use Rattle.text_store.proofs.Walking.{walk_stops, walk_on, walk_ends, entry_is, sliced}
 use Rattle.text_store.proofs.folding.fold_from.Goals as goal
 

@@ -1,6 +1,5 @@
-use Rattle.std.proofs.Common.{◌≡◌, ◌<◌, ◌-◌, ◌^◌, Some, Bool, true, Result, Ok, Err, IfOk, length, length-drop, drop, arith, rules, subst, Option, List, ℕ}
+use Rattle.std.proofs.Common.{◌≡◌, ◌<◌, ◌-◌, ◌^◌, Some, Bool, true, Result, Ok, Err, IfOk, length, length-drop, drop, arith, rules}
 use Rattle.std.proofs.lemmas.List.{take_all}
-use Rattle.hl_base.specs.declared.change.Latest.{Latest}
 use Rattle.hl_base.specs.declared.fault.Memory.{Memory}
 use Rattle.text_store.specs.Contents.{content_in_code, IsStateAt}
 use Rattle.text_store.proofs.Splicing.{imports}

@@ -1,4 +1,4 @@
-use Rattle.std.proofs.Common.{◌≡◌, ◌∙◌, ◌<◌, ◌++◌, ◌∷◌, true, List, length, take, get_or, ap, sym, arith, rules}
+use Rattle.std.proofs.Common.{◌≡◌, ◌∙◌, ◌<◌, ◌++◌, true, List, length, take, get_or, ap, sym, arith, rules}
 use Rattle.std.proofs.lemmas.List.{set_split}
 use Rattle.hl_base.specs.declared.change.Latest.{Latest}
 use Rattle.text_store.specs.Image.{same_name, with_mark}

@@ -1,7 +1,5 @@
-use Rattle.std.proofs.Common.{rules, ◌≡◌, ◌∙◌, ◌+◌, ◌≤◌, ◌-◌, length-drop, ◌&&◌, ◌++◌, nat_le, Bool, true, if◌then◌else◌, ℕ, List, length, take, drop, Option, Some, None, sym, ap, arith}
-use Rattle.std.proofs.lemmas.Bool.Decides.{nat_tests}
+use Rattle.std.proofs.Common.{◌∙◌, ◌+◌, ◌-◌, length-drop, ◌++◌, ℕ, List, length, take, drop, sym, ap, arith}
 use Rattle.std.proofs.lemmas.List.{take_all}
-use Rattle.text_store.proofs.Writable.{edited_writable}
 use Rattle.text_store.proofs.Splicing.{splices}
 use Rattle.text_store.proofs.folding.splice_in.Goals as goal
 

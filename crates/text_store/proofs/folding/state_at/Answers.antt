@@ -1,7 +1,6 @@
-use Rattle.std.proofs.Common.{◌≡◌, ◌∙◌, ◌≤◌, ◌+◌, ◌-◌, ◌<◌, ◌^◌, true, false, take, drop, rules, sym, ap, subst, arith, length, length-take, List, ℕ}
+use Rattle.std.proofs.Common.{◌≡◌, ◌∙◌, ◌+◌, ◌-◌, true, take, drop, sym, ap, subst, arith, length, length-take, List, ℕ}
 use Rattle.std.specs.Str.{is_utf8, IsUtf8}
 use Rattle.std.proofs.lemmas.Str.{is_utf8-from_IsUtf8}
-use Rattle.text_store.proofs.Writable.{edited_writable}
 use Rattle.text_store.proofs.Splicing.{state_is, not_text, not_utf8}
 use Rattle.text_store.proofs.folding.state_at.Goals as goal
 

@@ -1,14 +1,15 @@
-use Rattle.std.proofs.Common.{Ok, Err, Result, sym, subst}
-use Rattle.std.specs.Prelude.{OnOk}
+use Rattle.std.proofs.Common.{sym, subst}
 use Rattle.book.specs.declared.style.Styles.{Styles}
 use Rattle.book.specs.Standing.{with_number}
 use Rattle.book.specs.Styles.{AreOf}
 use Rattle.book.proofs.Kept.{AreOf-with}
+use Rattle.book.proofs.Others.{AreOf-undone}
 use Rattle.book.proofs.style.Styles.add_item.Goals as goal
 
-on_ok : {X E : Type 0} (r : Result X E) {P Q : Type 0} → (P → Q) → OnOk r P → OnOk r Q
-on_ok (Ok x) f p = f p
-on_ok (Err e) f p = p
+pub returns-in-Ok-clause-ok : goal.returns-in-Ok-clause-ok
+returns-in-Ok-clause-ok c = λ es h free.
+    subst (λ (s : Styles). AreOf (with_number c.args.number c.args.item.now es) s) (sym c.in-Ok.ensures.ok) (AreOf-with c.args.number c.args.item.now es c.args.self.now h free)
 
-pub returns : goal.returns
-returns c = on_ok c.note_item.result (λ (is : _) es h free. subst (λ (s : Styles). AreOf (with_number c.args.number c.args.item.now es) s) (sym is) (AreOf-with c.args.number c.args.item.now es c.args.self.now h free)) c.note_item.ensures
+pub returns-in-Err-clause-err : goal.returns-in-Err-clause-err
+returns-in-Err-clause-err c = λ es h free.
+    subst (λ (s : Styles). AreOf es s) (sym c.forget_item.ensures) (AreOf-undone c.args.number es c.args.self.now c.note_item.new.styles c.note_item.ensures.others h free)

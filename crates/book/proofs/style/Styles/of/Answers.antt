@@ -16,7 +16,7 @@ loop-number-preserved c =
     let more : suc n ≡ n + 1 = omega arith in
     let step = AreOf-place n items placed c.loop-number.styles inside c.loop-number.invariant in
     let noted : c.note_item.new.styles ≡ after_item n c.loop-number.styles (get_or items n placed).item =
-    c.in_ok-note_item.ensures ∙ ap (λ (p : Placed). after_item n c.loop-number.styles p.item) c.index-items-number.is in
+    c.in_ok-note_item.ensures.ok ∙ ap (λ (p : Placed). after_item n c.loop-number.styles p.item) c.index-items-number.is in
     subst (λ (s : Styles). AreOf (places_from 0 (take (n + 1) items)) s) (sym noted)
     (subst (λ (k : ℕ). AreOf (places_from 0 (take k items)) (after_item n c.loop-number.styles (get_or items n placed).item)) more step)
 

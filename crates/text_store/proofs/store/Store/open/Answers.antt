@@ -1,9 +1,7 @@
-use Rattle.std.proofs.Common.{◌≡◌, ◌∙◌, ◌<◌, ◌^◌, ◌++◌, ◌∷◌, [], ◌≤◌, max, inl, List, ℕ, Ok, Some, None, length, sym, ap, subst, arith}
+use Rattle.std.proofs.Common.{◌∙◌, max, inl, Ok, length, sym, ap, arith}
 use Rattle.text_store.specs.declared.image.Image.{Image}
-use Rattle.text_store.specs.Files.{new_front, opened_limit, WhileOpened}
-use Rattle.text_store.specs.Image.{image, live, chosen}
-use Rattle.text_store.specs.Refusals.{Told}
-use Rattle.text_store.specs.Stores.{disks, disks_opened, limit_of, bounds, Holds}
+use Rattle.text_store.specs.Files.{opened_limit, WhileOpened}
+use Rattle.text_store.specs.Stores.{disks_opened}
 use Rattle.text_store.proofs.Both.{less_said}
 use Rattle.text_store.proofs.Opened.{if_ok_map, if_ok_two, found_in, shown_by, keeps_after, tell_after, refused_at, opened_run}
 use Rattle.text_store.proofs.store.Store.open.Goals as goal

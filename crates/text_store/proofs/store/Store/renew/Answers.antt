@@ -1,14 +1,12 @@
-use Rattle.std.proofs.Common.{◌≡◌, ◌∙◌, ◌<◌, ◌≤◌, ◌^◌, ◌+◌, ◌++◌, ◌∷◌, [], List, ℕ, max, rules, refl, sym, ap, subst, arith, length, append_assoc, Some}
+use Rattle.std.proofs.Common.{◌≡◌, ◌∙◌, ◌<◌, ◌^◌, ◌++◌, ◌∷◌, [], List, ℕ, max, rules, refl, sym, ap, subst, arith, length, append_assoc, Some}
 use Rattle.hl_base.specs.Disk.{LeavesOnly}
 use Rattle.text_store.specs.Edits.{whole_size}
 use Rattle.text_store.specs.Entries.{body}
 use Rattle.text_store.specs.Files.{header, whole_payload}
 use Rattle.text_store.specs.Rest.{RestsAs, IsRewritten}
 use Rattle.text_store.specs.Stores.{Throughout, Shows, Keeps}
-use Rattle.text_store.proofs.Both.{stays}
 use Rattle.text_store.proofs.HalfImages.{length_record}
 use Rattle.text_store.proofs.Opening.{both_shows, renewing, renewed}
-use Rattle.text_store.proofs.Resting.{tells_still}
 use Rattle.text_store.proofs.Wholes.{length_whole}
 use Rattle.text_store.proofs.store.Store.renew.Goals as goal
 

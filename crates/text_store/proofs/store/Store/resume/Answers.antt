@@ -1,4 +1,4 @@
-use Rattle.std.proofs.Common.{◌≡◌, refl, sym, ap, subst}
+use Rattle.std.proofs.Common.{refl, sym, subst}
 use Rattle.text_store.specs.Stores.{placed, Throughout, Shows}
 use Rattle.text_store.proofs.Opening.{resume_run, resume_opened}
 use Rattle.text_store.proofs.store.Store.resume.Goals as goal

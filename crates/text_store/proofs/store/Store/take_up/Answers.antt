@@ -1,4 +1,4 @@
-use Rattle.std.proofs.Common.{◌≡◌, ◌∙◌, sym, ap}
+use Rattle.std.proofs.Common.{◌∙◌, sym, ap}
 use Rattle.text_store.proofs.Growing.{none_some}
 use Rattle.text_store.proofs.Opening.{found_in_half, found_older, half_chosen, keeps_half, limit_found, limit_older}
 use Rattle.text_store.proofs.store.Store.take_up.Goals as goal

@@ -1,7 +1,7 @@
 use Rattle.std.proofs.Common.{◌≡◌}
 use Rattle.std.specs.List.{flat_map}
 use Rattle.balancing.specs.Fill.{filled_posting}
-use Rattle.balancing.proofs.fill.fill.Given as goal
+use Rattle.balancing.proofs.fill.fill_anew.Given as goal
 
 abbrev pub invariant-loop-posting : goal.invariant-loop-posting
 invariant-loop-posting l = record {
