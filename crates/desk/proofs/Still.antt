@@ -1,0 +1,54 @@
+-- What a machine that stays as it is shows, and one of which only the counts change.
+use Rattle.std.proofs.Common.{◌≡◌, inl, inr, ℕ, false, Option, Some, None, refl, arith}
+use Rattle.hl_base.specs.declared.disk.Disk.{Ghosts}
+use Rattle.live_journal.specs.declared.edit.Edit.{Edit}
+use Rattle.text_store.specs.declared.image.Image.{Image}
+use Rattle.text_store.specs.declared.store.Store.{Store}
+use Rattle.text_store.specs.Stores.{Keeps, Leaves, Tell, bounds, disks}
+use Rattle.text_store.proofs.Both.{stays}
+use Rattle.desk.specs.declared.desk.Desk.{Desk}
+use Rattle.desk.specs.declared.reply.Reply.{Reply}
+use Rattle.desk.specs.Desks.{Serves, faults_of, shown_by, state_of}
+use Rattle.desk.specs.Stands.{ShowsOne, Stands}
+use Rattle.desk.specs.States.{Answer}
+use Rattle.desk.specs.Steps.{Gives, is_done}
+
+-- a crash now leaves what the disks stand for
+pub leaves_of : {D : Type 0} {g : Ghosts D} (store : Store D g) (shown : Image) (pending next : Option Image) → Stands store shown pending → Tell g (disks store) → Leaves g (disks store) (ShowsOne shown pending next)
+leaves_of store shown None next (inl rest) tell = λ f s a b. inl (rest.1.shows tell f s a b)
+leaves_of store shown None next (inr torn) tell = λ f s a b. elim (torn.shows tell f s a b) [ inl x ↦ inl x | inr y ↦ inl y ]
+leaves_of store shown (Some other) next torn tell = λ f s a b. elim (torn.shows tell f s a b) [ inl x ↦ inl x | inr y ↦ inr (inl y) ]
+
+-- two disks that stay keep all that they tell
+pub kept : {D : Type 0} (g : Ghosts D) (pair : D × D) (ends : ℕ × ℕ) → Keeps g pair pair ends
+kept g pair ends = record {
+  tells_first = refl;
+  tells_second = refl;
+  unfailing_first = refl;
+  unfailing_second = refl;
+  reach_first = omega arith;
+  reach_second = omega arith;
+  later_first = omega arith;
+  later_second = omega arith;
+}
+
+-- a machine that stays serves a request that gives a reply so
+pub still : {D : Type 0} {g : Ghosts D} (answer : Answer) (e : Option Edit) (desk : Desk D g) (r : Reply) → Gives answer e (state_of desk) (faults_of desk) r (state_of desk) (faults_of desk) → is_done r ≡ false → Serves answer e desk r desk
+still {D} {g} answer e desk r gives undone = record {
+  gives = gives;
+  stands = λ pending stands. (pending, inr (inl (undone, refl)), stands);
+  crash = λ pending stands tell. stays g (disks desk.store) _ (leaves_of desk.store (shown_by desk) pending _ stands tell);
+  keeps = kept g (disks desk.store) (bounds desk.store);
+  no_wider = (omega arith, omega arith);
+}
+
+-- the counts of requests are no part of what is served
+pub recounted : {D : Type 0} {g : Ghosts D} (answer : Answer) (e : Option Edit) (old : Desk D g) (r : Reply) (mid new : Desk D g)
+    → new.store ≡ mid.store → new.live ≡ mid.live → new.latest ≡ mid.latest → new.allow ≡ mid.allow → Serves answer e old r mid → Serves answer e old r new
+recounted answer e old r mid new store live latest allowed h = record {
+  gives = rw (store, live, latest, allowed) h.gives;
+  stands = rw (store, live, latest) h.stands;
+  crash = rw store h.crash;
+  keeps = rw store h.keeps;
+  no_wider = rw store h.no_wider;
+}

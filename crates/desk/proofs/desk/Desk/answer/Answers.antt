@@ -1,0 +1,20 @@
+use Rattle.live_journal.specs.declared.edit.Edit.TheVariants as edit
+use Rattle.desk.proofs.Served.{downloaded, reported, was_add, was_change, was_replace}
+use Rattle.desk.proofs.desk.Desk.answer.Goals as goal
+
+pub returns-in-Report-clause-served : goal.returns-in-Report-clause-served
+returns-in-Report-clause-served g c = reported c.args.self.now c.args.request.now _ _ c.in-Report.is (rw c.as_slice.ensures at c.report.ensures)
+
+pub returns-in-Download-clause-served : goal.returns-in-Download-clause-served
+returns-in-Download-clause-served g c = downloaded c.args.self.now c.args.request.now _ c.in-Download.is c.download.ensures
+
+pub returns-in-Add-clause-served : goal.returns-in-Add-clause-served
+returns-in-Add-clause-served g c = was_add c.args.self.now _ c.args.request.now _ _ c.in-Add.is (c.edit.ensures.served (edit.Add c.in-Add.entry) c.add.ensures)
+
+pub returns-in-Change-clause-served : goal.returns-in-Change-clause-served
+returns-in-Change-clause-served g c =
+    was_change c.args.self.now _ c.args.request.now _ _ _ _ c.in-Change.is (c.edit-in-Change.ensures.served (edit.Change c.in-Change.base c.in-Change.item c.in-Change.entry) c.change.ensures)
+
+pub returns-in-Replace-clause-served : goal.returns-in-Replace-clause-served
+returns-in-Replace-clause-served g c =
+    was_replace c.args.self.now _ c.args.request.now _ _ _ c.in-Replace.is (c.edit-in-Replace.ensures.served (edit.Replace c.in-Replace.base c.in-Replace.text) c.replace.ensures)

@@ -1,0 +1,33 @@
+use Rattle.std.proofs.Common.{[], None, inl, refl, List, sym, subst}
+use Rattle.hl_base.specs.declared.change.Latest.{Latest}
+use Rattle.live_journal.specs.Journals.{Journal}
+use Rattle.text_store.specs.Stores.{Holds}
+use Rattle.text_store.proofs.Both.{stays}
+use Rattle.desk.proofs.Opened.{opened_is, tells_of}
+use Rattle.desk.proofs.Still.{kept}
+use Rattle.desk.proofs.desk.Desk.create.Goals as goal
+
+pub returns-in-Err-Memory-clause-any_moment : goal.returns-in-Err-Memory-clause-any_moment
+returns-in-Err-Memory-clause-any_moment g c = λ f s a b tell.
+    stays g.D.Disk (c.args.first, c.args.second) _ (λ x y left_x left_y. inl (left_x, left_y))
+
+pub returns-in-Err : goal.returns-in-Err
+returns-in-Err g c =
+    let j : Journal = record { text = c.args.text.now; year = None; revision = 0 } in
+    record {
+      state = tt;
+      made = tt;
+      counts = tt;
+      cause = (tells_of c.in-Err.fault j c.in-Err.ensures, refl);
+      any_moment = λ f s a b tell. stays g.D.Disk (c.args.first, c.args.second) _ (λ x y left_x left_y. inl (left_x, left_y));
+      keeps = kept g.D.Disk (c.args.first, c.args.second) (c.args.limit, c.args.limit);
+    }
+
+pub returns-in-Ok-create-clause-made : goal.returns-in-Ok-create-clause-made
+returns-in-Ok-create-clause-made g c = λ f s a b.
+    let m = c.in-Ok-create.ensures.made f s a b in
+    let j : Journal = record { text = c.args.text.now; year = None; revision = 0 } in
+    let live = opened_is j c.in-Ok.live c.in-Ok.ensures in
+    let F : Journal → Type 0 = λ j. Holds c.in-Ok-create.store (record { text = j.text; latest = []; revision = j.revision }) in
+    let G : List Latest → Type 0 = λ latest. Holds c.in-Ok-create.store (record { text = c.in-Ok.live.text; latest = latest; revision = c.in-Ok.live.revision }) in
+    (m.0, m.1, inl (c.in-Ok-create.ensures.numbers.3, subst G (sym c.new.ensures) (subst F (sym live) m.2)))

@@ -1,0 +1,20 @@
+//! The machine behind a shared journal: what is asked of it and what it replies.
+#![tactic(auto)]
+
+mod desk;
+mod fault;
+mod keep;
+mod opening;
+pub mod reply;
+mod report;
+pub mod request;
+mod serving;
+mod sizes;
+#[cfg(test)]
+mod tests;
+
+pub use desk::Desk;
+pub use fault::DeskFault;
+pub use reply::{Reply, WordsFault};
+pub use report::report_text;
+pub use request::{Allow, Request};

@@ -1,0 +1,114 @@
+//! How a machine is made, and how it is opened.
+
+use crate::desk::Desk;
+use crate::fault::DeskFault;
+use crate::request::Allow;
+use hl_base::{Disk, List, Steps};
+use live_journal::{Live, OpenFault};
+use std::alloc::Global;
+use std::sync::ledger::Ledger;
+use text_store::{Store, StoreFault};
+
+impl<D: Disk> Desk<D> {
+    ghost use Rattle.std.specs.Prelude.{◌≡◌, [], None, Ok, IfOk, IfErr, OnOk, max, length};
+    ghost use Rattle.text_store.specs.Files.{fresh, WhileMade, WhileOpened, opened_limit};
+    ghost use Rattle.text_store.specs.Image.{image};
+    ghost use Rattle.text_store.specs.Edits.{whole_size};
+    ghost use Rattle.text_store.specs.Refusals.{Told};
+    ghost use Rattle.text_store.specs.Stores.{disks, Keeps, Tell, Throughout, bounds, fault_count};
+    ghost use Rattle.desk.specs.Desks.{counts_of, shown_by, state_of};
+    ghost use Rattle.desk.specs.Openings.{MakingRefused, OpeningRefused, disks_of};
+    ghost use Rattle.desk.specs.Stands.{Stands};
+    ghost use Rattle.desk.specs.States.{State};
+
+    /// Makes a machine of a text in two empty disks, with a limit of each disk's length in bytes. The text is loaded
+    /// first, and where that fails nothing is written.
+    pub fn create<L: Ledger>(
+        alloc: Global,
+        first: D,
+        second: D,
+        text: &[u8],
+        limit: u64,
+        allow: Allow,
+        steps: &mut Steps<L>,
+    ) -> Result<Desk<D>, (D, D, DeskFault)>
+        ensures state { IfOk result (λ desk. state_of desk ≡ record { text = text.now; latest = []; revision = 0; allowed = allow; size = whole_size (fresh text.now); limit = limit }) }
+        ensures made { IfOk result (λ desk. Told D.Disk (first, second) (λ f s. (f ≡ []) × (s ≡ []) × Stands desk.store (shown_by desk) None)) }
+        ensures counts { IfOk result (λ desk. counts_of desk ≡ (0, 0)) }
+        ensures cause { IfErr result (λ e. MakingRefused D.Disk (first, second) (e.0, e.1) text.now limit e.2) }
+
+        // A crash at any moment leaves files that it might have left before, files without an image, or the store.
+        ensures any_moment { Told D.Disk (first, second) (λ _ _. Tell D.Disk (first, second)
+            → Throughout D.Disk (first, second) (disks_of (λ desk. disks desk.store) result) (WhileMade D.Disk (first, second) (fresh text.now))) }
+        ensures keeps { Keeps D.Disk (first, second) (disks_of (λ desk. disks desk.store) result) (limit, limit) }
+    {
+        let live = match Live::open(alloc, text, None, 0, steps) {
+            Ok(live) => live,
+            Err(OpenFault::Memory) => return Err((first, second, DeskFault::Memory)),
+            Err(fault) => return Err((first, second, DeskFault::Load(fault))),
+        };
+        match Store::create(alloc, first, second, text, limit) {
+            Ok(store) => Ok(Desk {
+                store,
+                live,
+                latest: List::new(alloc),
+                allow,
+                requests: 0,
+                refused: 0,
+            }),
+            Err((first, second, StoreFault::Memory)) => Err((first, second, DeskFault::Memory)),
+            Err((first, second, fault)) => Err((first, second, DeskFault::Store(fault))),
+        }
+    }
+
+    /// Opens two disks as a machine: the store's image, of which the text is loaded. What stands behind the last
+    /// acknowledged edit is cut off.
+    pub fn open<L: Ledger>(
+        alloc: Global,
+        first: D,
+        second: D,
+        allow: Allow,
+        steps: &mut Steps<L>,
+    ) -> Result<Desk<D>, (D, D, DeskFault)>
+        ensures opened { IfOk result (λ desk. Told D.Disk (first, second) (λ f s. (image f s ≡ Ok (shown_by desk)) × Stands desk.store (shown_by desk) None
+            × ((state_of desk).limit ≡ opened_limit f s))) }
+        ensures allowed { IfOk result (λ desk. (state_of desk).allowed ≡ allow) }
+        ensures counts { IfOk result (λ desk. counts_of desk ≡ (0, 0)) }
+        ensures cause { IfErr result (λ e. OpeningRefused D.Disk (first, second) (e.0, e.1) e.2) }
+
+        // A crash at any moment leaves files that it might have left before, or files with the image, or the want of one,
+        // of those that the disks read as.
+        ensures any_moment { Told D.Disk (first, second) (λ f s. Tell D.Disk (first, second)
+            → Throughout D.Disk (first, second) (disks_of (λ desk. disks desk.store) result) (WhileOpened D.Disk (first, second) f s)) }
+        ensures keeps { Told D.Disk (first, second) (λ f s. Keeps D.Disk (first, second) (disks_of (λ desk. disks desk.store) result)
+            (max (opened_limit f s) (length f), max (opened_limit f s) (length s))) }
+    {
+        let (store, image) = match Store::open(alloc, first, second) {
+            Ok(opened) => opened,
+            Err((first, second, StoreFault::Memory)) => return Err((
+                first,
+                second,
+                DeskFault::Memory,
+            )),
+            Err((first, second, fault)) => return Err((first, second, DeskFault::Store(fault))),
+        };
+        match Live::open(alloc, image.text.as_slice(), None, image.revision, steps) {
+            Ok(live) => Ok(Desk {
+                store,
+                live,
+                latest: image.latest,
+                allow,
+                requests: 0,
+                refused: 0,
+            }),
+            Err(OpenFault::Memory) => {
+                let (first, second) = store.close();
+                Err((first, second, DeskFault::Memory))
+            }
+            Err(fault) => {
+                let (first, second) = store.close();
+                Err((first, second, DeskFault::Load(fault)))
+            }
+        }
+    }
+}

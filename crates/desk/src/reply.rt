@@ -1,0 +1,61 @@
+//! What the machine replies.
+ghost use Rattle.std.specs.Prelude.{◌≡◌};
+ghost use Rattle.desk.specs.declared.reply.WordsFault.TheVariants as words_fault;
+
+use crate::request::Allow;
+use book::Fault;
+use hl_base::{Bytes, Text};
+
+/// What is wrong with the words of a report. The faults of words that aren't built yet, as of query terms and of
+/// options with values, come with them.
+#[derive(Debug, Drop)]
+pub enum WordsFault {
+    /// The first word is no report; the empty text where there is no word.
+    NoCommand { word: Text },
+    /// A later word has no place.
+    BadOption { word: Text },
+    /// Memory ran out.
+    Memory,
+}
+
+impl From<hl_base::Memory> for WordsFault {
+    ghost from_gives = { λ _ e. e ≡ words_fault.Memory };
+
+    fn from(_memory: hl_base::Memory) -> WordsFault {
+        WordsFault::Memory
+    }
+}
+
+/// What the machine replies. The reply to a faulty import comes with the import.
+#[derive(Debug, Drop)]
+pub enum Reply {
+    /// The edit stands, and made this revision.
+    Done { revision: u64 },
+    /// The edit leaves the text as it is.
+    Same { revision: u64 },
+    /// The text that was asked for, of this revision.
+    Text { revision: u64, bytes: Bytes },
+    /// The edit needs more than what is allowed.
+    Forbidden { need: Allow, have: Allow },
+    /// The edit's base is below the revision.
+    Stale { base: u64, current: u64 },
+    /// The edit's base is above the revision.
+    BadBase { base: u64, current: u64 },
+    /// No item of the text has this number, counted from 1.
+    NoSuchItem { n: u64, count: u64 },
+    /// What is put in or replaced isn't transactions alone: the line of the entry, counted from 1, or 0 for the item
+    /// that is to be replaced.
+    NotTransactions { line: u64 },
+    /// The new text has a fault.
+    Load(Fault),
+    /// The new text is past a limit, in bytes or in items.
+    TooLarge { limit: u64, size: u64 },
+    /// A call of the disks failed; their count of faults before and after.
+    DiskFault { before: u64, after: u64 },
+    /// The words of a report have no reading.
+    Words(WordsFault),
+    /// The store has no room for the edit.
+    Full { size: u64, limit: u64 },
+    /// Memory ran out.
+    Memory,
+}

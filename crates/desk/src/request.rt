@@ -1,0 +1,29 @@
+//! What is asked of the machine.
+use hl_base::{Bytes, List, Text};
+
+/// What a request may do to the journal. Each includes those before it.
+#[derive(Clone, Copy, Debug, PartialEq, Eq)]
+pub enum Allow {
+    /// Read it.
+    View,
+    /// Read it and add entries.
+    Add,
+    /// Read it, add entries, and change what stands there.
+    Edit,
+}
+
+/// What is asked of the machine. An import of CSV isn't built yet.
+#[derive(Debug, Drop)]
+pub enum Request {
+    /// The text of a report: its command and the words after it.
+    Report { words: List<Text> },
+    /// The text of the journal.
+    Download,
+    /// An entry at the end of the journal.
+    Add { entry: Bytes },
+    /// An entry in the place of the item of that number, counted from 1; an empty one deletes it. The base is the
+    /// revision that the sender saw.
+    Change { base: u64, item: u64, entry: Bytes },
+    /// Another text in the place of the journal's.
+    Replace { base: u64, text: Bytes },
+}

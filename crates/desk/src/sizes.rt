@@ -1,0 +1,96 @@
+//! The changes of the store that edits are, and the room that they need.
+ghost use Rattle.std.specs.Prelude.{◌≡◌, ◌+◌, ◌-◌, ◌^◌, ◌<◌, ◌≤◌, ℕ, List, IfOk, length, min, sum_by};
+ghost use Rattle.text_store.specs.Changes.{payload_of, HasShortName};
+ghost use Rattle.text_store.specs.Edits as kept;
+ghost use Rattle.desk.specs.States as spec;
+ghost use Rattle.live_journal.specs.Edits.{splice_of};
+
+use hl_base::{Bytes, Latest, List, Memory, Splice, Text};
+use live_journal::{Edit, Live};
+use std::alloc::Global;
+use text_store::{Change, Image};
+
+/// A copy of a change of a text.
+fn copy_splice(alloc: Global, splice: &Splice) -> Result<Splice, Memory>
+    ensures { IfOk result (λ copy. copy ≡ splice.now) }
+{
+    Ok(Splice {
+        at: splice.at,
+        removed: splice.removed,
+        inserted: Bytes::copied(alloc, splice.inserted.as_slice())?,
+    })
+}
+
+/// The change of the store that an edit is, whose change of the text is `splice`.
+pub(crate) fn change_of(alloc: Global, edit: &Edit, splice: &Splice) -> Result<Change, Memory>
+    ensures value { (text : List ℕ) → splice.now ≡ splice_of text edit.now → IfOk result (λ change. change ≡ spec.change_of text edit.now) }
+    ensures name { IfOk result HasShortName }
+{
+    match edit {
+        Edit::Add { entry: _ } => Ok(Change::Splice(copy_splice(alloc, splice)?)),
+        Edit::Change { .. } => Ok(Change::Splice(copy_splice(alloc, splice)?)),
+        Edit::Replace { base: _, text } => Ok(Change::Whole(Bytes::copied(
+            alloc,
+            text.as_slice(),
+        )?)),
+    }
+}
+
+/// The length of a change as a record of the store, at most 2^64 - 1.
+pub(crate) fn record_size(change: &Change) -> u64
+    ensures { result ≡ min (spec.record_size change.now) (2 ^ 64 - 1) }
+{
+    match change {
+        Change::Splice(splice) => (splice.inserted.as_slice().len() as u64).saturating_add(26),
+        Change::Whole(text) => (text.as_slice().len() as u64).saturating_add(10),
+        Change::Import(latest, splice) => (latest.name.as_bytes().len() as u64)
+            .saturating_add(splice.inserted.as_slice().len() as u64)
+            .saturating_add(38),
+    }
+}
+
+/// The length of a store's file that holds a text and the states of imports alone, at most 2^64 - 1.
+pub(crate) fn whole_size(text: &[u8], latest: &[Latest]) -> u64
+    ensures { (revision : ℕ) → result ≡ min (kept.whole_size (record { text = text.now; latest = latest.now; revision = revision })) (2 ^ 64 - 1) }
+{
+    let mut size = (text.len() as u64).saturating_add(47);
+    for state in latest {
+        size = size
+            .saturating_add(12)
+            .saturating_add(state.name.as_bytes().len() as u64);
+    }
+    size
+}
+
+/// A copy of the state of an import.
+fn copy_state(alloc: Global, state: &Latest) -> Result<Latest, Memory>
+    ensures { IfOk result (λ copy. copy ≡ state.now) }
+{
+    Ok(Latest {
+        name: Text::copied(alloc, state.name.as_str())?,
+        day: state.day,
+        count: state.count,
+    })
+}
+
+/// A copy of the states of imports.
+fn copy_states(alloc: Global, states: &[Latest]) -> Result<List<Latest>, Memory>
+    ensures { IfOk result (λ copy. copy ≡ states.now) }
+{
+    let mut copy = Vec::with_capacity(alloc, states.len())?;
+    for state in states {
+        copy.push(copy_state(alloc, state)?)?;
+    }
+    Ok(List::from_vec(copy))
+}
+
+/// The image that a store keeps of a journal.
+pub(crate) fn image_of(alloc: Global, live: &Live, latest: &List<Latest>) -> Result<Image, Memory>
+    ensures { IfOk result (λ image. image ≡ record { text = live.now.text; latest = latest.now; revision = live.now.revision }) }
+{
+    Ok(Image {
+        text: Bytes::copied(alloc, live.text())?,
+        latest: copy_states(alloc, latest.as_slice())?,
+        revision: live.revision(),
+    })
+}

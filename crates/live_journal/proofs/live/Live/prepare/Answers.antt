@@ -1,0 +1,59 @@
+use Rattle.std.proofs.Common.{◌≡◌, ℕ, List, Ok, IsOk, ap, sym, subst, ◌∙◌}
+use Rattle.std.specs.Str.{bytes_eq}
+use Rattle.std.proofs.lemmas.Result.{err_from_is_err_and}
+use Rattle.hl_base.specs.declared.items.Piece.{Piece}
+use Rattle.live_journal.specs.Edits.{applied, splice_of}
+use Rattle.live_journal.specs.Loading.{Tells, book_of, fault_of}
+use Rattle.live_journal.proofs.Changes.{spliced_as}
+use Rattle.live_journal.specs.Journals.{Journal}
+use Rattle.live_journal.specs.Refusals.{no_such_item, not_transactions}
+use Rattle.live_journal.proofs.Verdicts.{accepted, by_base, by_entry, by_item, by_text, has_book, planned_as, within_limits}
+use Rattle.live_journal.proofs.live.Live.prepare.Goals as goal
+
+pub returns-in_err-judge_base-clause-value : goal.returns-in_err-judge_base-clause-value
+returns-in_err-judge_base-clause-value g c =
+    let p = err_from_is_err_and c.from_residual.result c.from_residual.ensures.1 in
+    let j : Journal = record { text = c.self.inside.text; year = c.self.inside.year; revision = c.self.inside.revision } in
+    rw (p.1, p.2, ← c.self.view_is) (by_base j c.args.edit.now c.in_err-judge_base.field-0.0 c.in_err-judge_base.ensures)
+
+pub returns-in_err-judge_item-clause-value : goal.returns-in_err-judge_item-clause-value
+returns-in_err-judge_item-clause-value g c =
+    let p = err_from_is_err_and c.from_residual-in_err-judge_item.result c.from_residual-in_err-judge_item.ensures.1 in
+    let j : Journal = record { text = c.self.inside.text; year = c.self.inside.year; revision = c.self.inside.revision } in
+    let pieces = ap (λ (ps : List Piece). no_such_item ps c.args.edit.now) (c.as_slice-pieces.ensures ∙ c.self.invariant.cut) in
+    rw (p.1, p.2, ← c.self.view_is) (by_item j c.args.edit.now c.in_err-judge_item.field-0.0 c.in_ok-judge_base.ensures (rw pieces at c.in_err-judge_item.ensures))
+
+pub returns-in_err-judge_entry-clause-value : goal.returns-in_err-judge_entry-clause-value
+returns-in_err-judge_entry-clause-value g c =
+    let p = err_from_is_err_and c.from_residual-in_err-judge_entry.result c.from_residual-in_err-judge_entry.ensures.1 in
+    let j : Journal = record { text = c.self.inside.text; year = c.self.inside.year; revision = c.self.inside.revision } in
+    let items = ap (λ (ps : List Piece). no_such_item ps c.args.edit.now) (c.as_slice-pieces.ensures ∙ c.self.invariant.cut) in
+    let entries = ap (λ (ps : List Piece). not_transactions ps c.args.edit.now) (c.as_slice-pieces.ensures ∙ c.self.invariant.cut) in
+    rw (p.1, p.2, ← c.self.view_is) (by_entry j c.args.edit.now c.in_err-judge_entry.field-0.0 c.in_ok-judge_base.ensures (rw items at c.in_ok-judge_item.ensures) (rw entries at c.in_err-judge_entry.ensures))
+
+pub returns-in_err-loaded-clause-value : goal.returns-in_err-loaded-clause-value
+returns-in_err-loaded-clause-value g c =
+    let p = err_from_is_err_and c.from_residual-in_err-loaded.result c.from_residual-in_err-loaded.ensures.1 in
+    let j : Journal = record { text = c.self.inside.text; year = c.self.inside.year; revision = c.self.inside.revision } in
+    let items = ap (λ (ps : List Piece). no_such_item ps c.args.edit.now) (c.as_slice-pieces.ensures ∙ c.self.invariant.cut) in
+    let entries = ap (λ (ps : List Piece). not_transactions ps c.args.edit.now) (c.as_slice-pieces.ensures ∙ c.self.invariant.cut) in
+    let text : c.as_slice.result.now ≡ applied c.self.inside.text c.args.edit.now =
+    c.as_slice.ensures ∙ c.in_ok-new.ensures ∙ spliced_as c.as_slice-text.result.now c.self.inside.text c.in_ok-splice.splice c.args.edit.now c.as_slice-text.ensures c.in_ok-splice.ensures.value in
+    let fails = subst (λ (t : List ℕ). Tells c.in_err-loaded.field-0.0 (fault_of c.self.inside.year t)) text c.in_err-loaded.ensures.fault in
+    rw (p.1, p.2, ← c.self.view_is) (by_text j c.args.edit.now c.in_err-loaded.field-0.0 c.in_ok-judge_base.ensures (rw items at c.in_ok-judge_item.ensures) (rw entries at c.in_ok-judge_entry.ensures) fails)
+
+pub returns-clause-value : goal.returns-clause-value
+returns-clause-value g c =
+    let j : Journal = record { text = c.self.inside.text; year = c.self.inside.year; revision = c.self.inside.revision } in
+    let items = ap (λ (ps : List Piece). no_such_item ps c.args.edit.now) (c.as_slice-pieces.ensures ∙ c.self.invariant.cut) in
+    let entries = ap (λ (ps : List Piece). not_transactions ps c.args.edit.now) (c.as_slice-pieces.ensures ∙ c.self.invariant.cut) in
+    let text : c.as_slice.result.now ≡ applied c.self.inside.text c.args.edit.now =
+    c.as_slice.ensures ∙ c.in_ok-new.ensures ∙ spliced_as c.as_slice-text.result.now c.self.inside.text c.in_ok-splice.splice c.args.edit.now c.as_slice-text.ensures c.in_ok-splice.ensures.value in
+    let same : c.are_same-same.result ≡ bytes_eq c.in_ok-new.new c.self.inside.text =
+    c.are_same-same.ensures ∙ ap (λ (x : List ℕ). bytes_eq x c.as_slice-text.result.now) c.as_slice-2.ensures ∙ ap (bytes_eq c.in_ok-new.new) c.as_slice-text.ensures in
+    let splice = c.in_ok-splice.ensures.value ∙ ap (λ (x : List ℕ). splice_of x c.args.edit.now) c.as_slice-text.ensures in
+    let plan = planned_as j c.args.edit.now c.of.result.value c.in_ok-new.new c.in_ok-splice.splice c.are_same-same.result (c.of.ensures ∙ sym c.self.view_is) (sym c.as_slice.ensures ∙ text) splice same in
+    let limits = within_limits _ _ _ _ _ _ c.in_ok-loaded.ensures.loaded in
+    let makes = has_book _ _ _ _ _ _ c.in_ok-loaded.ensures.loaded in
+    let accept = accepted j c.args.edit.now c.in_ok-judge_base.ensures (rw items at c.in_ok-judge_item.ensures) (rw entries at c.in_ok-judge_entry.ensures) (rw text at limits) (subst (λ (t : List ℕ). IsOk (book_of c.self.inside.year t)) text makes) in
+    rw (← c.self.view_is) (accept ∙ ap Ok plan)

@@ -1,0 +1,17 @@
+//! A journal that is kept open: its text with what is made of it, and the edits by which it changes.
+#![tactic(auto)]
+
+mod applied;
+mod edit;
+mod fault;
+mod judge;
+mod live;
+mod loading;
+mod plan;
+#[cfg(test)]
+mod tests;
+
+pub use edit::Edit;
+pub use fault::{EditFault, OpenFault};
+pub use live::Live;
+pub use plan::Plan;

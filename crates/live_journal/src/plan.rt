@@ -1,0 +1,45 @@
+//! A planned edit of a journal.
+ghost use Rattle.std.specs.Prelude.{◌≡◌};
+
+use crate::live::Live;
+use crate::loading::Loaded;
+use hl_base::{Bytes, Splice};
+use std::marker::Model;
+use std::snapshot::Snapshot;
+
+/// An edit of a journal that was accepted, with all that it makes of the journal. One that is dropped changes nothing.
+#[derive(Drop)]
+pub struct Plan {
+    pub(crate) from: Snapshot<Live>,
+    pub(crate) text: Bytes,
+    pub(crate) splice: Splice,
+    pub(crate) same: bool,
+    pub(crate) loaded: Loaded,
+}
+
+impl Model for Plan {
+    ghost use Rattle.live_journal.specs.Journals.{Planned};
+    ghost use Rattle.live_journal.specs.Loading.{IsLoaded};
+
+    ghost Value = { Planned };
+
+    ghost view = { λ p. record { from = p.from.value; text = p.text; splice = p.splice; same = p.same } };
+
+    ghost invariant = { λ p. IsLoaded p.from.value.year p.text p.loaded.pieces p.loaded.items p.loaded.book p.loaded.styles };
+}
+
+impl Plan {
+    /// The change of the old text that makes the new one.
+    pub fn splice(&self) -> &Splice
+        ensures { result.now ≡ self.now.splice }
+    {
+        &self.splice
+    }
+
+    /// Whether the new text is the old one.
+    pub fn same(&self) -> bool
+        ensures { result ≡ self.now.same }
+    {
+        self.same
+    }
+}
