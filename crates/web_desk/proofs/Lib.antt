@@ -1,0 +1,6 @@
+pub mod AnswerLemmas
+pub mod FieldLemmas
+pub mod HeadLemmas
+pub mod Readings
+pub mod ReceiptLemmas
+pub mod ServeLemmas

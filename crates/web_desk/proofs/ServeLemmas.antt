@@ -1,0 +1,280 @@
+-- One message after another, and then the end.
+use Rattle.std.proofs.Common.{◌≡◌, ℕ, ◌+◌, ◌<◌, Bool, true, false, List, [], ◌∷◌, ◌++◌, length, take, drop, Option, Some, None, IfSome, OnOk, Result, Ok, Err, refl, ap, sym, ◌∙◌, subst, inl, inr, arith, append_assoc, length-append, append-nil, lit<, ◌||◌, ◌==◌}
+use Rattle.std.proofs.Math.Seq.{take-append_seam, drop-append_seam}
+use Rattle.std.proofs.lemmas.Bool.Decides.{nat_tests}
+use Rattle.std.proofs.lemmas.Grind.{flat_map-append}
+use Rattle.std.proofs.lemmas.List.Elements.{All-push, All-append, All-nil}
+use Rattle.std.specs.List.{flat_map}
+use Rattle.httparse.specs.Grammar.{print_request}
+use Rattle.desk.specs.declared.request.Request.{Request}
+use Rattle.web_desk.specs.declared.conn_end.ConnEnd.{ConnEnd}
+use Rattle.web_desk.specs.declared.conn_end.ConnEnd.TheVariants as conn
+use Rattle.web_desk.specs.declared.head.Head.{Head}
+use Rattle.web_desk.specs.declared.receive.Stop.{Stop}
+use Rattle.web_desk.specs.declared.receive.Stop.TheVariants as stop
+use Rattle.web_desk.specs.declared.refusal.Refusal.{Refusal}
+use Rattle.web_desk.specs.Calls.{call_at}
+use Rattle.desk.specs.Entries.{Entry}
+use Rattle.web_desk.specs.Fields.{closes}
+use Rattle.web_desk.specs.Heads.{facts_of}
+use Rattle.web_desk.specs.Receipt.{IsStream, Whatever, IsBroken, ending_of}
+use Rattle.web_desk.specs.Served.{Exchange, IsServed, exchanged, entry_of, answer_of, asks, Finishes, Served, IsLog, entries_of, log_text, AreOf, IsFrontOf, ending_text}
+use Rattle.web_desk.specs.Streams.{Message, message_bytes, IsWhole, is_last, most_messages, last, EndsSo, end_of}
+use Rattle.web_desk.specs.Turns.{ClosesSo, FailsSo, AnswersSo, StepSo}
+use Rattle.web_desk.specs.Unread.{Unread}
+use Rattle.web_desk.proofs.AnswerLemmas.{Sends, day_of}
+
+-- only a last message depends on how many came before
+pub ends_at : (count : ℕ) (rest : List ℕ) (s : Stop) → EndsSo 0 rest (ending_of s) → EndsSo count rest (ending_of s)
+ends_at count rest stop.Over p = p
+ends_at count rest stop.Unframed p = p
+ends_at count rest stop.BadHead p = p
+ends_at count rest stop.LongHead p = p
+ends_at count rest (stop.LongBody said) p = p
+ends_at count rest (stop.CutBody had said) p = p
+ends_at count rest (stop.CutHead had) p = p
+
+-- the rest of the stream ends where the reading stopped
+pub stops : (count : ℕ) (coming : Option (List ℕ)) (u : Unread) (rest : List ℕ) (s : Stop) → IsStream coming u rest
+    → Whatever u.ended u.bytes (λ r. EndsSo 0 r (ending_of s)) → EndsSo count rest (ending_of s)
+stops count coming u rest s stream p =
+    let P : List ℕ → Type 0 = λ r. EndsSo count r (ending_of s) in
+    subst P (sym stream.2) (ends_at count (u.bytes ++ stream.0) s (p stream.0 stream.3))
+
+-- the end comes with its reply
+pub ends_whole : (at count : ℕ) (rest : List ℕ) (s : Stop) (text : List ℕ) → EndsSo count rest (ending_of s) → text ≡ ending_text (ending_of s)
+    → Finishes at count rest (end_of at (ending_of s)) [] text
+ends_whole at count rest stop.Over text p e = (ending_of stop.Over, p, refl, (refl, e))
+ends_whole at count rest stop.Unframed text p e = (ending_of stop.Unframed, p, refl, (refl, e))
+ends_whole at count rest stop.BadHead text p e = (ending_of stop.BadHead, p, refl, (refl, e))
+ends_whole at count rest stop.LongHead text p e = (ending_of stop.LongHead, p, refl, (refl, e))
+ends_whole at count rest (stop.LongBody said) text p e = (ending_of (stop.LongBody said), p, refl, (refl, e))
+ends_whole at count rest (stop.CutBody had said) text p e = (ending_of (stop.CutBody had said), p, refl, (refl, e))
+ends_whole at count rest (stop.CutHead had) text p e = (ending_of (stop.CutHead had), p, refl, (refl, e))
+
+-- a fault came while the reply before the end was sent
+pub ends_broken : (at count : ℕ) (rest : List ℕ) (s : Stop) (end : ConnEnd) (text : List ℕ) → EndsSo count rest (ending_of s) → IsBroken end
+    → IsFrontOf text (ending_text (ending_of s)) → Finishes at count rest end [] text
+ends_broken at count rest s (conn.LinkFault way) text p b f = inr (inr (ending_of s, p, refl, f))
+ends_broken at count rest s conn.Memory text p b f = inr (inr (ending_of s, p, refl, f))
+ends_broken at count rest s conn.Closed text p b f = absurd b
+ends_broken at count rest s (conn.BadHead place) text p b f = absurd b
+ends_broken at count rest s conn.HeadTooLong text p b f = absurd b
+ends_broken at count rest s (conn.BodyTooLong said) text p b f = absurd b
+ends_broken at count rest s (conn.CutOff had said) text p b f = absurd b
+ends_broken at count rest s conn.Spent text p b f = absurd b
+ends_broken at count rest s (conn.HeadCut had) text p b f = absurd b
+
+pub finishes_stop : (at count : ℕ) (rest : List ℕ) (s : Stop) (end : ConnEnd) (text : List ℕ) → EndsSo count rest (ending_of s)
+    → ClosesSo at s end text → Finishes at count rest end [] text
+finishes_stop at count rest s end text p c =
+    let P : ConnEnd → Type 0 = λ e. Finishes at count rest e [] text in
+    elim c [
+      | inl whole ↦ subst P (sym whole.0) (ends_whole at count rest s text p whole.1)
+      | inr broken ↦ ends_broken at count rest s end text p broken.0 broken.1
+    ]
+
+-- a fault before the next message was read
+pub finishes_unread : (at count : ℕ) (rest : List ℕ) (end : ConnEnd) → IsBroken end → Finishes at count rest end [] []
+finishes_unread at count rest (conn.LinkFault way) b = inl (refl, refl)
+finishes_unread at count rest conn.Memory b = inl (refl, refl)
+finishes_unread at count rest conn.Closed b = absurd b
+finishes_unread at count rest (conn.BadHead place) b = absurd b
+finishes_unread at count rest conn.HeadTooLong b = absurd b
+finishes_unread at count rest (conn.BodyTooLong said) b = absurd b
+finishes_unread at count rest (conn.CutOff had said) b = absurd b
+finishes_unread at count rest conn.Spent b = absurd b
+finishes_unread at count rest (conn.HeadCut had) b = absurd b
+
+-- a message that wasn't answered
+pub finishes_failed : (at count : ℕ) (rest more : List ℕ) (m : Message) (end : ConnEnd) (entries : List Entry) (text : List ℕ)
+    → IsWhole m → rest ≡ message_bytes m ++ more → FailsSo (is_last count m) (asks m) end entries text
+    → Finishes at count rest end entries text
+finishes_failed at count rest more m (conn.LinkFault way) entries text w e f =
+    elim f [ inl none ↦ inl none | inr some ↦ inr (inl (m, more, some.0, w, e, some.1, some.2, some.3)) ]
+finishes_failed at count rest more m conn.Memory entries text w e f =
+    elim f [ inl none ↦ inl none | inr some ↦ inr (inl (m, more, some.0, w, e, some.1, some.2, some.3)) ]
+finishes_failed at count rest more m conn.Spent entries text w e f = (m, more, f.0, w, e, f.1, f.2, f.3)
+finishes_failed at count rest more m conn.Closed entries text w e f = absurd f
+finishes_failed at count rest more m (conn.BadHead place) entries text w e f = absurd f
+finishes_failed at count rest more m conn.HeadTooLong entries text w e f = absurd f
+finishes_failed at count rest more m (conn.BodyTooLong said) entries text w e f = absurd f
+finishes_failed at count rest more m (conn.CutOff had said) entries text w e f = absurd f
+finishes_failed at count rest more m (conn.HeadCut had) entries text w e f = absurd f
+
+-- a last message was answered
+pub finishes_last : (at count : ℕ) (rest more : List ℕ) (m : Message) (entries : List Entry) (text : List ℕ)
+    → IsWhole m → rest ≡ message_bytes m ++ more → is_last count m ≡ true → AnswersSo true (asks m) (Ok tt) entries text
+    → Finishes at count rest conn.Closed entries text
+finishes_last at count rest more m entries text w e l a = (last m, (more, e, w, l), refl, (a.0, a.1, a.2, a.3))
+
+-- what isn't the last goes on
+pub not_last : (a b : Bool) → (a || b) ≡ false → (a ≡ false) × (b ≡ false)
+not_last true b e = absurd (cc (e))
+not_last false b e = (refl, e)
+
+-- a number that is below a bound, and isn't the last below it
+pub below_of : (count : ℕ) → (count + 1 == most_messages) ≡ false → count < most_messages → count + 1 < most_messages
+below_of count e l = grind (arith, nat_tests)
+
+-- a message was answered, and others may follow
+pub step_on : (at count size : ℕ) (rest more : List ℕ) (m : Message) (entries : List Entry) (text : List ℕ)
+    → IsWhole m → rest ≡ message_bytes m ++ more → is_last count m ≡ false → AnswersSo false (asks m) (Ok tt) entries text
+    → size ≡ length (message_bytes m) → count < most_messages → StepSo at count rest more (Ok size) entries text
+step_on at count size rest more m entries text w e l a s few =
+    let p = not_last (closes m.head) (count + 1 == most_messages) l in (
+      record { message = m; entry = a.0 },
+      record { whole = w; on = p.0; fits = a.1 },
+      e,
+      s,
+      a.2,
+      a.3,
+      below_of count p.1 few,
+    )
+
+-- The parts of a message in the bytes that came.
+
+pub call_is : (head : Head) (m : Message) (u body more message : List ℕ) (total : ℕ) → head ≡ facts_of m.head → u ≡ message_bytes m ++ more
+    → total ≡ length (message_bytes m) → message ≡ take total u → body ≡ drop head.length message
+    → call_at head.route head.query body ≡ asks m
+call_is head m u body more message total f e t h b =
+    let whole : message ≡ message_bytes m = h ∙ ap (λ n. take n u) t ∙ ap (λ l. take (length (message_bytes m)) l) e ∙ take-append_seam (message_bytes m) more in
+    let length_is : head.length ≡ length (print_request m.head) = ap (λ x. x.length) f in
+    let body_is : body ≡ m.body =
+    b ∙ ap (λ l. drop head.length l) whole ∙ ap (λ n. drop n (message_bytes m)) length_is ∙ drop-append_seam (print_request m.head) m.body in
+    ap (λ x. call_at x.route x.query body) f ∙ ap (λ l. call_at (facts_of m.head).route (facts_of m.head).query l) body_is
+
+-- the rest of the stream after a message at its front
+pub after_message : (m : Message) (u more rest left : List ℕ) (total : ℕ) → u ≡ message_bytes m ++ more → total ≡ length (message_bytes m)
+    → rest ≡ u ++ left → rest ≡ message_bytes m ++ (drop total u ++ left)
+after_message m u more rest left total e t r =
+    let d : drop total u ≡ more = ap (λ n. drop n u) t ∙ ap (λ l. drop (length (message_bytes m)) l) e ∙ drop-append_seam (message_bytes m) more in
+    r ∙ ap (λ l. l ++ left) e ∙ append_assoc (message_bytes m) more left ∙ ap (λ l. message_bytes m ++ (l ++ left)) (sym d)
+
+-- what one message, or the end, brings, where the link tells what was sent
+abbrev pub One : Option (List ℕ) → Option (List ℕ) → Option (List ℕ) → Unread → ℕ → ℕ → List ℕ → Result ℕ ConnEnd → List Entry → Type 0
+One sent sent_now coming_now u_now at count rest result entries =
+    IfSome sent (λ before. (text : List ℕ) × (rest_now : List ℕ) × (sent_now ≡ Some (before ++ text))
+    × OnOk result (IsStream coming_now u_now rest_now) × StepSo at count rest rest_now result entries text)
+
+pub one_end : (sent sent_now coming_now : Option (List ℕ)) (u_now : Unread) (at count : ℕ) (rest : List ℕ) (result : Result ℕ ConnEnd) (end : ConnEnd) (entries : List Entry)
+    → result ≡ Err end → Sends sent sent_now (λ text. Finishes at count rest end entries text)
+    → One sent sent_now coming_now u_now at count rest result entries
+one_end None sent_now coming_now u_now at count rest result end entries e p = tt
+one_end (Some before) sent_now coming_now u_now at count rest result end entries e p =
+    let P : Result ℕ ConnEnd → Type 0 = λ r.
+    (text : List ℕ) × (rest_now : List ℕ) × (sent_now ≡ Some (before ++ text))
+    × OnOk r (IsStream coming_now u_now rest_now) × StepSo at count rest rest_now r entries text in
+    subst P (sym e) (p.0, [], p.1, tt, p.2)
+
+pub one_on : (sent sent_now coming_now : Option (List ℕ)) (u_now : Unread) (at count size : ℕ) (rest rest_now : List ℕ) (entries : List Entry)
+    → IsStream coming_now u_now rest_now → Sends sent sent_now (λ text. StepSo at count rest rest_now (Ok size) entries text)
+    → One sent sent_now coming_now u_now at count rest (Ok size) entries
+one_on None sent_now coming_now u_now at count size rest rest_now entries s p = tt
+one_on (Some before) sent_now coming_now u_now at count size rest rest_now entries s p = (p.0, rest_now, p.1, s, p.2)
+
+-- the same answer, of equal parts
+pub told_as : (sent_old sent sent_now : Option (List ℕ)) (closing closing_now : Bool) (call call_now : Result Request Refusal)
+    (r : Result (Unit {0}) ConnEnd) (entries : List Entry) → sent_old ≡ sent → closing ≡ closing_now → call ≡ call_now
+    → Sends sent_old sent_now (λ text. AnswersSo closing call r entries text)
+    → Sends sent sent_now (λ text. AnswersSo closing_now call_now r entries text)
+told_as sent_old sent sent_now closing closing_now call call_now r entries a b c p =
+    let F : Option (List ℕ) → Type 0 = λ s. Sends s sent_now (λ text. AnswersSo closing call r entries text) in
+    let G : Bool → Type 0 = λ x. Sends sent sent_now (λ text. AnswersSo x call r entries text) in
+    let H : Result Request Refusal → Type 0 = λ x. Sends sent sent_now (λ text. AnswersSo closing_now x r entries text) in
+    subst H c (subst G b (subst F a p))
+
+-- whether a message is the last, by what is kept of its head
+pub last_is : (head : Head) (m : Message) (count : ℕ) (closing : Bool) → head ≡ facts_of m.head
+    → closing ≡ (head.closing || count + 1 == most_messages) → closing ≡ is_last count m
+last_is head m count closing f e = e ∙ ap (λ (h : Head). h.closing || count + 1 == most_messages) f
+
+-- the rest of the stream once a message was used
+pub after_use : (coming coming_now : Option (List ℕ)) (u u_now : Unread) (rest : List ℕ) (total : ℕ) → coming_now ≡ coming
+    → u_now ≡ record u { bytes = drop total u.bytes } → (stream : IsStream coming u rest) → IsStream coming_now u_now (drop total u.bytes ++ stream.0)
+after_use coming coming_now u u_now rest total a e stream =
+    let P : Unread → Type 0 = λ v. IsStream coming_now v (drop total u.bytes ++ stream.0) in
+    subst P (sym e) (stream.0, a ∙ stream.1, refl, stream.3)
+
+-- the messages so far, their entries, and what was sent
+abbrev pub Ran : Option (List ℕ) → Option (List ℕ) → Option (List ℕ) → Option (List ℕ) → Unread → ℕ → ℕ → List Entry → Type 0
+Ran coming sent coming_now sent_now u at count entries =
+    IfSome coming (λ bytes. IfSome sent (λ before. (log : List Exchange) × (rest : List ℕ) × IsStream coming_now u rest × IsLog bytes log rest
+    × (entries ≡ entries_of log) × (sent_now ≡ Some (before ++ log_text log)) × (at ≡ length (flat_map exchanged log)) × (count ≡ length log)))
+
+pub ran_start : (coming sent : Option (List ℕ)) → Ran coming sent coming sent (record { bytes = []; ended = false }) 0 0 []
+ran_start None sent = tt
+ran_start (Some bytes) None = tt
+ran_start (Some bytes) (Some before) = (
+  [],
+  bytes,
+  (bytes, refl, refl, λ f. absurd (cc (f))),
+  record { whole = refl; each = All-nil IsServed; few = lit< tt },
+  refl,
+  ap Some (sym (append-nil before)),
+  refl,
+  refl,
+)
+
+pub ran_more : (coming sent coming_now sent_now coming_next sent_next : Option (List ℕ)) (u u_next : Unread) (at count size : ℕ) (entries later : List Entry)
+    → Ran coming sent coming_now sent_now u at count entries
+    → ((rest : List ℕ) → IsStream coming_now u rest → One sent_now sent_next coming_next u_next at count rest (Ok size) later)
+    → Ran coming sent coming_next sent_next u_next (at + size) (count + 1) (entries ++ later)
+ran_more None sent coming_now sent_now coming_next sent_next u u_next at count size entries later p f = tt
+ran_more (Some bytes) None coming_now sent_now coming_next sent_next u u_next at count size entries later p f = tt
+ran_more (Some bytes) (Some before) coming_now sent_now coming_next sent_next u u_next at count size entries later p f =
+    let log = p.0 in
+    let P : Option (List ℕ) → Type 0 = λ o. One o sent_next coming_next u_next at count p.1 (Ok size) later in
+    let one = subst P p.5 (f p.1 p.2) in
+    let step = one.4 in
+    let x = step.0 in
+    let longer : length (log ++ x ∷ []) ≡ length log + 1 = length-append log (x ∷ []) ∙ (let k : length log + length (x ∷ []) ≡ length log + 1 = omega arith in k) in
+    let bytes_of : flat_map exchanged (log ++ x ∷ []) ≡ flat_map exchanged log ++ exchanged x = flat_map-append exchanged log (x ∷ []) ∙ ap (λ t. flat_map exchanged log ++ t) (append-nil (exchanged x)) in
+    let all_entries : entries_of (log ++ x ∷ []) ≡ entries_of log ++ entry_of x = flat_map-append entry_of log (x ∷ []) ∙ ap (λ t. entries_of log ++ t) (append-nil (entry_of x)) in
+    let all_text : log_text (log ++ x ∷ []) ≡ log_text log ++ answer_of false x = flat_map-append (answer_of false) log (x ∷ []) ∙ ap (λ t. log_text log ++ t) (append-nil (answer_of false x)) in (
+      log ++ x ∷ [],
+      one.1,
+      one.3,
+      record {
+        whole =
+            p.3.whole ∙ ap (λ t. flat_map exchanged log ++ t) step.2 ∙ sym (append_assoc (flat_map exchanged log) (exchanged x) one.1)
+            ∙ ap (λ t. t ++ one.1) (sym bytes_of);
+        each = All-push IsServed log x p.3.each step.1;
+        few = omega (arith, longer, step.6, p.7);
+      },
+      ap (λ t. t ++ later) p.4 ∙ ap (λ t. entries_of log ++ t) step.4 ∙ sym all_entries,
+      one.2 ∙ ap Some (append_assoc before (log_text log) one.0 ∙ ap (λ t. before ++ (log_text log ++ t)) step.5 ∙ ap (λ t. before ++ t) (sym all_text)),
+      omega (arith, p.6, step.3, ap length bytes_of, length-append (flat_map exchanged log) (exchanged x)),
+      omega (arith, longer, p.7),
+    )
+
+pub served_end : (coming sent coming_now sent_now coming_next sent_next : Option (List ℕ)) (u u_next : Unread) (at count : ℕ) (end : ConnEnd) (entries later : List Entry)
+    → Ran coming sent coming_now sent_now u at count entries
+    → ((rest : List ℕ) → IsStream coming_now u rest → One sent_now sent_next coming_next u_next at count rest (Err end) later)
+    → IfSome coming (λ bytes. IfSome sent (λ before. (text : List ℕ) × (sent_next ≡ Some (before ++ text)) × Served bytes end (entries ++ later) text))
+served_end None sent coming_now sent_now coming_next sent_next u u_next at count end entries later p f = tt
+served_end (Some bytes) None coming_now sent_now coming_next sent_next u u_next at count end entries later p f = tt
+served_end (Some bytes) (Some before) coming_now sent_now coming_next sent_next u u_next at count end entries later p f =
+    let log = p.0 in
+    let P : Option (List ℕ) → Type 0 = λ o. One o sent_next coming_next u_next at count p.1 (Err end) later in
+    let one = subst P p.5 (f p.1 p.2) in
+    let A : ℕ → Type 0 = λ n. Finishes n count p.1 end later one.0 in
+    let C : ℕ → Type 0 = λ n. Finishes (length (flat_map exchanged log)) n p.1 end later one.0 in (
+      log_text log ++ one.0,
+      one.2 ∙ ap Some (append_assoc before (log_text log) one.0),
+      (log, p.1, later, one.0, p.3, ap (λ t. t ++ later) p.4, refl, subst C p.7 (subst A p.6 one.4)),
+    )
+
+-- entries of one day, and more of it
+pub days_more : (day : Option ℕ) (entries later : List Entry) → IfSome day (λ d. AreOf d entries) → IfSome day (λ d. AreOf d later)
+    → IfSome day (λ d. AreOf d (entries ++ later))
+days_more None entries later p q = tt
+days_more (Some d) entries later p q = All-append (λ (x : Entry). x.day ≡ day_of d) entries later p q
+
+-- memory ran out before anything was read
+pub served_nothing : (coming sent : Option (List ℕ))
+    → IfSome coming (λ bytes. IfSome sent (λ before. (text : List ℕ) × (sent ≡ Some (before ++ text)) × Served bytes conn.Memory [] text))
+served_nothing None sent = tt
+served_nothing (Some bytes) None = tt
+served_nothing (Some bytes) (Some before) =
+    ([], ap Some (sym (append-nil before)), ([], bytes, [], [], record { whole = refl; each = All-nil IsServed; few = lit< tt }, refl, refl, inl (refl, refl)))

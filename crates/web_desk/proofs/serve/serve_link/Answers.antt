@@ -1,0 +1,62 @@
+use Rattle.std.proofs.Common.{◌∙◌, ℕ, [], ◌++◌, Option, IfSome, sym, subst, refl, lit<, arith}
+use Rattle.web_desk.specs.Served.{AreOf}
+use Rattle.web_desk.specs.Unread.{Unread}
+use Rattle.web_desk.proofs.AnswerLemmas.{none_of}
+use Rattle.web_desk.proofs.ServeLemmas.{Ran, ran_start, ran_more, served_end, days_more, served_nothing}
+use Rattle.web_desk.proofs.serve.serve_link.Goals as goal
+
+pub returns-in_default-clause-served : goal.returns-in_default-clause-served
+returns-in_default-clause-served g c =
+    let link = g.K.Link in
+    ([], g.met.A.Ask.none c.args.ask.now, none_of (g.C.Clock.always c.args.clock.now), served_nothing (link.coming c.args.link.now) (link.sent c.args.link.now))
+
+pub messages-init : goal.messages-init
+messages-init g c =
+    let link = g.K.Link in
+    let coming = link.coming c.args.link.now in
+    let sent = link.sent c.args.link.now in
+    let P : Unread → Type 0 = λ u. Ran coming sent coming sent u 0 0 [] in
+    record {
+      few = lit< tt;
+      bound = omega arith;
+      always = refl;
+      reads = refl;
+      writes = refl;
+      run = ([], g.met.A.Ask.none c.args.ask.now, none_of (g.C.Clock.always c.args.clock.now), subst P (sym c.in-Ok.ensures) (ran_start coming sent));
+    }
+
+pub returns-in-Err-clause-served : goal.returns-in-Err-clause-served
+returns-in-Err-clause-served g c =
+    let link = g.K.Link in
+    let run = c.messages.invariant.run in
+    let one = c.in-Err.ensures.served in
+    let D : Option ℕ → Type 0 = λ day. IfSome day (λ d. AreOf d one.0) in (
+      run.0 ++ one.0,
+      g.met.A.Ask.joined c.args.ask.now c.messages.ask c.serve_one.new.ask run.0 one.0 run.1 one.1,
+      days_more (g.C.Clock.always c.args.clock.now) run.0 one.0 run.2 (subst D c.messages.invariant.always one.2),
+      served_end (link.coming c.args.link.now) (link.sent c.args.link.now) (link.coming c.messages.link) (link.sent c.messages.link)
+          (link.coming c.serve_one.new.link) (link.sent c.serve_one.new.link) c.messages.incoming c.serve_one.new.incoming c.messages.at c.messages.count
+          c.in-Err.end run.0 one.0 run.3 one.3,
+    )
+
+pub messages-preserved : goal.messages-preserved
+messages-preserved g c =
+    let link = g.K.Link in
+    let run = c.messages.invariant.run in
+    let one = c.in-Ok-serve_one.ensures.served in
+    let D : Option ℕ → Type 0 = λ day. IfSome day (λ d. AreOf d one.0) in
+    record {
+      few = c.in-Ok-serve_one.ensures.few;
+      bound = omega (arith, c.messages.invariant.bound, c.in-Ok-serve_one.ensures.size);
+      always = c.serve_one.ensures.always ∙ c.messages.invariant.always;
+      reads = c.in-Ok-serve_one.ensures.counted.0 ∙ c.messages.invariant.reads;
+      writes = c.in-Ok-serve_one.ensures.counted.1 ∙ c.messages.invariant.writes;
+      run = (
+        run.0 ++ one.0,
+        g.met.A.Ask.joined c.args.ask.now c.messages.ask c.serve_one.new.ask run.0 one.0 run.1 one.1,
+        days_more (g.C.Clock.always c.args.clock.now) run.0 one.0 run.2 (subst D c.messages.invariant.always one.2),
+        ran_more (link.coming c.args.link.now) (link.sent c.args.link.now) (link.coming c.messages.link) (link.sent c.messages.link)
+            (link.coming c.serve_one.new.link) (link.sent c.serve_one.new.link) c.messages.incoming c.serve_one.new.incoming c.messages.at c.messages.count
+            c.in-Ok-serve_one.size run.0 one.0 run.3 one.3,
+      );
+    }

@@ -1,0 +1,57 @@
+-- What a message asks of the desk, or why it is refused without the desk.
+use Rattle.std.specs.Prelude.{ℕ, List, [], ◌∷◌, ◌==◌, Option, Some, None, Result, Ok, Err, if◌then◌else◌, codes}
+use Rattle.std.specs.List.{before_first, after_first}
+use Rattle.std.specs.Str.{bytes_eq}
+use Rattle.httparse.specs.Grammar.{RequestHead}
+use Rattle.desk.specs.declared.request.Request.{Request}
+use Rattle.desk.specs.declared.request.Request.TheVariants.{Report, Download, Add}
+use Rattle.web_desk.specs.declared.form.Parameter.{Parameter}
+use Rattle.web_desk.specs.declared.refusal.Refusal.{Refusal}
+use Rattle.web_desk.specs.declared.refusal.Refusal.TheVariants as refusal
+use Rattle.web_desk.specs.declared.route.Route.{Route}
+use Rattle.web_desk.specs.declared.route.Route.TheVariants as route
+use Rattle.web_desk.specs.Forms.{parameters_of, only_value, all_values}
+
+-- a target is a path and, after the first question mark, a query
+abbrev pub path_of : List ℕ → List ℕ
+path_of target = before_first (λ b. b == 63) target
+
+abbrev pub query_of : List ℕ → List ℕ
+query_of target = after_first (λ b. b == 63) target
+
+-- a route that is taken by this method alone
+abbrev pub by_method : List ℕ → List ℕ → Route → Refusal → Route
+by_method method wanted found refused = if bytes_eq method wanted then found else route.Refused refused
+
+-- where a method and a path lead
+abbrev pub route_of : List ℕ → List ℕ → Route
+route_of method path =
+    if bytes_eq path (codes "/balance") then by_method method (codes "GET") route.Balance refusal.GetOnly
+    else if bytes_eq path (codes "/download") then by_method method (codes "GET") route.Download refusal.GetOnly
+    else if bytes_eq path (codes "/add") then by_method method (codes "POST") route.Add refusal.PostOnly
+    else route.Refused refusal.Path
+
+-- the parameters were as they have to be, or the form is refused
+abbrev pub formed : {X : Type 0} → Option X → (X → Request) → Result Request Refusal
+formed None make = Err refusal.Form
+formed (Some x) make = Ok (make x)
+
+-- the request where there are no parameters
+abbrev pub if_none : List Parameter → Result Request Refusal → Result Request Refusal
+if_none [] call = call
+if_none (p ∷ ps) call = Err refusal.Form
+
+-- the words of a report: its command and each value of q
+abbrev pub report_of : List (List ℕ) → Request
+report_of words = Report (codes "balance" ∷ words)
+
+-- What a message asks: GET /balance has the words in its parameters q, GET /download has no parameter, and POST /add
+-- has the entry as the one parameter of its body.
+abbrev pub call_at : Route → List ℕ → List ℕ → Result Request Refusal
+call_at route.Balance query body = formed (all_values (codes "q") (parameters_of query)) report_of
+call_at route.Download query body = if_none (parameters_of query) (Ok Download)
+call_at route.Add query body = if_none (parameters_of query) (formed (only_value (codes "entry") (parameters_of body)) Add)
+call_at (route.Refused refused) query body = Err refused
+
+abbrev pub call_of : RequestHead → List ℕ → Result Request Refusal
+call_of h body = call_at (route_of h.method (path_of h.target)) (query_of h.target) body

@@ -1,0 +1,13 @@
+pub mod Answers
+pub mod Calls
+pub mod Counts
+pub mod Fields
+pub mod Forms
+pub mod Heads
+pub mod Lines
+pub mod Receipt
+pub mod Served
+pub mod Streams
+pub mod Targets
+pub mod Turns
+pub mod Unread

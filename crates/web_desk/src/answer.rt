@@ -1,0 +1,220 @@
+//! The bytes of replies.
+ghost use Rattle.std.specs.Prelude.{◌≡◌, ◌++◌, IfOk, None, []};
+ghost use Rattle.std.specs.String.{string_bytes};
+ghost use Rattle.web_desk.specs.Answers.{message, phrase_of, status_line, opening_text, head_text, revision_field, closing_field, refusal_status, refusal_line, allow_field, refusal_message, status_of, said_revision, reply_message};
+
+use crate::lines::line_of;
+use crate::refusal::Refusal;
+use book::print_fault;
+use desk::{Reply, WordsFault};
+use hl_base::{Bytes, Memory};
+use http::StatusCode;
+use std::alloc::Global;
+use std::string::ToString;
+
+/// The phrase of a status.
+#[tactic(auto, unfolding(crate::specs::Answers::phrase_of))]
+fn phrase(status: StatusCode) -> &'static str
+    ensures { result.now ≡ phrase_of status }
+{
+    match status.canonical_reason() {
+        Some(text) => text,
+        None => "",
+    }
+}
+
+/// The first line of a reply.
+fn start_line(alloc: Global, status: StatusCode) -> Result<String, Memory>
+    ensures { IfOk result (λ line. string_bytes line ≡ status_line status) }
+{
+    let mut line = String::from_str(alloc, "HTTP/1.1 ")?;
+    line.push_str(status.as_u16().to_string(alloc)?.as_str())?;
+    line.push_str(" ")?;
+    line.push_str(phrase(status))?;
+    line.push_str("\r\n")?;
+    Ok(line)
+}
+
+/// The field X-Revision, where there is a revision.
+fn revision_line(alloc: Global, revision: Option<u64>) -> Result<String, Memory>
+    ensures { IfOk result (λ line. string_bytes line ≡ revision_field revision) }
+{
+    match revision {
+        None => Ok(String::new(alloc)),
+        Some(number) => {
+            let mut line = String::from_str(alloc, "X-Revision: ")?;
+            line.push_str(number.to_string(alloc)?.as_str())?;
+            line.push_str("\r\n")?;
+            Ok(line)
+        }
+    }
+}
+
+/// The field Connection, where the connection closes.
+fn closing_line(closing: bool) -> &'static str
+    ensures { result.now ≡ closing_field closing }
+{
+    if closing { "Connection: close\r\n" } else { "" }
+}
+
+/// A reply up to its length.
+fn opening(
+    alloc: Global,
+    status: StatusCode,
+    revision: Option<u64>,
+    allow: &str,
+    closing: bool,
+) -> Result<String, Memory>
+    ensures { IfOk result (λ text. string_bytes text ≡ opening_text status revision allow.now closing) }
+{
+    let mut text = start_line(alloc, status)?;
+    text.push_str("Content-Type: text/plain; charset=utf-8\r\n")?;
+    text.push_str(revision_line(alloc, revision)?.as_str())?;
+    text.push_str(allow)?;
+    text.push_str(closing_line(closing))?;
+    Ok(text)
+}
+
+/// A reply up to its body.
+fn head(
+    alloc: Global,
+    status: StatusCode,
+    revision: Option<u64>,
+    allow: &str,
+    closing: bool,
+    size: usize,
+) -> Result<String, Memory>
+    ensures { IfOk result (λ text. string_bytes text ≡ head_text status revision allow.now closing size) }
+{
+    let mut text = opening(alloc, status, revision, allow, closing)?;
+    text.push_str("Content-Length: ")?;
+    text.push_str(size.to_string(alloc)?.as_str())?;
+    text.push_str("\r\n\r\n")?;
+    Ok(text)
+}
+
+/// A whole reply.
+fn reply_bytes(
+    alloc: Global,
+    status: StatusCode,
+    revision: Option<u64>,
+    allow: &str,
+    closing: bool,
+    body: &[u8],
+) -> Result<Bytes, Memory>
+    ensures { IfOk result (λ bytes. bytes ≡ message status revision allow.now closing body.now) }
+{
+    let mut bytes = head(alloc, status, revision, allow, closing, body.len())?.into_bytes();
+    bytes.extend_from_slice(body)?;
+    Ok(Bytes::from_vec(bytes))
+}
+
+/// The status of a refusal.
+fn refusal_code(refusal: Refusal) -> StatusCode
+    ensures { result ≡ refusal_status refusal }
+{
+    match refusal {
+        Refusal::Form | Refusal::Message => StatusCode::BAD_REQUEST,
+        Refusal::Path => StatusCode::NOT_FOUND,
+        Refusal::GetOnly | Refusal::PostOnly => StatusCode::METHOD_NOT_ALLOWED,
+        Refusal::Head => StatusCode::REQUEST_HEADER_FIELDS_TOO_LARGE,
+        Refusal::Body => StatusCode::PAYLOAD_TOO_LARGE,
+    }
+}
+
+/// The line of a refusal.
+fn refusal_text(refusal: Refusal) -> &'static str
+    ensures { result.now ≡ refusal_line refusal }
+{
+    match refusal {
+        Refusal::Form => "error: form\n",
+        Refusal::Message => "error: message\n",
+        Refusal::Path => "error: path\n",
+        Refusal::GetOnly | Refusal::PostOnly => "error: method\n",
+        Refusal::Head => "error: head\n",
+        Refusal::Body => "error: body\n",
+    }
+}
+
+/// The field Allow, where the path has another method.
+fn allow_line(refusal: Refusal) -> &'static str
+    ensures { result.now ≡ allow_field refusal }
+{
+    match refusal {
+        Refusal::GetOnly => "Allow: GET\r\n",
+        Refusal::PostOnly => "Allow: POST\r\n",
+        _ => "",
+    }
+}
+
+/// The reply that refuses a message without asking anybody.
+pub fn refusal_reply(alloc: Global, refusal: Refusal, closing: bool) -> Result<Bytes, Memory>
+    ensures { IfOk result (λ bytes. bytes ≡ refusal_message closing refusal) }
+{
+    let line = refusal_text(refusal);
+    reply_bytes(
+        alloc,
+        refusal_code(refusal),
+        None,
+        allow_line(refusal),
+        closing,
+        line.as_bytes(),
+    )
+}
+
+/// The status of a reply.
+fn reply_code(reply: &Reply) -> StatusCode
+    ensures { result ≡ status_of reply.now }
+{
+    match reply {
+        Reply::Done { .. } | Reply::Same { .. } | Reply::Text { .. } => StatusCode::OK,
+        Reply::BadBase { .. } | Reply::NoSuchItem { .. } | Reply::NotTransactions { .. } => {
+            StatusCode::BAD_REQUEST
+        }
+        Reply::Words(WordsFault::Memory) | Reply::Memory => StatusCode::INTERNAL_SERVER_ERROR,
+        Reply::Words(_) => StatusCode::BAD_REQUEST,
+        Reply::Forbidden { .. } => StatusCode::FORBIDDEN,
+        Reply::Stale { .. } => StatusCode::CONFLICT,
+        Reply::Load(_) => StatusCode::UNPROCESSABLE_ENTITY,
+        Reply::TooLarge { .. } => StatusCode::PAYLOAD_TOO_LARGE,
+        Reply::DiskFault { .. } => StatusCode::SERVICE_UNAVAILABLE,
+        Reply::Full { .. } => StatusCode::INSUFFICIENT_STORAGE,
+    }
+}
+
+/// The revision that a reply of this status says.
+fn revision_said(status: StatusCode, revision: u64) -> Option<u64>
+    ensures { result ≡ said_revision status revision }
+{
+    if status.as_u16() == 500 {
+        None
+    } else {
+        Some(revision)
+    }
+}
+
+/// The reply of the desk, with the revision after the request.
+pub fn desk_reply(
+    alloc: Global,
+    reply: &Reply,
+    revision: u64,
+    closing: bool,
+) -> Result<Bytes, Memory>
+    ensures { IfOk result (λ bytes. bytes ≡ reply_message closing reply.now revision) }
+{
+    let status = reply_code(reply);
+    let said = revision_said(status, revision);
+    match reply {
+        Reply::Text { bytes, .. } => {
+            reply_bytes(alloc, status, said, "", closing, bytes.as_slice())
+        }
+        Reply::Load(fault) => {
+            let line = print_fault(alloc, fault)?;
+            reply_bytes(alloc, status, said, "", closing, line.as_slice())
+        }
+        _ => {
+            let line = line_of(alloc, reply)?;
+            reply_bytes(alloc, status, said, "", closing, line.as_bytes())
+        }
+    }
+}

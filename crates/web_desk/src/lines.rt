@@ -1,0 +1,142 @@
+//! The lines in which replies say what was done, or why not.
+ghost use Rattle.std.specs.Prelude.{◌≡◌, IfOk};
+ghost use Rattle.std.specs.String.{string_bytes};
+ghost use Rattle.web_desk.specs.Lines.{two_numbers, ended, allow_word, usage_line, words_line, body_of, IsLine};
+ghost use Rattle.std.specs.Prelude.{codes, ◌++◌};
+ghost use Rattle.std.specs.Fmt.{decimal};
+
+use desk::{Allow, Reply, WordsFault};
+use hl_base::{Memory, Text};
+use std::alloc::Global;
+use std::string::ToString;
+
+/// A text, a number, a text and a number in one line.
+fn two_numbers_line(
+    alloc: Global,
+    first: &str,
+    m: u64,
+    second: &str,
+    n: u64,
+) -> Result<String, Memory>
+    ensures { IfOk result (λ line. string_bytes line ≡ two_numbers first.now m second.now n) }
+{
+    let mut line = String::from_str(alloc, first)?;
+    line.push_str(m.to_string(alloc)?.as_str())?;
+    line.push_str(second)?;
+    line.push_str(n.to_string(alloc)?.as_str())?;
+    line.push_str("\n")?;
+    Ok(line)
+}
+
+/// A text, a number and a text that ends the line.
+fn one_number_line(alloc: Global, first: &str, n: u64, second: &str) -> Result<String, Memory>
+    ensures { IfOk result (λ line. string_bytes line ≡ first.now ++ decimal n ++ second.now) }
+{
+    let mut line = String::from_str(alloc, first)?;
+    line.push_str(n.to_string(alloc)?.as_str())?;
+    line.push_str(second)?;
+    Ok(line)
+}
+
+fn allow_text(allow: Allow) -> &'static str
+    ensures { result.now ≡ allow_word allow }
+{
+    match allow {
+        Allow::View => "view",
+        Allow::Add => "add",
+        Allow::Edit => "edit",
+    }
+}
+
+fn forbidden_line(alloc: Global, need: Allow, have: Allow) -> Result<String, Memory>
+    ensures { IfOk result (λ line. string_bytes line ≡ body_of (Reply.Forbidden need have)) }
+{
+    let mut line = String::from_str(alloc, "error: forbidden: need ")?;
+    line.push_str(allow_text(need))?;
+    line.push_str(", have ")?;
+    line.push_str(allow_text(have))?;
+    line.push_str("\n")?;
+    Ok(line)
+}
+
+/// A word of a report that has no place.
+fn unknown_word_line(alloc: Global, word: &Text) -> Result<String, Memory>
+    ensures { IfOk result (λ line. string_bytes line ≡ ended (codes "error: usage: " ++ word.now)) }
+{
+    let mut line = String::from_str(alloc, "error: usage: ")?;
+    line.push_str(word.as_str())?;
+    line.push_str("\n")?;
+    Ok(line)
+}
+
+/// No command, where there is no word.
+fn no_command_line(alloc: Global, word: &Text) -> Result<String, Memory>
+    ensures { IfOk result (λ line. string_bytes line ≡ usage_line word.now) }
+{
+    if word.as_str().is_empty() {
+        return Ok(String::from_str(alloc, "error: usage\n")?);
+    }
+    unknown_word_line(alloc, word)
+}
+
+fn words_fault_line(alloc: Global, fault: &WordsFault) -> Result<String, Memory>
+    ensures { IfOk result (λ line. string_bytes line ≡ words_line fault.now) }
+{
+    match fault {
+        WordsFault::NoCommand { word } => no_command_line(alloc, word),
+        WordsFault::BadOption { word } => unknown_word_line(alloc, word),
+        WordsFault::Memory => Ok(String::from_str(alloc, "error: memory\n")?),
+    }
+}
+
+/// The line that is the body of a reply.
+pub fn line_of(alloc: Global, reply: &Reply) -> Result<String, Memory>
+    requires { IsLine reply.now }
+    ensures { IfOk result (λ line. string_bytes line ≡ body_of reply.now) }
+{
+    match reply {
+        Reply::Done { revision } => one_number_line(alloc, "revision ", *revision, "\n"),
+        Reply::Same { revision } => one_number_line(alloc, "unchanged, revision ", *revision, "\n"),
+        Reply::Text { .. } | Reply::Load(_) => unreachable!(),
+        Reply::Forbidden { need, have } => forbidden_line(alloc, *need, *have),
+        Reply::Stale { base, current } => {
+            two_numbers_line(alloc, "error: stale: base ", *base, ", current ", *current)
+        }
+        Reply::BadBase { base, current } => {
+            two_numbers_line(
+                alloc,
+                "error: bad base: base ",
+                *base,
+                ", current ",
+                *current,
+            )
+        }
+        Reply::NoSuchItem { n, count } => two_numbers_line(
+            alloc,
+            "error: no item ",
+            *n,
+            " of ",
+            *count,
+        ),
+        Reply::NotTransactions { line } => {
+            one_number_line(alloc, "error: entry line ", *line, ": not a transaction\n")
+        }
+        Reply::TooLarge { limit, size } => two_numbers_line(
+            alloc,
+            "error: limit: ",
+            *size,
+            " of ",
+            *limit,
+        ),
+        Reply::DiskFault { .. } => Ok(String::from_str(alloc, "error: disk fault\n")?),
+        Reply::Words(fault) => words_fault_line(alloc, fault),
+        Reply::Full { size, limit } => two_numbers_line(
+            alloc,
+            "error: full: ",
+            *size,
+            " of ",
+            *limit,
+        ),
+        Reply::Memory => Ok(String::from_str(alloc, "error: memory\n")?),
+    }
+}

@@ -1,0 +1,245 @@
+//! A connection, from its first byte to its end.
+ghost use Rattle.std.specs.Prelude.{◌≡◌, ◌⊎◌, ◌≤◌, ◌<◌, ◌+◌, ◌++◌, ℕ, List, [], Some, Ok, Err, true, ◌||◌, ◌==◌, IfSome, IfOk, IfErr, OnOk};
+ghost use Rattle.web_desk.specs.Answers.{refusal_message};
+ghost use Rattle.web_desk.specs.Calls.{call_at};
+ghost use Rattle.web_desk.specs.Counts.{Counted, CountedIn};
+ghost use Rattle.desk.specs.Entries.{Entry};
+ghost use Rattle.web_desk.specs.Receipt.{IsBroken, IsStream, ending_of};
+ghost use Rattle.web_desk.specs.Served.{Served, AreOf};
+ghost use Rattle.web_desk.specs.Streams.{end_of, most_messages};
+ghost use Rattle.web_desk.specs.Turns.{refusal_at, SentSo, ClosesSo, AnswersSo, IsFailure, StepSo};
+
+use crate::answer::{desk_reply, refusal_reply};
+use crate::ask::Ask;
+use crate::conn_end::{ConnEnd, Way};
+use crate::head::Head;
+use crate::incoming::Incoming;
+use crate::receive::{Next, Stop, next_message};
+use crate::refusal::Refusal;
+use crate::route::call;
+use desk::Request;
+use hl_base::{Bytes, Clock, Link, Steps, send_all};
+use hl_time::Day;
+use std::alloc::Global;
+use std::sync::ledger::Ledger;
+
+/// The most messages of a connection.
+const MOST_MESSAGES: u64 = 1_000_000;
+
+/// Sends a reply.
+fn send<K: Link>(link: &mut K, reply: &Bytes) -> Result<(), ConnEnd>
+    ensures told { IfSome (K.sent link.old) (λ before.
+        (text : List ℕ) × (K.sent link.new ≡ Some (before ++ text)) × SentSo result reply.now text) }
+    ensures coming { K.coming link.new ≡ K.coming link.old }
+    ensures broken { IfErr result IsBroken }
+    ensures counted { CountedIn result (K.read_faults link.old) (K.read_faults link.new) (K.write_faults link.old) (K.write_faults link.new) }
+{
+    match send_all(link, reply.as_slice()) {
+        Ok(()) => Ok(()),
+        Err(_) => Err(ConnEnd::LinkFault { way: Way::Write }),
+    }
+}
+
+/// The refusal that is sent where the reading stopped.
+fn refusal_of_stop(stop: Stop) -> Option<Refusal>
+    ensures { result ≡ refusal_at stop }
+{
+    match stop {
+        Stop::Unframed | Stop::BadHead => Some(Refusal::Message),
+        Stop::LongHead => Some(Refusal::Head),
+        Stop::LongBody { .. } => Some(Refusal::Body),
+        _ => None,
+    }
+}
+
+/// The end of a connection whose reading stopped, at the message that begins at this place.
+fn end_of_stop(stop: Stop, at: u64) -> ConnEnd
+    ensures { result ≡ end_of at (ending_of stop) }
+{
+    match stop {
+        Stop::Over | Stop::Unframed => ConnEnd::Closed,
+        Stop::BadHead => ConnEnd::BadHead { at },
+        Stop::LongHead => ConnEnd::HeadTooLong,
+        Stop::LongBody { said } => ConnEnd::BodyTooLong { said },
+        Stop::CutBody { had, said } => ConnEnd::CutOff { had, said },
+        Stop::CutHead { had } => ConnEnd::HeadCut { had },
+    }
+}
+
+/// Sends the reply that belongs to where the reading stopped.
+fn send_refusal<K: Link>(alloc: Global, link: &mut K, refusal: Refusal) -> Result<(), ConnEnd>
+    ensures told { IfSome (K.sent link.old) (λ before.
+        (text : List ℕ) × (K.sent link.new ≡ Some (before ++ text)) × SentSo result (refusal_message true refusal) text) }
+    ensures coming { K.coming link.new ≡ K.coming link.old }
+    ensures broken { IfErr result IsBroken }
+    ensures counted { CountedIn result (K.read_faults link.old) (K.read_faults link.new) (K.write_faults link.old) (K.write_faults link.new) }
+{
+    let reply = refusal_reply(alloc, refusal, true)?;
+    send(link, &reply)
+}
+
+/// Ends a connection where the reading stopped, after the reply that belongs to it.
+fn finish<K: Link>(alloc: Global, link: &mut K, stop: Stop, at: u64) -> ConnEnd
+    ensures told { IfSome (K.sent link.old) (λ before.
+        (text : List ℕ) × (K.sent link.new ≡ Some (before ++ text)) × ClosesSo at stop result text) }
+    ensures kind { (result ≡ end_of at (ending_of stop)) ⊎ IsBroken result }
+    ensures coming { K.coming link.new ≡ K.coming link.old }
+    ensures counted { Counted result (K.read_faults link.old) (K.read_faults link.new) (K.write_faults link.old) (K.write_faults link.new) }
+{
+    if let Some(refusal) = refusal_of_stop(stop) {
+        if let Err(end) = send_refusal(alloc, link, refusal) {
+            return end;
+        }
+    }
+    end_of_stop(stop, at)
+}
+
+/// Asks, and sends the reply.
+fn answer_request<A: Ask, K: Link, C: Clock, L: Ledger>(
+    alloc: Global,
+    ask: &mut A,
+    link: &mut K,
+    clock: &mut C,
+    steps: &mut Steps<L>,
+    request: &Request,
+    closing: bool,
+) -> Result<(), ConnEnd>
+    ensures answered { (entries : List Entry) × A.leads ask.old entries ask.new
+        × IfSome (C.always clock.old) (λ day. AreOf day entries)
+        × IfSome (K.sent link.old) (λ before. (text : List ℕ) × (K.sent link.new ≡ Some (before ++ text))
+        × AnswersSo closing (Ok request.now) result entries text) }
+    ensures spent { result ≡ Err ConnEnd.Spent → A.IsSpent ask.new }
+    ensures always { C.always clock.new ≡ C.always clock.old }
+    ensures coming { K.coming link.new ≡ K.coming link.old }
+    ensures kind { IfErr result IsFailure }
+    ensures counted { CountedIn result (K.read_faults link.old) (K.read_faults link.new) (K.write_faults link.old) (K.write_faults link.new) }
+{
+    let day = Day(clock.day());
+    let Ok((reply, revision)) = ask.ask(alloc, request, day, steps) else {
+        return Err(ConnEnd::Spent);
+    };
+    let text = desk_reply(alloc, &reply, revision, closing)?;
+    send(link, &text)
+}
+
+/// Refuses a message, after which the connection may go on.
+fn answer_refusal<K: Link>(
+    alloc: Global,
+    link: &mut K,
+    refusal: Refusal,
+    closing: bool,
+) -> Result<(), ConnEnd>
+    ensures answered { IfSome (K.sent link.old) (λ before. (text : List ℕ) × (K.sent link.new ≡ Some (before ++ text))
+        × AnswersSo closing (Err refusal) result [] text) }
+    ensures coming { K.coming link.new ≡ K.coming link.old }
+    ensures kind { IfErr result IsBroken }
+    ensures counted { CountedIn result (K.read_faults link.old) (K.read_faults link.new) (K.write_faults link.old) (K.write_faults link.new) }
+{
+    let text = refusal_reply(alloc, refusal, closing)?;
+    send(link, &text)
+}
+
+/// Answers a message.
+fn answer<A: Ask, K: Link, C: Clock, L: Ledger>(
+    alloc: Global,
+    ask: &mut A,
+    link: &mut K,
+    clock: &mut C,
+    steps: &mut Steps<L>,
+    head: &Head,
+    body: &[u8],
+    closing: bool,
+) -> Result<(), ConnEnd>
+    ensures answered { (entries : List Entry) × A.leads ask.old entries ask.new
+        × IfSome (C.always clock.old) (λ day. AreOf day entries)
+        × IfSome (K.sent link.old) (λ before. (text : List ℕ) × (K.sent link.new ≡ Some (before ++ text))
+        × AnswersSo closing (call_at head.now.route head.now.query body.now) result entries text) }
+    ensures spent { result ≡ Err ConnEnd.Spent → A.IsSpent ask.new }
+    ensures always { C.always clock.new ≡ C.always clock.old }
+    ensures coming { K.coming link.new ≡ K.coming link.old }
+    ensures kind { IfErr result IsFailure }
+    ensures counted { CountedIn result (K.read_faults link.old) (K.read_faults link.new) (K.write_faults link.old) (K.write_faults link.new) }
+{
+    match call(alloc, head.route, head.query.as_slice(), body)? {
+        Ok(request) => answer_request(alloc, ask, link, clock, steps, &request, closing),
+        Err(refusal) => answer_refusal(alloc, link, refusal, closing),
+    }
+}
+
+/// Whether the connection closes after a message before which so many came.
+fn closes_after(head: &Head, count: u64) -> bool
+    requires { count < most_messages }
+    ensures { result ≡ (head.now.closing || count + 1 == most_messages) }
+{
+    head.closing || count + 1 == MOST_MESSAGES
+}
+
+/// Reads and answers the next message, and says how many bytes it had.
+fn serve_one<A: Ask, K: Link, C: Clock, L: Ledger>(
+    alloc: Global,
+    ask: &mut A,
+    link: &mut K,
+    clock: &mut C,
+    steps: &mut Steps<L>,
+    incoming: &mut Incoming,
+    count: u64,
+    at: u64,
+) -> Result<u64, ConnEnd>
+    requires { count < most_messages }
+    ensures served { (entries : List Entry) × A.leads ask.old entries ask.new
+        × IfSome (C.always clock.old) (λ day. AreOf day entries)
+        × ((rest : List ℕ) → IsStream (K.coming link.old) incoming.old rest → IfSome (K.sent link.old) (λ before.
+        (text : List ℕ) × (rest_now : List ℕ) × (K.sent link.new ≡ Some (before ++ text))
+        × OnOk result (IsStream (K.coming link.new) incoming.new rest_now)
+        × StepSo at count rest rest_now result entries text)) }
+    ensures size { IfOk result (λ size. size ≤ 8404992) }
+    ensures few { OnOk result (count + 1 < most_messages) }
+    ensures spent { result ≡ Err ConnEnd.Spent → A.IsSpent ask.new }
+    ensures always { C.always clock.new ≡ C.always clock.old }
+    ensures counted { CountedIn result (K.read_faults link.old) (K.read_faults link.new) (K.write_faults link.old) (K.write_faults link.new) }
+{
+    match next_message(alloc, incoming, link)? {
+        Next::Stopped(stop) => Err(finish(alloc, link, stop, at)),
+        Next::Message { head, total } => {
+            let closing = closes_after(&head, count);
+            let (message, _) = incoming.as_slice().split_at(total);
+            let (_, body) = message.split_at(head.length);
+            answer(alloc, ask, link, clock, steps, &head, body, closing)?;
+            if closing {
+                return Err(ConnEnd::Closed);
+            }
+            incoming.consume(total);
+            Ok(total as u64)
+        }
+    }
+}
+
+/// Answers the messages that come over a link, one after another, up to the end of the connection.
+pub fn serve_link<A: Ask, K: Link, C: Clock, L: Ledger>(
+    alloc: Global,
+    ask: &mut A,
+    link: &mut K,
+    clock: &mut C,
+    steps: &mut Steps<L>,
+) -> ConnEnd
+    // The entries that were made are those of the messages that asked, in order, each on the clock's day; and what
+    // was sent are the answers in order, and then the reply that belongs to the end.
+    ensures served { (entries : List Entry) × A.leads ask.old entries ask.new
+        × IfSome (C.always clock.old) (λ day. AreOf day entries)
+        × IfSome (K.coming link.old) (λ bytes. IfSome (K.sent link.old) (λ before.
+        (text : List ℕ) × (K.sent link.new ≡ Some (before ++ text)) × Served bytes result entries text)) }
+    ensures counted { Counted result (K.read_faults link.old) (K.read_faults link.new) (K.write_faults link.old) (K.write_faults link.new) }
+    ensures spent { result ≡ ConnEnd.Spent → A.IsSpent ask.new }
+{
+    let Ok(mut incoming) = Incoming::new(alloc) else {
+        return ConnEnd::Memory;
+    };
+    let mut at: u64 = 0;
+    'messages: for count in 0..MOST_MESSAGES {
+        match serve_one(alloc, ask, link, clock, steps, &mut incoming, count, at) {
+            Ok(size) => at += size,
+            Err(end) => return end,
+        }
+    }
+    unreachable!()
+}
