@@ -1,5 +1,5 @@
 -- The context after one more item.
-use Rattle.std.specs.Prelude.{ℕ, Bool, true, false, not, Option}
+use Rattle.std.specs.Prelude.{Bool, true, false, not}
 use Rattle.std.specs.List.{fold}
 use Rattle.book.specs.declared.directive.Directive.{Directive}
 use Rattle.book.specs.declared.directive.Directive.TheVariants as directive
