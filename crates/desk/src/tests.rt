@@ -213,10 +213,10 @@ fn adds_after_a_fault<L: Ledger>(
     Ok(failed)
 }
 
-/// Each call of the first disk fails once: those of the addition are calls 6 to 9, and calls 10 to 12 those of a repair.
+/// Each call of the first disk for the addition fails once: a new store takes ten calls, and a record four more.
 fn goes_on_after_a_fault<L: Ledger>(alloc: Global, steps: &mut Steps<L>) -> Result<(), Fail> {
     let mut faults: u64 = 0;
-    for call in 6..10u64 {
+    for call in 11..15u64 {
         let desk = new_desk(alloc, 4000, Allow::Edit, &[call], steps)?;
         if adds_after_a_fault(alloc, desk, steps)? {
             faults = faults.saturating_add(1);
