@@ -1,4 +1,5 @@
 pub mod AnswerLemmas
+pub mod CourseLemmas
 pub mod FieldLemmas
 pub mod HeadLemmas
 pub mod Readings

@@ -1,6 +1,7 @@
 pub mod Answers
 pub mod Calls
 pub mod Counts
+pub mod Courses
 pub mod Fields
 pub mod Forms
 pub mod Heads

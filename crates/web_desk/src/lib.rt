@@ -23,5 +23,5 @@ mod tests;
 pub use alone::Alone;
 pub use ask::{Ask, Spent};
 pub use conn_end::{ConnEnd, Way};
-pub use reading::one_reading;
+pub use reading::{one_course, one_reading};
 pub use serve::serve_link;
