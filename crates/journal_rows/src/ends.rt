@@ -6,7 +6,7 @@ use std::test::Fail;
 use web_desk::{ConnEnd, Way};
 
 /// A connection over which these bytes come at once.
-fn at_once<'a>(coming: &'a [u8]) -> Connection<'a> {
+pub fn at_once<'a>(coming: &'a [u8]) -> Connection<'a> {
     Connection {
         coming,
         most: 65536,
@@ -14,7 +14,8 @@ fn at_once<'a>(coming: &'a [u8]) -> Connection<'a> {
     }
 }
 
-fn is(ended: &Ended, end: ConnEnd, sent: &[u8]) -> bool {
+/// Whether a connection ended so, after these bytes were sent.
+pub fn is(ended: &Ended, end: ConnEnd, sent: &[u8]) -> bool {
     ended.end == end && ended.sent.as_slice() == sent
 }
 
@@ -112,7 +113,13 @@ fn each_write_fails(rt: HostRuntime) -> Result<(), Fail> {
 fn the_read_of_the_end_fails(rt: HostRuntime) -> Result<(), Fail> {
     let sent = joined(rt.alloc(), LISTED, ADDED)?;
     let ended = failing(rt.alloc(), 170)?;
-    assert!(rt; is(&ended, ConnEnd::LinkFault { way: Way::Read }, sent.as_slice()));
+    assert!(rt;
+        is(
+            &ended,
+            ConnEnd::LinkFault { way: Way::Read },
+            sent.as_slice()
+        )
+    );
     let ended = failing(rt.alloc(), 171)?;
     assert!(rt; is(&ended, ConnEnd::Closed, sent.as_slice()));
     Ok(())

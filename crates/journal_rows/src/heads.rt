@@ -1,8 +1,10 @@
-//! Connections of `talk`: heads and forms at their edges, and what is sent for them.
-use crate::case::answer;
-use crate::talks::{ADDED, ENDED_BADLY, is, joined, over};
+//! Heads and forms at their edges, how a connection over them ends, and what is sent.
+use crate::ends::{at_once, is};
+use crate::served::served;
+use crate::talks::{ADDED, joined};
 use std::alloc::Global;
 use std::test::Fail;
+use web_desk::ConnEnd;
 
 const NO_PATH: &[u8] =
     b"HTTP/1.1 404 Not Found\r\nContent-Type: text/plain; charset=utf-8\r\nContent-Length: 12\r\n\r\nerror: path\n";
@@ -23,17 +25,11 @@ const BAD_FORM: &[u8] =
 const LISTED_LAST: &[u8] =
     b"HTTP/1.1 200 OK\r\nContent-Type: text/plain; charset=utf-8\r\nX-Revision: 0\r\nConnection: close\r\nContent-Length: 44\r\n\r\n--------------------\n                   0  \n";
 
-/// Each stream ends with this status and error line, after these bytes were sent.
-fn all_are(
-    alloc: Global,
-    streams: &[&[u8]],
-    status: u8,
-    sent: &[u8],
-    error: &[u8],
-) -> Result<(), Fail> {
+/// A connection over each stream ends so, after these bytes were sent.
+fn all_are(alloc: Global, streams: &[&[u8]], end: ConnEnd, sent: &[u8]) -> Result<(), Fail> {
     for stream in streams {
-        let seen = answer(alloc, &over(stream))?;
-        if !is(&seen, status, sent, error) {
+        let ended = served(alloc, &at_once(stream))?;
+        if !is(&ended, end, sent) {
             return Err(Fail::new("a stream"));
         }
     }
@@ -67,9 +63,8 @@ fn takes_heads_up_to_their_limits(rt: HostRuntime) -> Result<(), Fail> {
     all_are(
         rt.alloc(),
         &[long.as_slice(), wide.as_slice()],
-        0,
+        ConnEnd::Closed,
         NO_PATH,
-        b"",
     )
 }
 
@@ -80,9 +75,8 @@ fn refuses_heads_past_their_limits(rt: HostRuntime) -> Result<(), Fail> {
     all_are(
         rt.alloc(),
         &[long.as_slice(), wide.as_slice()],
-        1,
+        ConnEnd::HeadTooLong,
         LONG_HEAD,
-        ENDED_BADLY,
     )
 }
 
@@ -96,30 +90,29 @@ fn closes_after_a_length_that_says_nothing(rt: HostRuntime) -> Result<(), Fail> 
             b"POST /add HTTP/1.1\r\nContent-Length: -1\r\n\r\nx".as_slice(),
             b"POST /add HTTP/1.1\r\nTransfer-Encoding: chunked\r\n\r\n0\r\n\r\n".as_slice(),
         ],
-        0,
+        ConnEnd::Closed,
         BAD_MESSAGE,
-        b"",
     )
 }
 
 #[test]
 fn refuses_bodies_past_their_limit(rt: HostRuntime) -> Result<(), Fail> {
-    all_are(
-        rt.alloc(),
-        &[
-            b"POST /add HTTP/1.1\r\nContent-Length: 8388609\r\n\r\nx".as_slice(),
-            b"POST /add HTTP/1.1\r\nContent-Length: 18446744073709551615\r\n\r\nx".as_slice(),
-        ],
-        1,
-        LONG_BODY,
-        ENDED_BADLY,
-    )
+    let one_more = b"POST /add HTTP/1.1\r\nContent-Length: 8388609\r\n\r\nx".as_slice();
+    let end = ConnEnd::BodyTooLong { said: 8_388_609 };
+    all_are(rt.alloc(), &[one_more], end, LONG_BODY)?;
+    let most = b"POST /add HTTP/1.1\r\nContent-Length: 18446744073709551615\r\n\r\nx".as_slice();
+    let end = ConnEnd::BodyTooLong { said: u64::MAX };
+    all_are(rt.alloc(), &[most], end, LONG_BODY)
 }
 
 #[test]
 fn waits_for_a_body_at_its_limit(rt: HostRuntime) -> Result<(), Fail> {
     let coming = b"POST /add HTTP/1.1\r\nContent-Length: 8388608\r\n\r\nx".as_slice();
-    all_are(rt.alloc(), &[coming], 1, b"", ENDED_BADLY)
+    let end = ConnEnd::CutOff {
+        had: 1,
+        said: 8_388_608,
+    };
+    all_are(rt.alloc(), &[coming], end, b"")
 }
 
 #[test]
@@ -131,10 +124,17 @@ fn refuses_what_is_no_head(rt: HostRuntime) -> Result<(), Fail> {
             b"GET /balance HTTP/2.0\r\n\r\n".as_slice(),
             b"GET  /balance HTTP/1.1\r\n\r\n".as_slice(),
         ],
-        1,
+        ConnEnd::BadHead { at: 0 },
         BAD_MESSAGE,
-        ENDED_BADLY,
     )
+}
+
+#[test]
+fn says_where_no_head_begins(rt: HostRuntime) -> Result<(), Fail> {
+    let coming = b"GET /none HTTP/1.1\r\n\r\n\0".as_slice();
+    let sent = joined(rt.alloc(), NO_PATH, BAD_MESSAGE)?;
+    let end = ConnEnd::BadHead { at: 22 };
+    all_are(rt.alloc(), &[coming], end, sent.as_slice())
 }
 
 #[test]
@@ -146,9 +146,8 @@ fn closes_where_the_message_says_so(rt: HostRuntime) -> Result<(), Fail> {
             b"GET /balance HTTP/1.1\r\nConnection: close\r\n\r\nGET /none HTTP/1.1\r\n\r\n".as_slice(),
             b"GET /balance HTTP/1.1\r\nconnection: keep-alive, Close\r\n\r\nGET ".as_slice(),
         ],
-        0,
+        ConnEnd::Closed,
         LISTED_LAST,
-        b"",
     )
 }
 
@@ -161,9 +160,8 @@ fn knows_three_paths(rt: HostRuntime) -> Result<(), Fail> {
             b"GET /balance/ HTTP/1.1\r\n\r\n".as_slice(),
             b"POST /register HTTP/1.1\r\n\r\n".as_slice(),
         ],
-        0,
+        ConnEnd::Closed,
         NO_PATH,
-        b"",
     )
 }
 
@@ -177,9 +175,9 @@ fn says_which_method_a_path_has(rt: HostRuntime) -> Result<(), Fail> {
         b"DELETE /balance HTTP/1.1\r\n\r\n".as_slice(),
         b"POST /download HTTP/1.1\r\n\r\n".as_slice(),
     ];
-    all_are(rt.alloc(), &streams, 0, get, b"")?;
+    all_are(rt.alloc(), &streams, ConnEnd::Closed, get)?;
     let add = b"GET /add HTTP/1.1\r\n\r\n".as_slice();
-    all_are(rt.alloc(), &[add], 0, post, b"")
+    all_are(rt.alloc(), &[add], ConnEnd::Closed, post)
 }
 
 #[test]
@@ -194,9 +192,8 @@ fn refuses_parameters_that_are_not_its_own(rt: HostRuntime) -> Result<(), Fail> 
             b"POST /add HTTP/1.1\r\nContent-Length: 15\r\n\r\nentry=a&entry=b".as_slice(),
             b"POST /add HTTP/1.1\r\nContent-Length: 14\r\n\r\nentry=a&base=1".as_slice(),
         ],
-        0,
+        ConnEnd::Closed,
         BAD_FORM,
-        b"",
     )
 }
 
@@ -205,7 +202,7 @@ fn refuses_a_word_that_has_no_place(rt: HostRuntime) -> Result<(), Fail> {
     let sent =
         b"HTTP/1.1 400 Bad Request\r\nContent-Type: text/plain; charset=utf-8\r\nX-Revision: 0\r\nContent-Length: 17\r\n\r\nerror: usage: -N\n".as_slice();
     let coming = b"GET /balance?q=-N HTTP/1.1\r\n\r\n".as_slice();
-    all_are(rt.alloc(), &[coming], 0, sent, b"")
+    all_are(rt.alloc(), &[coming], ConnEnd::Closed, sent)
 }
 
 #[test]
@@ -213,7 +210,7 @@ fn refuses_what_is_no_transaction(rt: HostRuntime) -> Result<(), Fail> {
     let sent =
         b"HTTP/1.1 400 Bad Request\r\nContent-Type: text/plain; charset=utf-8\r\nX-Revision: 0\r\nContent-Length: 39\r\n\r\nerror: entry line 1: not a transaction\n".as_slice();
     let coming = b"POST /add HTTP/1.1\r\nContent-Length: 17\r\n\r\nentry=alias+a%3Db".as_slice();
-    all_are(rt.alloc(), &[coming], 0, sent, b"")
+    all_are(rt.alloc(), &[coming], ConnEnd::Closed, sent)
 }
 
 #[test]
@@ -225,5 +222,5 @@ fn reads_forms_that_are_not_well_encoded(rt: HostRuntime) -> Result<(), Fail> {
         ADDED,
         b"HTTP/1.1 200 OK\r\nContent-Type: text/plain; charset=utf-8\r\nX-Revision: 1\r\nContent-Length: 37\r\n\r\n2024-01-05 \xef\xbf\xbd 5% %\n    a  1 E\n    b\n",
     )?;
-    all_are(rt.alloc(), &[coming], 0, sent.as_slice(), b"")
+    all_are(rt.alloc(), &[coming], ConnEnd::Closed, sent.as_slice())
 }

@@ -16,10 +16,10 @@ pub const ADDED: &[u8] =
     b"HTTP/1.1 200 OK\r\nContent-Type: text/plain; charset=utf-8\r\nX-Revision: 1\r\nContent-Length: 11\r\n\r\nrevision 1\n";
 
 /// The line of a connection that ended badly.
-pub const ENDED_BADLY: &[u8] = b"error: connection\n";
+const ENDED_BADLY: &[u8] = b"error: connection\n";
 
 /// A connection over which these bytes come.
-pub fn over<'a>(text: &'a [u8]) -> Case<'a> {
+fn over<'a>(text: &'a [u8]) -> Case<'a> {
     Case {
         words: &["talk"],
         text,
@@ -30,7 +30,7 @@ pub fn over<'a>(text: &'a [u8]) -> Case<'a> {
 }
 
 /// Whether a run had this status and wrote these bytes.
-pub fn is(seen: &Seen, status: u8, sent: &[u8], error: &[u8]) -> bool {
+fn is(seen: &Seen, status: u8, sent: &[u8], error: &[u8]) -> bool {
     seen.status == status && seen.output.as_slice() == sent && seen.error.as_slice() == error
 }
 
@@ -177,6 +177,15 @@ fn tells_a_line_that_is_not_written(rt: HostRuntime) -> Result<(), Fail> {
     };
     let seen = answer(rt.alloc(), &case)?;
     assert!(rt; is(&seen, 4, b"", b""));
+    Ok(())
+}
+
+#[test]
+fn refuses_what_is_no_head(rt: HostRuntime) -> Result<(), Fail> {
+    let seen = answer(rt.alloc(), &over(b"\0"))?;
+    let sent =
+        b"HTTP/1.1 400 Bad Request\r\nContent-Type: text/plain; charset=utf-8\r\nConnection: close\r\nContent-Length: 15\r\n\r\nerror: message\n".as_slice();
+    assert!(rt; is(&seen, 1, sent, ENDED_BADLY));
     Ok(())
 }
 
