@@ -1,9 +1,8 @@
 -- A sum that is the only one, and what is put beside it.
 use Rattle.std.proofs.Common.{◌≡◌, ℕ, Bool, true, false, cond, List, [], ◌∷◌, Option, Some, None, refl, sym, ap, ◌∙◌}
-use denote.Ref.{Bor}
 use Rattle.std.specs.declared.cmp.Ordering.{Ordering}
 use Rattle.std.specs.declared.cmp.Ordering.TheVariants.{Less, Equal, Greater}
-use Rattle.std.specs.Ordering.{nat_cmp, is_eq}
+use Rattle.std.specs.Ordering.{nat_cmp}
 use Rattle.std.specs.Cmp.{Equal-is}
 use Rattle.std.specs.Cmp.Lexicographic.{slice_cmp}
 use Rattle.std.specs.Str.{bytes_eq}
@@ -11,9 +10,9 @@ use Rattle.std.specs.FinMap.Entries.{by_order, put}
 use Rattle.std.proofs.lemmas.Map.Text.{is_eq-slice_cmp}
 use Rattle.hl_num.specs.Decimal.{Decimal}
 use Rattle.book.specs.Entries.{held}
-use Rattle.book.specs.Mixed.{plus, sum_with, fits_with}
+use Rattle.book.specs.Mixed.{plus, sum_with}
 use Rattle.balancing.specs.Values.{Value}
-use Rattle.balancing.specs.Tally.{named, only_sum, all_sums, is_within, are_within, added_to}
+use Rattle.balancing.specs.Tally.{named, only_sum, all_sums, added_to}
 use Rattle.balancing.proofs.Named.{Entry}
 
 abbrev order : List ℕ → List ℕ → Ordering

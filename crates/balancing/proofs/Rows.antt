@@ -1,16 +1,14 @@
 -- The definitions, run on small texts.
-use Rattle.std.proofs.Common.{◌≡◌, ℕ, ℤ, pos, negsuc, neg_ℤ, true, false, List, [], ◌∷◌, map, Option, Some, None, Result, Ok, Err, refl, codes}
-use Rattle.hl_num.specs.Decimal.{Decimal}
+use Rattle.std.proofs.Common.{◌≡◌, ℕ, ℤ, pos, negsuc, neg_ℤ, true, List, [], ◌∷◌, map, Option, Some, None, Result, Err, refl, codes}
 use Rattle.book.specs.declared.amount.Amount.{Amount}
 use Rattle.book.specs.declared.amount.Cost.{Cost}
 use Rattle.book.specs.declared.amount.Cost.TheVariants.{Unit, Total}
 use Rattle.book.specs.declared.transaction.Posting.{Posting}
 use Rattle.book.specs.declared.transaction.Txn.{Txn}
 use Rattle.book.specs.declared.transaction.Side.{Side}
-use Rattle.book.specs.declared.transaction.Side.TheVariants.{Real, Balanced, Free}
+use Rattle.book.specs.declared.transaction.Side.TheVariants.{Real, Free}
 use Rattle.book.specs.declared.transaction.Mark.TheVariants.{Unmarked}
 use Rattle.book.specs.declared.fault.Fault.{Fault}
-use Rattle.book.specs.declared.fault.Cause.{Cause}
 use Rattle.book.specs.declared.fault.Cause.TheVariants as cause
 use Rattle.book.specs.declared.item.Book.{Book}
 use Rattle.book.specs.Postings.{plain_posting}

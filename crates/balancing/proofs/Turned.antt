@@ -1,6 +1,6 @@
 -- Where the turnover of all groups fits, that of the book in the order of its text does.
-use Rattle.std.proofs.Common.{◌≡◌, ℕ, zero, suc, ℤ, pos, ◌+◌, ◌-◌, ◌*◌, ◌^◌, ◌==◌, ◌<◌, ◌≤◌, max, ◌*ℤ◌, unsigned_abs, Bool, true, false, ◌||◌, ◌&&◌, cond, filter, is_none, ltb, leb, List, [], ◌∷◌, ◌++◌, map, Option, Some, None, ◌⊎◌, inl, inr, refl, sym, ap, ◌∙◌, subst, arith, lit<}
-use Rattle.std.specs.List.{flat_map, fold, slice_get, list_any, AllByRecursion}
+use Rattle.std.proofs.Common.{◌≡◌, ℕ, suc, pos, ◌+◌, ◌-◌, ◌*◌, ◌^◌, ◌==◌, ◌<◌, ◌≤◌, unsigned_abs, Bool, true, false, ◌||◌, ◌&&◌, cond, filter, is_none, ltb, leb, List, [], ◌∷◌, ◌++◌, map, Option, Some, None, ◌⊎◌, inl, inr, refl, sym, ap, ◌∙◌, arith, lit<}
+use Rattle.std.specs.List.{flat_map, fold, slice_get, AllByRecursion}
 use Rattle.std.specs.Str.{bytes_eq}
 use Rattle.std.specs.Ordering.{eq_by_cmp}
 use Rattle.std.proofs.lemmas.Bool.{false≢true, ne_eqb, cases_lt}
@@ -8,22 +8,20 @@ use Rattle.std.proofs.lemmas.Bool.Decides.{Decides-ltb, nat_tests}
 use Rattle.std.proofs.lemmas.Grind.{flat_map-append}
 use Rattle.std.proofs.lemmas.Int.{unsigned_abs-mul}
 use Rattle.std.proofs.Math.Nat.{pow-le-pow_right, mul-le-mul_left}
-use Rattle.hl_num.specs.Decimal.{Decimal, units_of, mantissa_at}
+use Rattle.hl_num.specs.Decimal.{units_of, mantissa_at}
 use Rattle.hl_num.proofs.DecimalLemmas.{units_of-mantissa_at}
 use Rattle.hl_num.proofs.RoundingLemmas.{pow_ten_positive}
 use Rattle.book.specs.declared.amount.Amount.{Amount}
-use Rattle.book.specs.declared.amount.Cost.{Cost}
 use Rattle.book.specs.declared.amount.Cost.TheVariants.{Total}
 use Rattle.book.specs.declared.transaction.Posting.{Posting}
 use Rattle.book.specs.declared.transaction.Txn.{Txn}
 use Rattle.book.specs.Mixed.{plus}
-use Rattle.book.specs.Order.{each_once}
 use Rattle.book.specs.Postings.{postings_of}
 use Rattle.book.specs.Sums.{share}
 use Rattle.book.specs.Bounds.{turnover, places_in, places_of, TurnoverFits}
 use Rattle.book.proofs.Order.{contains-each_once, is_equal}
 use Rattle.balancing.specs.Values.{Value, value_of, absolute, cost_values}
-use Rattle.balancing.specs.Tally.{numbers_of, no_sum, is_within, turnover_fits}
+use Rattle.balancing.specs.Tally.{numbers_of, no_sum, turnover_fits}
 use Rattle.balancing.specs.Entry.{from_amount, plain_amount, found_posting, found_values, costed_posting, recorded_cost, is_real_of, solved_posting, solved, moved_by, moved}
 use Rattle.balancing.specs.Groups.{Group, group_cmp, groups_by, groups_from, groups_of, day_of}
 use Rattle.balancing.specs.Load.{settled, moved_when, moved_on, moved_of_group}

@@ -1,24 +1,23 @@
 -- Sums by symbols: one more number, look-ups, and why a sum is in range where the turnover is.
-use Rattle.std.proofs.Common.{◌≡◌, ℕ, ℤ, pos, ◌+◌, ◌-◌, ◌*◌, ◌^◌, ◌<◌, ◌≤◌, ◌+ℤ◌, ◌*ℤ◌, max, unsigned_abs, Bool, true, false, cond, ◌||◌, ◌&&◌, List, [], ◌∷◌, ◌++◌, map, filter, Option, Some, None, ◌⊎◌, inl, inr, refl, sym, ap, ◌∙◌, subst, arith, ltb}
-use Rattle.std.specs.List.{fold, list_any, list_all}
+use Rattle.std.proofs.Common.{◌≡◌, ℕ, ℤ, pos, ◌+◌, ◌-◌, ◌^◌, ◌<◌, ◌≤◌, ◌+ℤ◌, ◌*ℤ◌, max, unsigned_abs, Bool, true, false, cond, ◌||◌, List, [], ◌∷◌, ◌++◌, map, filter, Option, Some, None, ◌⊎◌, inl, inr, refl, sym, ap, ◌∙◌, subst, arith}
+use Rattle.std.specs.List.{fold, list_any}
 use Rattle.std.specs.Str.{bytes_eq}
-use Rattle.std.specs.Ordering.{nat_cmp, is_eq, eq_by_cmp}
+use Rattle.std.specs.Ordering.{nat_cmp, eq_by_cmp}
 use Rattle.std.specs.Cmp.Lexicographic.{slice_cmp, nat_list_cmp_total}
-use Rattle.std.specs.FinMap.Entries.{find, put, same_entries, find-put, is_sorted-put}
-use Rattle.std.proofs.lemmas.Bool.{false≢true, or_parts}
+use Rattle.std.specs.FinMap.Entries.{same_entries, find-put, is_sorted-put}
+use Rattle.std.proofs.lemmas.Bool.{or_parts}
 use Rattle.std.proofs.lemmas.Bool.Decides.{Decides-ltb}
 use Rattle.std.proofs.lemmas.Int.{ints, unsigned_abs-mul}
 use Rattle.std.proofs.lemmas.Nat.{pow-add}
 use Rattle.std.proofs.lemmas.Slice.Eq.{bytes_eq-Decides}
 use Rattle.std.proofs.lemmas.List.{append-nil}
 use Rattle.std.proofs.lemmas.List.Sums.{fold-append}
-use Rattle.std.proofs.Math.IntN.{+ℤ_assoc, +ℤ_idl, +ℤ_idr}
+use Rattle.std.proofs.Math.IntN.{+ℤ_idl}
 use Rattle.hl_num.specs.Decimal.{Decimal, mantissa_at, add_fits}
 use Rattle.hl_num.proofs.DecimalLemmas.{mul-add, mul-mul}
 use Rattle.hl_num.proofs.DecimalLaws.{unsigned_abs-add, unsigned_abs-mantissa_at, add_fits-from_sum}
 use Rattle.book.specs.Entries.{held, IsRising}
 use Rattle.book.specs.Mixed.{plus, sum_with, fits_with}
-use Rattle.book.specs.Order.{each_once}
 use Rattle.book.proofs.Entries.{text_ties, tie-bytes_eq}
 use Rattle.book.proofs.Order.{contains-each_once, sorted-each_once, find-made}
 use Rattle.balancing.specs.Values.{Value, absolute, absolute_value}

@@ -1,10 +1,7 @@
 -- The walk over groups, by transactions as they are written.
-use Rattle.std.proofs.Common.{◌≡◌, ℕ, zero, suc, ◌+◌, ◌<◌, ◌≤◌, Bool, true, false, ◌||◌, ◌&&◌, cond, List, [], ◌∷◌, ◌++◌, map, length, get_or, drop, Option, Some, None, is_some, refl, sym, ap, ◌∙◌, subst, arith, drop-cons, add-one}
-use Rattle.std.specs.List.{slice_get, list_any, AllByRecursion}
-use Rattle.std.specs.Ordering.{eq_by_cmp, is_eq, nat_cmp, ordering_then}
-use Rattle.std.specs.Cmp.{nat_cmp_total}
-use Rattle.std.proofs.lemmas.Bool.{false≢true, or_parts}
-use Rattle.std.proofs.lemmas.Cmp.{tied_itself}
+use Rattle.std.proofs.Common.{◌≡◌, ℕ, zero, suc, ◌+◌, ◌<◌, ◌≤◌, Bool, true, false, List, [], ◌∷◌, ◌++◌, length, get_or, drop, Option, Some, None, is_some, refl, sym, ap, ◌∙◌, subst, arith, drop-cons, add-one}
+use Rattle.std.specs.List.{slice_get, AllByRecursion}
+use Rattle.std.proofs.lemmas.Bool.{false≢true}
 use Rattle.std.proofs.lemmas.List.{append_assoc, append-nil}
 use Rattle.book.specs.declared.fault.Cause.{Cause}
 use Rattle.book.specs.declared.fault.Cause.TheVariants as cause
@@ -15,15 +12,14 @@ use Rattle.book.specs.Order.{each_once}
 use Rattle.balancing.specs.Values.{Value}
 use Rattle.balancing.specs.Tally.{turnover_fits}
 use Rattle.balancing.specs.Turnover.{IsTurnover}
-use Rattle.balancing.specs.Entry.{cause_alone, has_two_missing, costs_fit, solved}
-use Rattle.balancing.specs.Groups.{Group, group_cmp, groups_by, groups_from, groups_of, day_of}
+use Rattle.balancing.specs.Entry.{cause_alone, has_two_missing, costs_fit}
+use Rattle.balancing.specs.Groups.{Group, group_cmp, groups_by, groups_from}
 use Rattle.balancing.specs.Load.{settled, moved_on, moved_of_group, group_cause, fault_at, fault_of_group, first_fault, or_else_fault}
 use Rattle.balancing.specs.Settled.{lacks_sums, IsSettled, AreSettled}
 use Rattle.balancing.specs.Walk.{IsRead, IsJudged, IsVisited, IsWalked, IsTold, moved_before}
 use Rattle.balancing.proofs.Adding.{turnover_none, turnover_within}
 use Rattle.balancing.proofs.Causes.{cause_two, cause_costs}
 use Rattle.balancing.proofs.Covers.{solved_costs_fit}
-use Rattle.balancing.proofs.Ordered.{same_group}
 
 -- ---- settled transactions by their numbers
 

@@ -1,5 +1,5 @@
 -- A text without a fault: each of its transactions has what was found.
-use Rattle.std.proofs.Common.{◌≡◌, ℕ, zero, suc, ◌+◌, Bool, true, false, ◌||◌, List, [], ◌∷◌, ◌++◌, map, Option, Some, None, Result, Ok, Err, refl, sym, ap, ◌∙◌, subst, arith}
+use Rattle.std.proofs.Common.{◌≡◌, ℕ, zero, suc, ◌+◌, Bool, true, false, ◌||◌, List, [], ◌∷◌, ◌++◌, map, Option, Some, None, Ok, Err, refl, sym, ap, ◌∙◌, subst, arith}
 use Rattle.std.specs.declared.cmp.Ordering.TheVariants.{Less, Equal, Greater}
 use Rattle.std.specs.declared.cmp.Ordering.{Ordering}
 use Rattle.std.specs.List.{slice_get, list_any}
@@ -8,7 +8,6 @@ use Rattle.std.specs.FinMap.{IsAntisymmetric, nat_cmp-IsAntisymmetric}
 use Rattle.std.proofs.lemmas.Bool.{false≢true}
 use Rattle.book.specs.declared.fault.Cause.{Cause}
 use Rattle.book.specs.declared.fault.Fault.{Fault}
-use Rattle.book.specs.declared.item.Book.{Book}
 use Rattle.book.specs.declared.transaction.Posting.{Posting}
 use Rattle.book.specs.declared.transaction.Txn.{Txn}
 use Rattle.book.specs.Order.{each_once}
@@ -18,7 +17,7 @@ use Rattle.balancing.specs.Tally.{turnover_fits}
 use Rattle.balancing.specs.Entry.{cause_alone}
 use Rattle.balancing.specs.Groups.{Group, group_cmp, groups_by, groups_from, groups_of, day_of}
 use Rattle.balancing.specs.Load.{settled, moved_on, moved_of_group, group_cause, fault_at, fault_of_group, first_fault, or_else_fault, loaded, book_of}
-use Rattle.balancing.specs.Settled.{lacks_sums, IsSettled, AreSettled}
+use Rattle.balancing.specs.Settled.{lacks_sums, AreSettled}
 use Rattle.std.proofs.lemmas.List.{append-nil}
 use Rattle.balancing.specs.Walk.{IsRead, IsTold}
 use Rattle.balancing.proofs.Ordered.{same_group}

@@ -1,5 +1,5 @@
 -- The balance of one transaction: what its missing amounts and costs are, or why it has none.
-use Rattle.std.specs.Prelude.{ℕ, ℤ, pos, ◌==◌, nat_lt, count_by, Bool, true, false, not, ◌&&◌, ◌||◌, int_lt, unsigned_abs, max, List, [], ◌∷◌, ◌++◌, map, filter, Option, Some, None, is_some, is_none, Result, Ok, Err, if◌then◌else◌}
+use Rattle.std.specs.Prelude.{ℕ, pos, ◌==◌, nat_lt, count_by, Bool, true, false, not, ◌&&◌, ◌||◌, int_lt, unsigned_abs, max, List, [], ◌∷◌, ◌++◌, map, filter, Option, Some, None, is_some, is_none, Result, Ok, Err, if◌then◌else◌}
 use Rattle.std.specs.List.{flat_map, fold, list_all}
 use Rattle.std.specs.Str.{bytes_eq}
 use Rattle.hl_num.specs.Decimal.{Decimal, negated}
@@ -14,7 +14,7 @@ use Rattle.book.specs.declared.transaction.Side.{Side}
 use Rattle.book.specs.declared.transaction.Side.TheVariants.{Real, Balanced, Free}
 use Rattle.book.specs.declared.fault.Cause.{Cause}
 use Rattle.book.specs.declared.fault.Cause.TheVariants as cause
-use Rattle.balancing.specs.Values.{Value, value_of, at_cost, cost_of, cost_fits, cost_values, absolute_value, amount_in}
+use Rattle.balancing.specs.Values.{Value, value_of, at_cost, cost_fits, cost_values, absolute_value, amount_in}
 use Rattle.balancing.specs.Tally.{numbers_of, no_sum, sums_of, turnover_fits}
 
 -- ---- sides

@@ -1,5 +1,5 @@
 -- What is known while groups are judged one after another.
-use Rattle.std.specs.Prelude.{◌≡◌, ◌≤◌, ℕ, Bool, true, false, List, [], ◌∷◌, ◌++◌, map, Option, Some, None}
+use Rattle.std.specs.Prelude.{◌≡◌, ◌≤◌, ℕ, true, List, [], ◌∷◌, ◌++◌, Option, None}
 use Rattle.std.specs.List.{slice_get, AllByRecursion}
 use Rattle.book.specs.declared.fault.Cause.{Cause}
 use Rattle.book.specs.declared.fault.Fault.{Fault}

@@ -1,15 +1,11 @@
 //! What two files open as.
-ghost use Rattle.std.specs.Prelude.{◌≤◌, ◌^◌, IfOk};
 ghost use Rattle.text_store.specs.Changes.{HasShortName};
 
-use hl_base::{Bytes, Disk, List, MemDisk, Memory, Splice};
+use crate::files::{MADE, files_of, is_shown, keep, opened, splice};
+use hl_base::{MemDisk, Memory};
 use std::alloc::Global;
 use std::test::Fail;
-use text_store::{Change, Image, Store, StoreFault};
-
-/// The empty text in a store with a limit of 1048576, with an open gate behind it.
-const OPEN: [u8; 47] =
-    *b"HLSTORE\x02\0\0\x10\0\0\0\0\0\x01\0\0\0\0\0\0\0\0\0\0\0\0\0\0\0\x01C\x04\0\0\0\0\0\0\0\0\0\0\0\x01";
+use text_store::{Change, Store, StoreFault};
 
 // The revision of the image of two files, of which the second is empty, or why there is none.
 fn revision_of(alloc: Global, first: &[u8]) -> Result<u64, StoreFault> {
@@ -27,7 +23,8 @@ fn revision_of(alloc: Global, first: &[u8]) -> Result<u64, StoreFault> {
 
 // A store of the empty text with a record behind its open gate.
 fn with_record(alloc: Global, record: &[u8]) -> Result<Vec<u8>, Memory> {
-    let mut file = Vec::from_slice(alloc, &OPEN)?;
+    let mut file = Vec::from_slice(alloc, &MADE[..46])?;
+    file.push(1)?;
     file.extend_from_slice(record)?;
     file.push(0)?;
     Ok(file)
@@ -41,13 +38,19 @@ fn a_good_record_counts(rt: HostRuntime) -> Result<(), Fail> {
     Ok(())
 }
 
+// The gate of the first bad record behind a store of the empty text is the one that is named.
+fn is_bad(alloc: Global, records: &[u8], at: u64) -> Result<(), Fail> {
+    let file = with_record(alloc, records)?;
+    if revision_of(alloc, &file) != Err(StoreFault::NotAStore { at }) {
+        return Err(Fail::new("its gate is named"));
+    }
+    Ok(())
+}
+
 // Each record is bad, and its gate is named.
-fn are_bad(alloc: Global, records: &[&[u8]]) -> Result<(), Fail> {
-    for record in records {
-        let file = with_record(alloc, record)?;
-        if revision_of(alloc, &file) != Err(StoreFault::NotAStore { at: 46 }) {
-            return Err(Fail::new("its gate is named"));
-        }
+fn are_bad(alloc: Global, rows: &[(&[u8], u64)]) -> Result<(), Fail> {
+    for (records, at) in rows {
+        is_bad(alloc, records, *at)?;
     }
     Ok(())
 }
@@ -57,15 +60,59 @@ fn the_gate_of_a_bad_record_is_named(rt: HostRuntime) -> Result<(), Fail> {
     are_bad(
         rt.alloc(),
         &[
-            // a splice outside the text
-            b"S\x10\0\0\0\0\0\0\0\x01\0\0\0\0\0\0\0\0\0\0\0\0\0\0\0".as_slice(),
+            // a splice outside the text, by its place and by what it removes
+            (
+                b"S\x10\0\0\0\0\0\0\0\x01\0\0\0\0\0\0\0\0\0\0\0\0\0\0\0".as_slice(),
+                46,
+            ),
+            (
+                b"S\x10\0\0\0\0\0\0\0\0\0\0\0\0\0\0\0\x01\0\0\0\0\0\0\0".as_slice(),
+                46,
+            ),
             // a short payload
-            b"S\x03\0\0\0\0\0\0\0abc".as_slice(),
+            (b"S\x03\0\0\0\0\0\0\0abc".as_slice(), 46),
+            (b"I\x04\0\0\0\0\0\0\0\0\0\0\0".as_slice(), 46),
             // a name that isn't UTF-8
-            b"I\x1d\0\0\0\0\0\0\0\x01\0\0\0\xff\0\0\0\0\0\0\0\0\0\0\0\0\0\0\0\0\0\0\0\0\0\0\0\0".as_slice(),
-            // no kind of a record
-            b"X\0\0\0\0\0\0\0\0".as_slice(),
+            (
+                b"I\x1d\0\0\0\0\0\0\0\x01\0\0\0\xff\0\0\0\0\0\0\0\0\0\0\0\0\0\0\0\0\0\0\0\0\0\0\0\0".as_slice(),
+                46,
+            ),
+            // no kind of a record behind the first
+            (b"X\0\0\0\0\0\0\0\0".as_slice(), 46),
+            (b"C\x04\0\0\0\0\0\0\0\0\0\0\0".as_slice(), 46),
+            // the second record: a whole text of two bytes, and a splice outside it
+            (
+                b"T\x02\0\0\0\0\0\0\0a\n\x01S\x10\0\0\0\0\0\0\0\x03\0\0\0\0\0\0\0\0\0\0\0\0\0\0\0".as_slice(),
+                58,
+            ),
         ],
+    )
+}
+
+// A first file is no store, with this place.
+fn is_refused(alloc: Global, first: &[u8], at: u64) -> Result<(), Fail> {
+    if revision_of(alloc, first) != Err(StoreFault::NotAStore { at }) {
+        return Err(Fail::new("the place is named"));
+    }
+    Ok(())
+}
+
+#[test]
+fn an_older_store_is_refused_with_a_place(rt: HostRuntime) -> Result<(), Fail> {
+    let alloc = rt.alloc();
+
+    // too short, a first record that isn't open, another kind, and a short payload behind a good first
+    is_refused(alloc, b"HLSTORE\x01\0\0\x10\0\0\0\0\0", 0)?;
+    is_refused(alloc, b"HLSTORE\x01\0\0\x10\0\0\0\0\0\0", 16)?;
+    is_refused(
+        alloc,
+        b"HLSTORE\x01\0\0\x10\0\0\0\0\0\x01S\0\0\0\0\0\0\0\0\0",
+        16,
+    )?;
+    is_refused(
+        alloc,
+        b"HLSTORE\x01\0\0\x10\0\0\0\0\0\x01T\0\0\0\0\0\0\0\0\x01S\0\0\0\0\0\0\0\0\0",
+        26,
     )
 }
 
@@ -82,13 +129,11 @@ fn other_files_are_refused(rt: HostRuntime) -> Result<(), Fail> {
     Ok(())
 }
 
-// What a file reads as.
-fn reads_as(disk: MemDisk, bytes: &[u8]) -> Result<(), Fail> {
-    let mut disk = disk;
-    let mut room = [0u8; 64];
-    let count = disk.read(0, &mut room)?;
-    if &room[..count] != bytes {
-        return Err(Fail::new("the file has these bytes"));
+// The files of a store read as these bytes.
+fn read_as(store: Store<MemDisk>, first: &[u8], second: &[u8]) -> Result<(), Fail> {
+    let (left, right) = store.close();
+    if left.as_slice() != first || right.as_slice() != second {
+        return Err(Fail::new("the files have these bytes"));
     }
     Ok(())
 }
@@ -103,81 +148,91 @@ fn an_older_store_is_renewed_in_the_second_file(rt: HostRuntime) -> Result<(), F
     };
     assert_eq!(rt; image.revision, 0);
     assert_eq!(rt; store.limit(), 1048576);
-    let (first, second) = store.close();
-    reads_as(first, older)?;
-    let mut renewed = OPEN;
-    renewed[46] = 0;
-    reads_as(second, &renewed)
+    read_as(store, older, &MADE)
 }
 
-// A splice at the text's start.
-fn splice(alloc: Global, removed: u64, inserted: &[u8]) -> Result<Change, Memory>
-    ensures { IfOk result (λ change. HasShortName change) }
-{
-    Ok(Change::Splice(Splice {
-        at: 0,
-        removed,
-        inserted: Bytes::copied(alloc, inserted)?,
-    }))
-}
+/// An entry of 68 bytes.
+const ENTRY: [u8; 68] = *b"2024-01-05 bread\n    expenses:food  10 EUR\n    assets:cash  -10 EUR\n";
 
-// The size of a store with a change more.
-fn put(alloc: Global, store: &mut Store<MemDisk>, change: &Change) -> Result<u64, Fail>
-    requires { HasShortName change.now }
-{
-    if store.needs_repair() {
-        return Err(Fail::new("no repair is due"));
-    }
-    store.append(alloc, change)?;
-    Ok(store.size())
-}
+/// A store of the empty text with a limit of 250 bytes, to which the entry was added, and from which it was deleted.
+const FIRST: [u8; 167] =
+    *b"HLSTORE\x02\xfa\0\0\0\0\0\0\0\x01\0\0\0\0\0\0\0\0\0\0\0\0\0\0\0\x01C\x04\0\0\0\0\0\0\0\0\0\0\0\x01S\x54\0\0\0\0\0\0\0\0\0\0\0\0\0\0\0\0\0\0\0\0\0\0\x002024-01-05 bread\n    expenses:food  10 EUR\n    assets:cash  -10 EUR\n\x01S\x10\0\0\0\0\0\0\0\0\0\0\0\0\0\0\0\x44\0\0\0\0\0\0\0\0";
 
-// Writes the empty text into the other file of a store.
-fn keep_empty(alloc: Global, store: &mut Store<MemDisk>, revision: u64) -> Result<(), Fail>
-    requires { revision ≤ 2 ^ 62 }
-{
-    if store.needs_repair() {
-        return Err(Fail::new("no repair is due"));
-    }
-    let image = Image {
-        text: Bytes::copied(alloc, b"")?,
-        latest: List::new(alloc),
-        revision,
-    };
-    store.checkpoint(alloc, &image)?;
-    Ok(())
-}
+/// The other file: the empty text at revision 2, of the second generation, to which the entry was added.
+const SECOND: [u8; 141] =
+    *b"HLSTORE\x02\xfa\0\0\0\0\0\0\0\x02\0\0\0\0\0\0\0\x02\0\0\0\0\0\0\0\x01C\x04\0\0\0\0\0\0\0\0\0\0\0\x01S\x54\0\0\0\0\0\0\0\0\0\0\0\0\0\0\0\0\0\0\0\0\0\0\x002024-01-05 bread\n    expenses:food  10 EUR\n    assets:cash  -10 EUR\n\0";
 
-// A store of the empty text with a limit of 250 bytes.
-fn small_store(alloc: Global) -> Result<Store<MemDisk>, Fail> {
+// A store of the empty text with a limit in bytes.
+fn made(alloc: Global, limit: u64) -> Result<Store<MemDisk>, Fail> {
     let first = MemDisk::new(alloc, b"", 250, None, &[])?;
     let second = MemDisk::new(alloc, b"", 250, None, &[])?;
-    match Store::create(alloc, first, second, b"", 250) {
+    match Store::create(alloc, first, second, b"", limit) {
         Ok(store) => Ok(store),
         Err((_first, _second, _fault)) => Err(Fail::new("it is made")),
     }
 }
 
-// The revision and the size of a store that is opened again.
-fn opened_again(alloc: Global, store: Store<MemDisk>) -> Result<(u64, u64), Fail> {
-    let (first, second) = store.close();
-    match Store::open(alloc, first, second) {
-        Ok((store, image)) => Ok((image.revision, store.size())),
-        Err((_first, _second, _fault)) => Err(Fail::new("it opens")),
+// The size of a store with a change more, or why it isn't made.
+fn put(
+    alloc: Global,
+    store: &mut Store<MemDisk>,
+    change: &Change,
+) -> Result<Result<u64, StoreFault>, Fail>
+    requires { HasShortName change.now }
+{
+    if store.needs_repair() {
+        return Err(Fail::new("no repair is due"));
+    }
+    match store.append(alloc, change) {
+        Ok(()) => Ok(Ok(store.size())),
+        Err(fault) => Ok(Err(fault)),
     }
 }
 
 #[test]
+fn a_new_store_has_47_bytes(rt: HostRuntime) -> Result<(), Fail> {
+    let store = made(rt.alloc(), 1048576)?;
+    assert_eq!(rt; store.size(), 47);
+    read_as(store, &MADE, b"")
+}
+
+// What comes of an entry that is added to an empty store with a limit.
+fn added(alloc: Global, limit: u64) -> Result<Result<u64, StoreFault>, Fail> {
+    let add = splice(alloc, 0, &ENTRY)?;
+    let mut store = made(alloc, limit)?;
+    put(alloc, &mut store, &add)
+}
+
+#[test]
+fn a_store_is_filled_to_its_limit(rt: HostRuntime) -> Result<(), Fail> {
+    assert_eq!(rt; added(rt.alloc(), 141)?, Ok(141));
+    assert_eq!(rt;
+        added(rt.alloc(), 140)?,
+        Err(StoreFault::Full {
+            size: 141,
+            limit: 140
+        })
+    );
+    Ok(())
+}
+
+#[test]
 fn a_full_half_is_followed_by_the_next_generation(rt: HostRuntime) -> Result<(), Fail> {
-    let entry = b"2024-01-05 * Shops\n    food  10.00 EUR\n    assets:bank  -10.00 EUR\n1";
-    let add = splice(rt.alloc(), 0, entry.as_slice())?;
+    let add = splice(rt.alloc(), 0, &ENTRY)?;
     let delete = splice(rt.alloc(), 68, b"")?;
-    let mut store = small_store(rt.alloc())?;
-    assert_eq!(rt; put(rt.alloc(), &mut store, &add)?, 141);
-    assert_eq!(rt; put(rt.alloc(), &mut store, &delete)?, 167);
+    let mut store = made(rt.alloc(), 250)?;
+    assert_eq!(rt; put(rt.alloc(), &mut store, &add)?, Ok(141));
+    assert_eq!(rt; put(rt.alloc(), &mut store, &delete)?, Ok(167));
     assert!(rt; store.due(94, 47));
-    keep_empty(rt.alloc(), &mut store, 2)?;
-    assert_eq!(rt; put(rt.alloc(), &mut store, &add)?, 141);
-    assert_eq!(rt; opened_again(rt.alloc(), store)?, (3, 141));
+    assert!(rt; keep(rt.alloc(), &mut store, b"", 2)?);
+    assert_eq!(rt; put(rt.alloc(), &mut store, &add)?, Ok(141));
+    read_as(store, &FIRST, &SECOND)
+}
+
+#[test]
+fn the_second_half_is_chosen(rt: HostRuntime) -> Result<(), Fail> {
+    let files = files_of(rt.alloc(), &FIRST, &SECOND)?;
+    let image = opened(rt.alloc(), files.first, files.second)?;
+    assert!(rt; is_shown(&image, Some((3, &ENTRY))));
     Ok(())
 }

@@ -1,90 +1,183 @@
-//! A stop or a fault at each call of a disk, and then an opening.
-ghost use Rattle.std.specs.Prelude.{IfOk};
-ghost use Rattle.text_store.specs.Changes.{HasShortName};
+//! A stop before and inside each call of a disk, and then an opening.
+ghost use Rattle.std.specs.Prelude.{◌<◌};
 
-use hl_base::{Bytes, MemDisk, Memory, Splice};
+use crate::files::{
+    Deed, Files, MADE, Shown, acknowledged, again, calls, failing, files_of, is_shown, stopped,
+    tried,
+};
 use std::alloc::Global;
 use std::test::Fail;
-use text_store::{Change, Store};
 
-fn line(alloc: Global) -> Result<Change, Memory>
-    ensures { IfOk result (λ change. HasShortName change) }
+/// How many bytes of a piece have reached the file: none, its first, parts and more than any piece has.
+const PARTS: [u64; 6] = [0, 1, 9, 20, 32, 200];
+
+// Stopped inside a call, the files have the one image or the other.
+fn stops_inside(
+    alloc: Global,
+    files: &Files,
+    in_second: bool,
+    call: u64,
+    images: (Shown, Shown),
+) -> Result<(), Fail>
+    requires { 0 < call }
 {
-    Ok(Change::Splice(Splice {
-        at: 0,
-        removed: 0,
-        inserted: Bytes::copied(alloc, b"a\n")?,
-    }))
-}
-
-// The revision of the image of two files.
-fn revision_of(alloc: Global, first: MemDisk, second: MemDisk) -> Result<u64, Fail> {
-    match Store::open(alloc, first, second) {
-        Ok((_store, image)) => Ok(image.revision),
-        Err((_first, _second, _fault)) => Err(Fail::new("it opens")),
-    }
-}
-
-// A new store to which a line was added.
-fn with_line(alloc: Global, first: MemDisk, second: MemDisk) -> Result<(MemDisk, MemDisk), Fail> {
-    match Store::create(alloc, first, second, b"", 250) {
-        Ok(mut store) => {
-            store.append(alloc, &line(alloc)?)?;
-            Ok(store.close())
-        }
-        Err((_first, _second, _fault)) => Err(Fail::new("it is made")),
-    }
-}
-
-// Stopped at a call of the append with so many bytes written, the image is the old one or the new.
-fn stops_at(alloc: Global, first: &MemDisk, second: &MemDisk, bytes: u64) -> Result<(), Fail> {
-    for call in 11u64..17 {
-        let left = first.stopped(alloc, call, bytes)?;
-        let beside = second.stopped(alloc, 100, 0)?;
-        let revision = revision_of(alloc, left, beside)?;
-        if revision > 1 || revision == 0 && call > first.calls() {
-            return Err(Fail::new("the old image or the new, and the new once it is acknowledged"));
+    for bytes in PARTS {
+        let image = stopped(alloc, files, in_second, call, bytes)?;
+        if !is_shown(&image, images.0) && !is_shown(&image, images.1) {
+            return Err(Fail::new("the one image or the other"));
         }
     }
     Ok(())
 }
 
-#[test]
-fn a_stop_leaves_the_old_image_or_the_new(rt: HostRuntime) -> Result<(), Fail> {
-    let first = MemDisk::new(rt.alloc(), b"", 300, Some((40, 400)), &[])?;
-    let second = MemDisk::new(rt.alloc(), b"", 300, Some((40, 400)), &[])?;
-    let (first, second) = with_line(rt.alloc(), first, second)?;
-    stops_at(rt.alloc(), &first, &second, 0)?;
-    stops_at(rt.alloc(), &first, &second, 1)?;
-    stops_at(rt.alloc(), &first, &second, 30)
-}
-
-// Opens a store, adds a line, and gives the files back, whatever fails.
-fn tried(alloc: Global, first: MemDisk, second: MemDisk) -> Result<(MemDisk, MemDisk), Memory> {
-    let change = line(alloc)?;
-    match Store::open(alloc, first, second) {
-        Ok((mut store, _image)) => {
-            if store.append(alloc, &change).is_err() {
-                let _repaired = store.repair();
-            }
-            Ok(store.close())
+// Stopped at any call of a file, the files have the old image or the new, and the new one once all calls were made.
+fn stops(
+    alloc: Global,
+    files: &Files,
+    in_second: bool,
+    old: Shown,
+    new: Shown,
+) -> Result<(), Fail> {
+    let calls = if in_second {
+        files.second.calls()
+    } else {
+        files.first.calls()
+    };
+    for before in 0..calls {
+        if before < 1000 {
+            stops_inside(alloc, files, in_second, before + 1, (old, new))?;
         }
-        Err((first, second, _fault)) => Ok((first, second)),
     }
-}
-
-#[test]
-fn a_fault_at_each_call_leaves_a_store(rt: HostRuntime) -> Result<(), Fail> {
-    let made =
-        b"HLSTORE\x02\0\0\x10\0\0\0\0\0\x01\0\0\0\0\0\0\0\0\0\0\0\0\0\0\0\x01C\x04\0\0\0\0\0\0\0\0\0\0\0\0".as_slice();
-    for call in 1u64..14 {
-        let first = MemDisk::new(rt.alloc(), made, 300, None, &[call])?;
-        let second = MemDisk::new(rt.alloc(), b"", 300, None, &[call])?;
-        let (first, second) = tried(rt.alloc(), first, second)?;
-        let first = first.stopped(rt.alloc(), 1, 0)?;
-        let second = second.stopped(rt.alloc(), 1, 0)?;
-        let revision = revision_of(rt.alloc(), first, second)?;
-        assert!(rt; revision <= 1);
+    if !is_shown(&stopped(alloc, files, in_second, u64::MAX, 0)?, new) {
+        return Err(Fail::new("the new image once it is acknowledged"));
     }
     Ok(())
+}
+
+// Files in the second of which a text is kept at revision 2.
+fn kept(alloc: Global) -> Result<Files, Fail> {
+    let made = files_of(alloc, &MADE, b"")?;
+    acknowledged(tried(alloc, made, Deed::Keep(2))?)
+}
+
+#[test]
+fn a_stop_in_create(rt: HostRuntime) -> Result<(), Fail> {
+    let empty = files_of(rt.alloc(), b"", b"")?;
+    let files = acknowledged(tried(rt.alloc(), empty, Deed::Create)?)?;
+    assert!(rt; files.first.calls() >= 10);
+    stops(rt.alloc(), &files, false, None, Some((0, b"b\n")))?;
+    stops(
+        rt.alloc(),
+        &files,
+        true,
+        Some((0, b"b\n")),
+        Some((0, b"b\n")),
+    )
+}
+
+#[test]
+fn a_stop_in_append(rt: HostRuntime) -> Result<(), Fail> {
+    let made = files_of(rt.alloc(), &MADE, b"")?;
+    let files = acknowledged(tried(rt.alloc(), made, Deed::Append)?)?;
+    stops(rt.alloc(), &files, false, Some((0, b"")), Some((1, b"a\n")))
+}
+
+#[test]
+fn a_stop_in_checkpoint(rt: HostRuntime) -> Result<(), Fail> {
+    let files = kept(rt.alloc())?;
+    assert!(rt; files.second.calls() >= 10);
+    stops(rt.alloc(), &files, true, Some((0, b"")), Some((2, b"b\n")))
+}
+
+#[test]
+fn a_stop_in_the_checkpoint_back(rt: HostRuntime) -> Result<(), Fail> {
+    let kept = again(rt.alloc(), &kept(rt.alloc())?)?;
+    let files = acknowledged(tried(rt.alloc(), kept, Deed::Keep(7))?)?;
+    stops(
+        rt.alloc(),
+        &files,
+        false,
+        Some((2, b"b\n")),
+        Some((7, b"b\n")),
+    )
+}
+
+#[test]
+fn a_stop_in_append_to_the_second_file(rt: HostRuntime) -> Result<(), Fail> {
+    let kept = again(rt.alloc(), &kept(rt.alloc())?)?;
+    let files = acknowledged(tried(rt.alloc(), kept, Deed::Append)?)?;
+    stops(
+        rt.alloc(),
+        &files,
+        true,
+        Some((2, b"b\n")),
+        Some((3, b"a\nb\n")),
+    )
+}
+
+// A fault at a call of a deed to a new store, and a repair: stopped at any call the files have the one image or the
+// other, and the old one once they are repaired.
+fn stops_in_repair(
+    alloc: Global,
+    in_second: bool,
+    deed: Deed,
+    call: u64,
+    new: Shown,
+) -> Result<(), Fail> {
+    let files = failing(alloc, &MADE, b"", in_second, &[call])?;
+    let (acknowledged, files) = tried(alloc, files, deed)?;
+    if acknowledged {
+        return Err(Fail::new("the fault is told"));
+    }
+    stops(alloc, &files, in_second, new, Some((0, b"")))
+}
+
+// The same for each call of the deed behind those of the opening.
+fn stops_in_repairs(
+    alloc: Global,
+    in_second: bool,
+    deed: Deed,
+    count: u64,
+    new: Shown,
+) -> Result<(), Fail> {
+    let opening = calls(alloc, in_second, Deed::Open)?;
+    let all = calls(alloc, in_second, deed)?;
+    if all != opening.saturating_add(count) {
+        return Err(Fail::new("the deed has so many calls"));
+    }
+    for before in opening..all {
+        stops_in_repair(alloc, in_second, deed, before.saturating_add(1), new)?;
+    }
+    Ok(())
+}
+
+#[test]
+fn a_stop_in_the_repair_of_an_append(rt: HostRuntime) -> Result<(), Fail> {
+    stops_in_repairs(rt.alloc(), false, Deed::Append, 4, Some((1, b"a\n")))
+}
+
+#[test]
+fn a_stop_in_the_repair_of_a_checkpoint(rt: HostRuntime) -> Result<(), Fail> {
+    stops_in_repairs(rt.alloc(), true, Deed::Keep(2), 8, Some((2, b"b\n")))
+}
+
+// Stopped at any call of an opening, the files have the image.
+fn stops_in_open(alloc: Global, first: &[u8], in_second: bool, image: Shown) -> Result<(), Fail> {
+    let found = files_of(alloc, first, b"")?;
+    let files = acknowledged(tried(alloc, found, Deed::Open)?)?;
+    stops(alloc, &files, in_second, image, image)
+}
+
+#[test]
+fn a_stop_in_open(rt: HostRuntime) -> Result<(), Fail> {
+    let torn =
+        b"HLSTORE\x02\0\0\x10\0\0\0\0\0\x01\0\0\0\0\0\0\0\0\0\0\0\0\0\0\0\x01C\x04\0\0\0\0\0\0\0\0\0\0\0\x01S\x12\0\0".as_slice();
+    stops_in_open(rt.alloc(), torn, false, Some((0, b"")))?;
+    stops_in_open(rt.alloc(), &MADE, false, Some((0, b"")))
+}
+
+#[test]
+fn a_stop_in_the_opening_of_an_older_store(rt: HostRuntime) -> Result<(), Fail> {
+    let older = b"HLSTORE\x01\0\0\x10\0\0\0\0\0\x01T\x02\0\0\0\0\0\0\0b\n\0".as_slice();
+    stops_in_open(rt.alloc(), older, true, Some((0, b"b\n")))
 }

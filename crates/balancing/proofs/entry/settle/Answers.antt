@@ -1,11 +1,10 @@
-use Rattle.std.proofs.Common.{◌≡◌, List, Bool, true, false, refl, sym, ap, ◌∙◌, subst}
+use Rattle.std.proofs.Common.{◌≡◌, List, true, false, refl, sym, ap, ◌∙◌, subst}
 use Rattle.std.proofs.lemmas.Bool.{false≢true}
 use Rattle.book.specs.declared.fault.Cause.TheVariants as cause
 use Rattle.book.specs.declared.transaction.Posting.{Posting}
 use Rattle.book.specs.declared.transaction.Side.TheVariants.{Real, Balanced}
 use Rattle.balancing.specs.Tally.{IsRange, turnover_fits}
 use Rattle.balancing.specs.Entry.{has_two_missing, costs_fit, moved, solved, side_values}
-use Rattle.balancing.specs.Settled.{IsSettled}
 use Rattle.balancing.proofs.Adding.{false-from}
 use Rattle.balancing.proofs.Causes.{if_ok, cause_range, faulty_settled}
 use Rattle.balancing.proofs.Covers.{side_fits}

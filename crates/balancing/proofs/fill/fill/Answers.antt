@@ -1,4 +1,4 @@
-use Rattle.std.proofs.Common.{◌≡◌, ℕ, List, map, Option, None, not, false, true, is_none, sym, ap, ◌∙◌, rules}
+use Rattle.std.proofs.Common.{ℕ, List, map, Option, not, sym, ap, ◌∙◌}
 use Rattle.std.specs.List.{flat_map, list_all}
 use Rattle.std.proofs.lemmas.List.{with_items_is}
 use Rattle.book.specs.declared.transaction.Posting.{Posting}

@@ -1,4 +1,4 @@
-use Rattle.std.proofs.Common.{◌≡◌, ◌++◌, List, map, take, drop, set, get_or, ap, ◌∙◌}
+use Rattle.std.proofs.Common.{◌++◌, List, map, take, drop, set, get_or, ap, ◌∙◌}
 use Rattle.std.proofs.lemmas.List.{append-nil, drop_all}
 use Rattle.book.specs.declared.transaction.Posting.{Posting}
 use Rattle.balancing.specs.Fill.{filled_in_place}

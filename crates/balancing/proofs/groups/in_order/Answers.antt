@@ -1,4 +1,4 @@
-use Rattle.std.proofs.Common.{◌≡◌, true, List, sym, ap, ◌∙◌}
+use Rattle.std.proofs.Common.{sym, ap, ◌∙◌}
 use Rattle.balancing.specs.Groups.{is_rising}
 use Rattle.balancing.proofs.Ordered.{rising-is}
 use Rattle.balancing.proofs.groups.in_order.Goals as goal

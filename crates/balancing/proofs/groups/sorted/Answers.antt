@@ -1,4 +1,4 @@
-use Rattle.std.proofs.Common.{◌≡◌, List, length, get_or, ◌-◌, sym, ap, ◌∙◌}
+use Rattle.std.proofs.Common.{List, length, get_or, ◌-◌, sym, ap, ◌∙◌}
 use Rattle.std.specs.BTreeSet.{insert_key}
 use Rattle.balancing.specs.Groups.{Group, group_cmp}
 use Rattle.balancing.proofs.Ordered.{sorted-more}

@@ -1,4 +1,4 @@
-use Rattle.std.proofs.Common.{◌≡◌, ◌<◌, List, ◌++◌, length, get_or, take, ap, subst}
+use Rattle.std.proofs.Common.{◌≡◌, ◌<◌, List, ◌++◌, length, get_or, take, subst}
 use Rattle.std.specs.List.{flat_map}
 use Rattle.book.specs.declared.transaction.Posting.{Posting}
 use Rattle.balancing.specs.Load.{moved_when}

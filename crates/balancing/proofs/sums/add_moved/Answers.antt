@@ -1,6 +1,6 @@
-use Rattle.std.proofs.Common.{◌≡◌, List, ◌∷◌, [], ◌++◌, false, Option, sym, ap, ◌∙◌}
+use Rattle.std.proofs.Common.{List, ◌∷◌, [], ◌++◌, Option, sym, ap, ◌∙◌}
 use Rattle.book.specs.declared.amount.Amount.{Amount}
-use Rattle.balancing.specs.Values.{Value, value_of, cost_values}
+use Rattle.balancing.specs.Values.{value_of, cost_values}
 use Rattle.balancing.specs.Tally.{turnover_fits}
 use Rattle.balancing.specs.Entry.{from_amount}
 use Rattle.balancing.proofs.Adding.{more_range}

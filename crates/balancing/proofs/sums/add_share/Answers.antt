@@ -1,6 +1,4 @@
-use Rattle.std.proofs.Common.{◌≡◌, ℕ, List, ◌∷◌, [], ◌++◌, cond, Bool, true, false, Option, sym, ap, ◌∙◌, subst}
-use Rattle.hl_num.specs.Decimal.{Decimal}
-use Rattle.book.specs.declared.amount.Amount.{Amount}
+use Rattle.std.proofs.Common.{◌≡◌, List, ◌∷◌, [], ◌++◌, cond, Bool, sym, ap, ◌∙◌}
 use Rattle.balancing.specs.Values.{Value, at_cost}
 use Rattle.balancing.specs.Tally.{sums_of, turnover_fits}
 use Rattle.balancing.specs.Entry.{from_amount, share_of}

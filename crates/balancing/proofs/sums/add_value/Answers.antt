@@ -1,10 +1,8 @@
-use Rattle.std.proofs.Common.{◌≡◌, List, ◌∷◌, [], ◌++◌, false, sym, ap, arith, ◌∙◌}
+use Rattle.std.proofs.Common.{sym, ap, arith, ◌∙◌}
 use Rattle.hl_num.specs.Decimal.{Decimal}
 use Rattle.book.specs.Entries.{held}
 use Rattle.book.specs.Mixed.{fits_with}
-use Rattle.balancing.specs.Values.{Value}
-use Rattle.balancing.specs.Tally.{added_to, turnover_fits, IsRange}
-use Rattle.balancing.specs.Turnover.{IsTurnover}
+use Rattle.balancing.specs.Tally.{added_to}
 use Rattle.balancing.proofs.Adding.{on_both, if_err, moved_more, moved_range}
 use Rattle.balancing.proofs.sums.add_value.Goals as goal
 

@@ -1,4 +1,4 @@
-use Rattle.std.proofs.Common.{◌≡◌, ◌∷◌, [], List, Option, Some, sym, ap, ◌∙◌}
+use Rattle.std.proofs.Common.{◌∷◌, [], List, Option, Some, sym, ap, ◌∙◌}
 use Rattle.std.specs.Ordering.{nat_cmp}
 use Rattle.std.specs.Cmp.Lexicographic.{slice_cmp}
 use Rattle.std.specs.FinMap.Entries.{put}
@@ -6,7 +6,6 @@ use Rattle.std.proofs.lemmas.Result.{err_from_is_err_and}
 use Rattle.hl_num.specs.Decimal.{Decimal}
 use Rattle.book.specs.Entries.{held}
 use Rattle.book.specs.Mixed.{fits_with}
-use Rattle.balancing.specs.Values.{Value}
 use Rattle.balancing.specs.Tally.{named, only_sum, added_to}
 use Rattle.balancing.proofs.Adding.{on_ok}
 use Rattle.balancing.proofs.Named.{Entry}

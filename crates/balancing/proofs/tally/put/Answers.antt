@@ -1,4 +1,4 @@
-use Rattle.std.proofs.Common.{◌≡◌, ap, ◌∙◌}
+use Rattle.std.proofs.Common.{ap, ◌∙◌}
 use Rattle.balancing.specs.Tally.{named}
 use Rattle.balancing.proofs.Named.{named-insert}
 use Rattle.balancing.proofs.tally.put.Goals as goal

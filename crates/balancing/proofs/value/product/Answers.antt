@@ -1,4 +1,4 @@
-use Rattle.std.proofs.Common.{◌≤◌, ◌+◌, ◌*◌, ◌^◌, nat_lt, unsigned_abs, arith, subst}
+use Rattle.std.proofs.Common.{◌≤◌, ◌+◌, ◌*◌, ◌^◌, nat_lt, unsigned_abs, arith}
 use Rattle.std.proofs.lemmas.Bool.{leb-true}
 use Rattle.balancing.proofs.Named.{right_true}
 use Rattle.balancing.proofs.Trimmed.{product-is}

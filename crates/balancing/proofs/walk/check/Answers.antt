@@ -1,9 +1,6 @@
-use Rattle.std.proofs.Common.{◌≡◌, List, Option, Some, None, Ok, sym, ap, ◌∙◌, subst}
-use Rattle.book.specs.declared.fault.Fault.{Fault}
+use Rattle.std.proofs.Common.{List, Ok, sym, ap, ◌∙◌, subst}
 use Rattle.book.specs.declared.transaction.Txn.{Txn}
 use Rattle.book.specs.Postings.{postings_of, txns_of}
-use Rattle.balancing.specs.Groups.{groups_of}
-use Rattle.balancing.specs.Load.{first_fault}
 use Rattle.balancing.proofs.Whole.{told_of, whole_book, book_ok, book_fault}
 use Rattle.balancing.proofs.Turned.{book-fits}
 use Rattle.book.specs.Bounds.{TurnoverFits}

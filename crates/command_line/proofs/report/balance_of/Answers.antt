@@ -11,8 +11,8 @@ returns-in-Ok c =
     let items = c.args.items in
     let book = c.in-Ok.book in
     let loads : load items ≡ Ok book = c.in-Ok.ensures.answer in
-    let texts : book_list items book ≡ c.in_ok-book_list-in-Ok.field-0 =
+    let texts : book_list items book ≡ c.in_ok-list-in-Ok.list =
     ap (λ its. book_list its book) (sym c.as_slice.ensures)
     ∙ (λ i. balance_list (λ symbol. sym (c.in_ok-styles.ensures.styles symbol) i) (rows_of (postings_of book.txns)) (totals_of (postings_of book.txns)))
-    ∙ sym c.in_ok-book_list-in-Ok.ensures in
+    ∙ sym c.in_ok-list-in-Ok.ensures in
     rw loads (refl, texts)
