@@ -1,1 +1,5 @@
 mod Endings
+mod Histories
+mod Made
+mod TalkEndings
+mod Words

@@ -22,6 +22,9 @@ read_fault_line = ended (codes "error: read fault")
 abbrev pub write_fault_line : List ℕ
 write_fault_line = ended (codes "error: write fault")
 
+abbrev pub connection_line : List ℕ
+connection_line = ended (codes "error: connection")
+
 abbrev pub memory_line : List ℕ
 memory_line = ended (codes "error: memory")
 

@@ -1,3 +1,5 @@
 pub mod Answers
+pub mod Commands
 pub mod Errors
 pub mod Output
+pub mod Talks

@@ -1,6 +1,5 @@
 -- What a command answers to a text on its input.
 use Rattle.std.specs.Prelude.{ℕ, ◌+◌, List, [], ◌∷◌, nat_lt, Option, Some, None, Result, Ok, Err, if◌then◌else◌, length, codes}
-use Rattle.std.specs.Str.{bytes_eq}
 use Rattle.hl_base.specs.Items.{items_of}
 use Rattle.book.specs.declared.fault.Fault.{Fault}
 use Rattle.book.specs.declared.item.Placed.{Placed}
@@ -13,6 +12,7 @@ use Rattle.journal_reader.specs.Items.{items_in}
 use Rattle.balancing.specs.Load.{load}
 use Rattle.reports.specs.Cells.{rows_of, totals_of}
 use Rattle.balance_report.specs.BalanceList.{balance_list}
+use Rattle.command_line.specs.Commands.{is_command}
 use Rattle.command_line.specs.Errors.{usage_line, usage_word_line, limit_line, fault_status}
 
 -- what is written: the standard output and the error output, and the exit status
@@ -34,14 +34,14 @@ most_bytes = 16777216
 abbrev pub most_items : ℕ
 most_items = 200000
 
--- the error line of words that have no reading: the one word that reads is `balance`
+-- the error line of words that have no reading: the words that read are `balance` alone and `talk` alone
 abbrev pub usage_after : List (List ℕ) → Option (List ℕ)
 usage_after [] = None
 usage_after (word ∷ words) = Some (usage_word_line word)
 
 abbrev pub usage_of : List (List ℕ) → Option (List ℕ)
 usage_of [] = Some usage_line
-usage_of (word ∷ words) = if bytes_eq word (codes "balance") then usage_after words else Some (usage_word_line word)
+usage_of (word ∷ words) = if is_command word then usage_after words else Some (usage_word_line word)
 
 -- the balance list of a book, in the styles of the text's items
 abbrev pub book_list : List Placed → Book → List ℕ

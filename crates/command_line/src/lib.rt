@@ -5,5 +5,7 @@ mod errors;
 mod program;
 mod refusal;
 mod report;
+mod streams;
+mod talk;
 
 pub use program::{Status, run};

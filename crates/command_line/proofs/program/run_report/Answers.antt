@@ -1,7 +1,7 @@
 use Rattle.std.proofs.Common.{inr, refl, ap, Err}
 use Rattle.command_line.proofs.Endings.{ends, never_done, unread, out_of_memory, unwritten, none_written}
 use Rattle.command_line.specs.Output.{outcome}
-use Rattle.command_line.proofs.program.run.Goals as goal
+use Rattle.command_line.proofs.program.run_report.Goals as goal
 
 pub returns-in-Err-clause-statuses : goal.returns-in-Err-clause-statuses
 returns-in-Err-clause-statuses g c = ends _ _ _ _ _ _ _ c.in-Err.ensures.usage c.refuse.ensures.told

@@ -1,4 +1,4 @@
-use Rattle.nibcactus.proofs.main.Given as goal
+use Rattle.process_run.proofs.run.Given as goal
 
 abbrev pub ghosts-counted : goal.ghosts-counted
 ghosts-counted a = record { name = a.blank.name; parts = a.blank.parts }

@@ -1,0 +1,106 @@
+//! One connection over the input and the output, to a journal in memory that begins empty.
+ghost use Rattle.std.specs.Prelude.{◌≡◌, ◌≢◌, ◌⊎◌, ◌++◌, ℕ, List, [], Some, IfOk, IfSome, length};
+ghost use Rattle.hl_base.specs.Causes.{Rose};
+ghost use Rattle.hl_time.specs.Calendar.{IsDay};
+ghost use Rattle.desk.specs.Desks.{state_of};
+ghost use Rattle.web_desk.specs.Counts.{Counted};
+ghost use Rattle.web_desk.specs.declared.conn_end.ConnEnd.{ConnEnd};
+ghost use Rattle.command_line.specs.Answers.{IsStatus, Says};
+ghost use Rattle.command_line.specs.Talks.{NeverFails, Talks, TellsEnd, begun, room};
+
+use crate::program::Status;
+use crate::streams::Streams;
+use desk::{Allow, Desk};
+use hl_base::{Link, MemClock, MemDisk, Memory, Sink, Source, Steps, write_all};
+use hl_time::Day;
+use std::alloc::Global;
+use std::sync::ledger::Ledger;
+use web_desk::{Alone, ConnEnd, Way, serve_link};
+
+/// The room of each disk, and the limit of the store, in bytes.
+const ROOM: u64 = 67_108_864;
+
+/// The machine of an empty journal in memory, to which entries may be added. With room for it, only want of memory can
+/// refuse it.
+fn machine<L: Ledger>(alloc: Global, steps: &mut Steps<L>) -> Result<Desk<MemDisk>, Memory>
+    ensures begun { IfOk result (λ desk. state_of desk ≡ begun) }
+    ensures sound { IfOk result (λ desk. NeverFails room desk) }
+{
+    let first = MemDisk::new(alloc, &[], ROOM, None, &[])?;
+    let second = MemDisk::new(alloc, &[], ROOM, None, &[])?;
+    match Desk::create(alloc, first, second, &[], ROOM, Allow::Add, steps) {
+        Ok(desk) => Ok(desk),
+        Err(_) => Err(Memory),
+    }
+}
+
+/// Answers the messages that come over a link, on a day, from a journal that begins empty.
+fn talk_over<K: Link, L: Ledger>(
+    alloc: Global,
+    day: Day,
+    link: &mut K,
+    steps: &mut Steps<L>,
+) -> ConnEnd
+    requires { IsDay day.0 }
+    ensures talked { IfSome (K.coming link.old) (λ bytes. IfSome (K.sent link.old) (λ before.
+        (text : List ℕ) × (K.sent link.new ≡ Some (before ++ text)) × Talks day.0 bytes result text)) }
+    ensures counted { Counted result (K.read_faults link.old) (K.read_faults link.new) (K.write_faults link.old) (K.write_faults link.new) }
+    ensures unspent { result ≢ ConnEnd.Spent }
+{
+    let Ok(mut desk) = machine(alloc, steps) else {
+        return ConnEnd::Memory;
+    };
+    let mut ask = Alone { desk: &mut desk };
+    serve_link(alloc, &mut ask, link, &mut MemClock::new(day.0), steps)
+}
+
+/// Writes a line that says how a connection ended; where it can't be written the status is 4.
+fn say<E: Sink>(err: &mut E, status: u8, line: &[u8]) -> Status
+    ensures { Says result.0 status line.now (E.written err.old) (E.written err.new) (E.faults err.old) (E.faults err.new) }
+{
+    match write_all(err, line) {
+        Ok(()) => Status(status),
+        Err(_) => Status(4),
+    }
+}
+
+/// The exit status of an end. Where it isn't a good one its line is written.
+fn tell_end<E: Sink>(err: &mut E, end: ConnEnd) -> Status
+    ensures { TellsEnd end result.0 (E.written err.old) (E.written err.new) (E.faults err.old) (E.faults err.new) }
+{
+    match end {
+        ConnEnd::Closed => Status(0),
+        ConnEnd::LinkFault { way: Way::Read } => say(err, 3, b"error: read fault\n"),
+        ConnEnd::LinkFault { way: Way::Write } => say(err, 4, b"error: write fault\n"),
+        ConnEnd::Memory => say(err, 6, b"error: memory\n"),
+        ConnEnd::BadHead { .. }
+        | ConnEnd::HeadTooLong
+        | ConnEnd::BodyTooLong { .. }
+        | ConnEnd::CutOff { .. }
+        | ConnEnd::Spent
+        | ConnEnd::HeadCut { .. } => say(err, 1, b"error: connection\n"),
+    }
+}
+
+/// One connection over the input and the output, on a day, to a journal that begins empty.
+pub fn talk<J: Source, O: Sink, E: Sink, L: Ledger>(
+    alloc: Global,
+    day: Day,
+    input: &mut J,
+    out: &mut O,
+    err: &mut E,
+    steps: &mut Steps<L>,
+) -> Status
+    requires { IsDay day.0 }
+    ensures statuses { IsStatus result.0 }
+    ensures read { result.0 ≢ 2 }
+    ensures talked { IfSome (J.left input.old) (λ bytes. IfSome (O.written out.old) (λ before.
+        (end : ConnEnd) × (text : List ℕ) × (O.written out.new ≡ Some (before ++ text)) × Talks day.0 bytes end text
+        × TellsEnd end result.0 (E.written err.old) (E.written err.new) (E.faults err.old) (E.faults err.new))) }
+    ensures read_fault { result.0 ≡ 3 → Rose (J.faults input.old) (J.faults input.new) }
+    ensures write_fault { result.0 ≡ 4 → Rose (O.faults out.old) (O.faults out.new) ⊎ Rose (E.faults err.old) (E.faults err.new) }
+{
+    let mut link = Streams { input, output: out };
+    let end = talk_over(alloc, day, &mut link, steps);
+    tell_end(err, end)
+}

@@ -1,0 +1,9 @@
+//! The program, for its stored run of a connection.
+#![tactic(auto)]
+
+use process_run::run_process;
+use std::process::ExitCode;
+
+fn main(rt: HostRuntime) -> ExitCode {
+    run_process(&rt, rt.stdin(), rt.stdout(), rt.stderr())
+}

@@ -1,0 +1,7 @@
+//! A run of the program whose words, day, input and outputs are those of the process.
+#![tactic(auto)]
+
+pub mod run;
+pub mod streams;
+
+pub use run::run_process;
