@@ -76,13 +76,14 @@ const FAULTY: [Row; 2] = [
 const LATER: [Row; 1] = [(Ask::Download, ("text", 1, 0), BREAD)];
 
 /// The tables above.
-struct Tables {
-    added: &'static [Row],
-    refused: &'static [Row],
-    past: &'static [Row],
-    anew: &'static [Row],
-    faulty: &'static [Row],
-    later: &'static [Row],
+#[derive(Drop)]
+struct Tables<'a> {
+    added: &'a [Row],
+    refused: &'a [Row],
+    past: &'a [Row],
+    anew: &'a [Row],
+    faulty: &'a [Row],
+    later: &'a [Row],
 }
 
 fn add(alloc: Global, entry: &[u8]) -> Result<Request, Memory> {
@@ -295,7 +296,7 @@ fn tells_the_words<L: Ledger>(alloc: Global, steps: &mut Steps<L>) -> Result<(),
     }
 }
 
-fn each_request<L: Ledger>(alloc: Global, blank: Blank, tables: &Tables) -> Result<(), Fail>
+fn each_request<L: Ledger>(alloc: Global, blank: Blank, tables: &Tables<'_>) -> Result<(), Fail>
     requires name { blank.name ≡ L.name }
     requires parts { blank.parts ≡ L.parts }
     requires three { blank.parts ≡ 3 }
