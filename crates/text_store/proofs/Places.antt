@@ -1,9 +1,9 @@
 -- Where a place of a text lies in the text's parts.
-use Rattle.std.proofs.Common.{◌≡◌, ◌∙◌, ◌⊎◌, inl, inr, ℕ, zero, suc, ◌+◌, ◌-◌, ◌<◌, ◌≤◌, nat_lt, Bool, true, false, if◌then◌else◌, List, [], ◌∷◌, ◌++◌, length, take, drop, Option, Some, None, Vec, Global, refl, sym, ap, subst, arith, length-append, length-drop, append_assoc, get_or}
+use Rattle.std.proofs.Common.{◌≡◌, ◌∙◌, ◌⊎◌, inl, inr, ℕ, zero, suc, ◌+◌, ◌-◌, ◌<◌, ◌≤◌, nat_lt, Bool, true, false, if◌then◌else◌, List, [], ◌∷◌, ◌++◌, length, take, drop, Option, Some, None, Vec, Global, refl, sym, ap, subst, arith, length-append, length-drop, append_assoc}
 use Rattle.std.proofs.lemmas.Bool.{cases_lt}
 use Rattle.std.proofs.lemmas.Bool.Decides.{nat_tests}
 use Rattle.std.proofs.lemmas.List.{take-append-drop, drop-drop}
-use Rattle.text_store.specs.declared.pieces.Place.{Place}
+use Rattle.text_store.specs.declared.pieces.PlaceInParts.{PlaceInParts}
 use Rattle.text_store.specs.Joined.{joined}
 use Rattle.text_store.specs.Pieces.{place_from, IsInside}
 
@@ -18,7 +18,7 @@ pub record IsPlace (parts : List Part) (at n inside : ℕ) : Type 0 where
   pub behind : drop at (joined parts) ≡ drop inside (joined (drop n parts))
   pub is_inside : IsInside inside (drop n parts)
 
-abbrev pub Found : List Part → ℕ → ℕ → Option Place → Type 0
+abbrev pub Found : List Part → ℕ → ℕ → Option PlaceInParts → Type 0
 Found parts at before None = length (joined parts) < at
 Found parts at before (Some place) = (n : ℕ) × (place.part ≡ before + n) × IsPlace parts at n place.inside
 
@@ -61,7 +61,7 @@ pub joined-push : (xs : List Part) (x : Part) → joined (xs ++ x ∷ []) ≡ jo
 joined-push xs x = joined-append xs (x ∷ []) ∙ ap (λ (l : List ℕ). joined xs ++ l) (append_nil x.items)
 
 -- a place behind the first part
-on_cons : (part : Part) (parts : List Part) (left before : ℕ) → length part.items ≤ left → (o : Option Place)
+on_cons : (part : Part) (parts : List Part) (left before : ℕ) → length part.items ≤ left → (o : Option PlaceInParts)
     → Found parts (left - length part.items) (before + 1) o → Found (part ∷ parts) left before o
 on_cons part parts left before le None short = omega (arith, short, length-append part.items (joined parts))
 on_cons part parts left before le (Some place) found =
@@ -105,15 +105,15 @@ found (part ∷ parts) left before =
     ]
 
 -- the place that was found, from the first part on
-pub found_first : (parts seen : List Part) → seen ≡ parts → (at : ℕ) (place : Place) → Some place ≡ place_from seen at 0 → IsPlace parts at place.part place.inside
+pub found_first : (parts seen : List Part) → seen ≡ parts → (at : ℕ) (place : PlaceInParts) → Some place ≡ place_from seen at 0 → IsPlace parts at place.part place.inside
 found_first parts seen same at place is =
-    let all : Found parts at 0 (Some place) = subst (λ (o : Option Place). Found parts at 0 o) (sym (is ∙ ap (λ (l : List Part). place_from l at 0) same)) (found parts at 0) in
+    let all : Found parts at 0 (Some place) = subst (λ (o : Option PlaceInParts). Found parts at 0 o) (sym (is ∙ ap (λ (l : List Part). place_from l at 0) same)) (found parts at 0) in
     let n = all.0 in
     let e : n ≡ place.part = omega (arith, all.1) in
     subst (λ (k : ℕ). IsPlace parts at k place.inside) e all.2
 
 pub found_none : (parts seen : List Part) → seen ≡ parts → (at : ℕ) → None ≡ place_from seen at 0 → length (joined parts) < at
-found_none parts seen same at is = subst (λ (o : Option Place). Found parts at 0 o) (sym (is ∙ ap (λ (l : List Part). place_from l at 0) same)) (found parts at 0)
+found_none parts seen same at is = subst (λ (o : Option PlaceInParts). Found parts at 0 o) (sym (is ∙ ap (λ (l : List Part). place_from l at 0) same)) (found parts at 0)
 
 -- the parts before and behind a place
 module _ (parts : List Part) (at n inside : ℕ) (is : IsPlace parts at n inside) (kept taken : List Part) (is_kept : kept ≡ take n parts) (is_taken : taken ≡ drop n parts) where
@@ -158,9 +158,3 @@ module _ (old behind rest front new inserted : List ℕ) (at removed : ℕ) wher
 
   pub too_far : at ≤ length old → behind ≡ drop at old → length behind < removed → length old < at + removed
   too_far reached is_behind short = omega (arith, reached, short, ap length is_behind, length-drop at old)
-
--- one part alone
-pub alone : (parts : List Part) (only : Part) → length parts ≡ 1 → only ≡ get_or parts 0 only → only.items ≡ joined parts
-alone [] only one is = absurd (omega (arith, one))
-alone (part ∷ []) only one is = ap (λ (p : Part). p.items) is ∙ sym (append_nil part.items)
-alone (part ∷ other ∷ rest) only one is = absurd (omega (arith, one))

@@ -33,20 +33,20 @@ impl Model for Pieces {
 
 /// A place in parts: how many parts stand before it, and how many bytes of the next one do.
 #[derive(Drop)]
-pub struct Place {
+pub struct PlaceInParts {
     pub part: usize,
     pub inside: usize,
 }
 
 // The place in the parts of a place in their text, if it isn't behind it.
-fn place_of(parts: &[Vec<u8>], at: usize) -> Option<Place>
+fn place_of(parts: &[Vec<u8>], at: usize) -> Option<PlaceInParts>
     ensures { result ≡ place_from parts.now at 0 }
 {
     let mut left = at;
     for i in 0..parts.len() {
         let len = parts[i].len();
         if left < len {
-            return Some(Place {
+            return Some(PlaceInParts {
                 part: i,
                 inside: left,
             });
@@ -56,7 +56,7 @@ fn place_of(parts: &[Vec<u8>], at: usize) -> Option<Place>
     if left > 0 {
         return None;
     }
-    Some(Place {
+    Some(PlaceInParts {
         part: parts.len(),
         inside: 0,
     })
@@ -201,5 +201,45 @@ impl Pieces {
             return Ok(parts.remove(0));
         }
         text_of(alloc, &parts)
+    }
+}
+
+#[cfg(test)]
+mod tests {
+    use super::*;
+    use std::test::Fail;
+
+    #[test]
+    fn parts_of_a_text_are_replaced(rt: HostRuntime) -> Result<(), Fail> {
+        let alloc = rt.alloc();
+        let mut pieces = Pieces::of(alloc, Vec::from_slice(alloc, b"one two three")?)?;
+        assert!(rt; pieces.replace(alloc, 4, 3, b"2")?);
+        assert!(rt; pieces.replace(alloc, 0, 0, b"> ")?);
+        assert!(rt; pieces.replace(alloc, 13, 0, b".")?);
+        let text = pieces.into_vec(alloc)?;
+        assert_eq!(rt; text.as_slice(), b"> one 2 three.");
+        Ok(())
+    }
+
+    #[test]
+    fn a_text_of_many_parts_is_cut_anew(rt: HostRuntime) -> Result<(), Fail> {
+        let alloc = rt.alloc();
+        let mut pieces = Pieces::of(alloc, Vec::from_slice(alloc, b"xy")?)?;
+        let mut expected = Vec::from_slice(alloc, b"x")?;
+        for _ in 0..3000 {
+            assert!(rt; pieces.replace(alloc, 1, 0, b"ab")?);
+            expected.extend_from_slice(b"ab")?;
+        }
+        expected.push(b'y')?;
+        assert_eq!(rt; pieces.into_vec(alloc)?.as_slice(), expected.as_slice());
+        Ok(())
+    }
+
+    #[test]
+    fn a_part_outside_the_text_is_refused(rt: HostRuntime) -> Result<(), Fail> {
+        let alloc = rt.alloc();
+        let mut pieces = Pieces::of(alloc, Vec::from_slice(alloc, b"text")?)?;
+        assert!(rt; !pieces.replace(alloc, 3, 2, b"")?);
+        Ok(())
     }
 }

@@ -13,16 +13,16 @@ returns-then-not-branch-clause-folds c =
     let content = current_in_code c.loop-record.current in
     walk_stops file c.args.start c.loop-record.at c.loop-record.count (content_in_code c.args.content) content c.loop-record.invariant.0 r c.in-Some.ensures
     (ap (λ (e : Entry). changed content e) (entry_is file r)
-    ∙ subst (λ (b : Bool). MatchBool b (changed content (sliced file r) ≡ Some (current_in_code c.make_change.new.current)) (changed content (sliced file r) ≡ None)) c.if-not-branch.true (c.in_ok-make_change.ensures.changed r.at))
+    ∙ subst (λ (b : Bool). MatchBool b (changed content (sliced file r) ≡ Some (current_in_code c.make_change.new.content)) (changed content (sliced file r) ≡ None)) c.if-not-branch.true (c.in_ok-make_change.ensures.changed r.at))
 
 pub loop-record-preserved : goal.loop-record-preserved
 loop-record-preserved c =
     let file = c.args.file.now in
     let r = c.in-Some.record in
     let content = current_in_code c.loop-record.current in (
-      walk_on file c.args.start c.loop-record.at c.loop-record.count (content_in_code c.args.content) content c.loop-record.invariant.0 r c.in-Some.ensures (current_in_code c.make_change.new.current)
+      walk_on file c.args.start c.loop-record.at c.loop-record.count (content_in_code c.args.content) content c.loop-record.invariant.0 r c.in-Some.ensures (current_in_code c.make_change.new.content)
           (ap (λ (e : Entry). changed content e) (entry_is file r)
-          ∙ subst (λ (b : Bool). MatchBool b (changed content (sliced file r) ≡ Some (current_in_code c.make_change.new.current)) (changed content (sliced file r) ≡ None)) c.if-not-branch.false (c.in_ok-make_change.ensures.changed r.at)),
+          ∙ subst (λ (b : Bool). MatchBool b (changed content (sliced file r) ≡ Some (current_in_code c.make_change.new.content)) (changed content (sliced file r) ≡ None)) c.if-not-branch.false (c.in_ok-make_change.ensures.changed r.at)),
       λ writable. c.in_ok-make_change.ensures.writable c.if-not-branch.false (c.loop-record.invariant.1 writable),
     )
 

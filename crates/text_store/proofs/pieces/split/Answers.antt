@@ -1,4 +1,4 @@
-use Rattle.std.proofs.Common.{◌≡◌, ◌∙◌, List, Vec, length, sym, ap, subst, arith}
+use Rattle.std.proofs.Common.{◌∙◌, List, Vec, length, sym, ap, subst, arith}
 use Rattle.text_store.specs.Joined.{joined}
 use Rattle.text_store.specs.Pieces.{IsInside}
 use Rattle.text_store.proofs.Places.{Part, found_first, found_none, split_border, split_inside}
