@@ -16,6 +16,7 @@ pub mod Moments
 pub mod OpenEntries
 pub mod Opened
 pub mod Opening
+pub mod Places
 pub mod Prefixes
 pub mod Reading
 pub mod Resting

@@ -12,7 +12,7 @@ use Rattle.text_store.specs.Image.{number_4, number_8, spliced, mark_at, same_na
 le_true : (a b : ℕ) → a ≤ b → nat_le a b ≡ true
 le_true a b le = grind (arith, nat_tests)
 
-pub splices : (text payload : List ℕ) (at removed : ℕ) → number_8 payload ≡ at → number_8 (drop 8 payload) ≡ removed → 16 ≤ length payload → at + removed ≤ length text
+splices : (text payload : List ℕ) (at removed : ℕ) → number_8 payload ≡ at → number_8 (drop 8 payload) ≡ removed → 16 ≤ length payload → at + removed ≤ length text
     → (new : List ℕ) → new ≡ take at text ++ drop 16 payload ++ drop (at + removed) text → spliced text payload ≡ Some new
 splices text payload at removed is_at is_removed long inside new is =
     (λ i. found (le_true 16 (length payload) long i) (is_at i) (is_removed i)) ∙ ap (λ (b : Bool). if b then Some (take at text ++ drop 16 payload ++ drop (at + removed) text) else None) (le_true (at + removed) (length text) inside)
@@ -20,6 +20,31 @@ splices text payload at removed is_at is_removed long inside new is =
   where
     found : Bool → ℕ → ℕ → Option (List ℕ)
     found long at removed = if long && nat_le (at + removed) (length text) then Some (take at text ++ drop 16 payload ++ drop (at + removed) text) else None
+
+no_splice : (text payload : List ℕ) (at removed : ℕ) → number_8 payload ≡ at → number_8 (drop 8 payload) ≡ removed → length text < at + removed → spliced text payload ≡ None
+no_splice text payload at removed is_at is_removed outside =
+    (λ i. found (is_at i) (is_removed i)) ∙ ap (λ (b : Bool). if nat_le 16 (length payload) && b then Some (take at text ++ drop 16 payload ++ drop (at + removed) text) else None) (not_le (at + removed) (length text) outside)
+    ∙ neither (nat_le 16 (length payload)) (take at text ++ drop 16 payload ++ drop (at + removed) text)
+  where
+    found : ℕ → ℕ → Option (List ℕ)
+    found at removed = if nat_le 16 (length payload) && nat_le (at + removed) (length text) then Some (take at text ++ drop 16 payload ++ drop (at + removed) text) else None
+
+    not_le : (a b : ℕ) → b < a → nat_le a b ≡ false
+    not_le a b less = grind (arith, nat_tests)
+
+    neither : (b : Bool) (l : List ℕ) → (if b && false then Some l else None) ≡ None
+    neither true l = refl
+    neither false l = refl
+
+-- a splice of a text that can be replaced in part
+pub splice_ends : (text payload inserted : List ℕ) (at removed : ℕ) → number_8 payload ≡ at → number_8 (drop 8 payload) ≡ removed → 16 ≤ length payload → inserted ≡ drop 16 payload
+    → (new : List ℕ) (r : Result Bool Memory)
+    → IfOk r (λ good. MatchBool good ((at + removed ≤ length text) × (new ≡ take at text ++ inserted ++ drop (at + removed) text)) (length text < at + removed))
+    → IfOk r (λ good. MatchBool good (spliced text payload ≡ Some new) (spliced text payload ≡ None))
+splice_ends text payload inserted at removed is_at is_removed long same new (Err e) is = tt
+splice_ends text payload inserted at removed is_at is_removed long same new (Ok true) is =
+    splices text payload at removed is_at is_removed long is.0 new (is.1 ∙ ap (λ (l : List ℕ). take at text ++ l ++ drop (at + removed) text) same)
+splice_ends text payload inserted at removed is_at is_removed long same new (Ok false) is = no_splice text payload at removed is_at is_removed is
 
 -- the state whose bytes stand at a place
 module _ (file : List ℕ) (at size : ℕ) (inside : at + 12 + size ≤ length file) (is_size : size ≡ from_le_bytes w32 (take 4 (drop at file))) where

@@ -1,5 +1,6 @@
 pub mod Changes
 pub mod Contents
+pub mod Currents
 pub mod Edits
 pub mod Ends
 pub mod Entries
@@ -8,6 +9,8 @@ pub mod Files
 pub mod Found
 pub mod Halves
 pub mod Image
+pub mod Joined
+pub mod Pieces
 pub mod Reads
 pub mod Refusals
 pub mod Rest

@@ -5,8 +5,10 @@ ghost use Rattle.std.specs.List.{list_any};
 ghost use Rattle.text_store.specs.Contents.{content_in_code, if_content_in_code, end_in_code, IsStateAt, AreStatesAt, IsEnd};
 ghost use Rattle.text_store.specs.Files.{AreWritable};
 ghost use Rattle.text_store.specs.Image.{with_mark, spliced, changed, imported, mark_at, same_name, have_own_names, checkpointed, folded};
+ghost use Rattle.text_store.specs.Currents.{current_in_code};
 ghost use Rattle.text_store.specs.Reads.{from_place};
 
+use crate::pieces::Pieces;
 use crate::records::{number_at, record_at};
 use hl_base::{Latest, Memory, Text};
 use std::alloc::Global;
@@ -16,6 +18,13 @@ use std::alloc::Global;
 pub struct Content {
     pub text: Vec<u8>,
     pub latest: Vec<Latest>,
+}
+
+// A content whose text is in pieces, while records are applied to it.
+#[derive(Drop)]
+struct Current {
+    text: Pieces,
+    latest: Vec<Latest>,
 }
 
 /// What the records of a file from a place on come to: a content, the place of the gate behind them, and how many they are.
@@ -43,39 +52,17 @@ fn short_number_at(file: &[u8], at: usize) -> u32
     u32::from_le_bytes(bytes)
 }
 
-// Replaces a part of a text. What stands before the part isn't moved.
-fn replace_part(
-    alloc: Global,
-    text: &mut Vec<u8>,
-    at: usize,
-    removed: usize,
-    inserted: &[u8],
-) -> Result<(), Memory>
-    requires { at + removed ≤ length text.old.items }
-    ensures { OnOk result (text.new.items ≡ take at text.old.items ++ inserted.now ++ drop (at + removed) text.old.items) }
-{
-    let tail = Vec::from_slice(alloc, &text[at + removed..])?;
-    text.truncate(at);
-    text.extend_from_slice(inserted)?;
-    text.extend_from_slice(&tail)?;
-    Ok(())
-}
-
 // Replaces the part of a text that a splice's payload names; false, where it lies outside or the payload is short.
-fn splice_in(alloc: Global, text: &mut Vec<u8>, payload: &[u8]) -> Result<bool, Memory>
-    ensures { IfOk result (λ good. MatchBool good (spliced text.old.items payload.now ≡ Some text.new.items) (spliced text.old.items payload.now ≡ None)) }
+fn splice_in(alloc: Global, text: &mut Pieces, payload: &[u8]) -> Result<bool, Memory>
+    ensures { IfOk result (λ good. MatchBool good (spliced text.old payload.now ≡ Some text.new) (spliced text.old payload.now ≡ None)) }
 {
     if payload.len() < 16 {
         return Ok(false);
     }
-    let at = number_at(payload, 0);
-    let removed = number_at(payload, 8);
-    let len = text.len() as u64;
-    if at > len || removed > len - at {
-        return Ok(false);
-    }
-    replace_part(alloc, text, at as usize, removed as usize, &payload[16..])?;
-    Ok(true)
+    let at = number_at(payload, 0) as usize;
+    let removed = number_at(payload, 8) as usize;
+    let (_, inserted) = payload.split_at(16);
+    text.replace(alloc, at, removed, inserted)
 }
 
 // Puts a state in the place of that of its name, or behind the others.
@@ -119,18 +106,18 @@ fn state_at(alloc: Global, bytes: &[u8], at: usize) -> Result<Option<(Latest, us
 // Makes the change of a record; false, where it is bad.
 fn make_change(
     alloc: Global,
-    content: &mut Content,
+    content: &mut Current,
     kind: u8,
     payload: &[u8],
 ) -> Result<bool, Memory>
     ensures changed { (at : ℕ) → IfOk result (λ good. MatchBool good
-        (changed (content_in_code content.old) (record { at = at; kind = kind; payload = payload.now }) ≡ Some (content_in_code content.new))
-        (changed (content_in_code content.old) (record { at = at; kind = kind; payload = payload.now }) ≡ None)) }
+        (changed (current_in_code content.old) (record { at = at; kind = kind; payload = payload.now }) ≡ Some (current_in_code content.new))
+        (changed (current_in_code content.old) (record { at = at; kind = kind; payload = payload.now }) ≡ None)) }
     ensures writable { IfOk result (λ good. good ≡ true → AreWritable content.old.latest.items → AreWritable content.new.latest.items) }
 {
     match kind {
         b'T' => {
-            content.text = Vec::from_slice(alloc, payload)?;
+            content.text = Pieces::of(alloc, Vec::from_slice(alloc, payload)?)?;
             Ok(true)
         }
         b'S' => splice_in(alloc, &mut content.text, payload),
@@ -140,10 +127,10 @@ fn make_change(
 }
 
 // Puts an import's state and its splice into a content; false, where the payload doesn't read.
-fn import_in(alloc: Global, content: &mut Content, payload: &[u8]) -> Result<bool, Memory>
+fn import_in(alloc: Global, content: &mut Current, payload: &[u8]) -> Result<bool, Memory>
     ensures changed { IfOk result (λ good. MatchBool good
-        (imported (content_in_code content.old) (mark_at payload.now) ≡ Some (content_in_code content.new))
-        (imported (content_in_code content.old) (mark_at payload.now) ≡ None)) }
+        (imported (current_in_code content.old) (mark_at payload.now) ≡ Some (current_in_code content.new))
+        (imported (current_in_code content.old) (mark_at payload.now) ≡ None)) }
     ensures writable { IfOk result (λ good. good ≡ true → AreWritable content.old.latest.items → AreWritable content.new.latest.items) }
 {
     let Some((state, behind)) = state_at(alloc, payload, 0)? else {
@@ -233,17 +220,24 @@ pub fn fold_from(
     ensures ends { IfOk result (λ end. IfOk end (λ all. IsEnd file.now start all.gate all.count)) }
     ensures writable { IfOk result (λ end. IfOk end (λ all. AreWritable content.latest.items → AreWritable all.content.latest.items)) }
 {
-    let mut content = content;
+    let mut current = Current {
+        text: Pieces::of(alloc, content.text)?,
+        latest: content.latest,
+    };
     let mut at = start;
     let mut count = 0;
     while let Some(record) = record_at(file, at) {
         let payload = &file[record.payload..record.payload + record.len];
-        if !make_change(alloc, &mut content, record.kind, payload)? {
+        if !make_change(alloc, &mut current, record.kind, payload)? {
             return Ok(Err(record.at));
         }
         at = record.payload + record.len;
         count += 1;
     }
+    let content = Content {
+        text: current.text.into_vec(alloc)?,
+        latest: current.latest,
+    };
     Ok(Ok(Folded {
         content,
         gate: at,

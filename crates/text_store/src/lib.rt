@@ -10,6 +10,7 @@ mod folding;
 mod gate;
 mod half;
 mod image;
+mod pieces;
 mod records;
 mod store;
 mod whole;
