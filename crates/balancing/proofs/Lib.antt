@@ -7,6 +7,7 @@ pub mod InPlace
 pub mod Named
 pub mod Only
 pub mod Ordered
+pub mod Sides
 pub mod Trimmed
 pub mod Turned
 pub mod Turnover

@@ -1,12 +1,13 @@
 //! What balancing finds for a transaction, before it is put into its postings.
 ghost use Rattle.std.specs.Prelude.{◌≡◌, ◌++◌, [], true, false, map, filter, not, IfOk, IfErr, if◌then◌else◌};
+ghost use Rattle.std.specs.List.{list_all};
 ghost use Rattle.book.specs.declared.fault.Cause.TheVariants as cause;
 ghost use Rattle.book.specs.declared.transaction.Side.TheVariants.{Real, Balanced};
 ghost use Rattle.balancing.specs.Tally.{named, turnover_fits, IsRange};
-ghost use Rattle.balancing.specs.Entry.{costs_fit, misses, exchanges, left_over, needed, or_nothing, found_values, recorded_between, recorded_cost, unbalanced_by, unbalanced_sums, side_values, is_nothing};
+ghost use Rattle.balancing.specs.Entry.{costs_fit, misses, exchanges, left_over, needed, or_nothing, found_values, recorded_between, recorded_cost, unbalanced_by, unbalanced_sums, side_values, same_side, is_nothing};
 
 use crate::rules::{Found, Recorded, are_opposite, are_plain, left_over, misses, recorded_between};
-use crate::sums::side_sums;
+use crate::sums::{same_side, side_sums};
 use crate::tally::{Sum, TallyFault};
 use book::{Boxed, Cause, Posting, Side};
 use hl_base::{Memory, Text};
@@ -71,7 +72,17 @@ pub(crate) fn make_plan(alloc: Global, postings: &[Posting]) -> Result<Plan, Tal
     })
 }
 
+/// Whether no posting is of a side.
+fn lacks_side(postings: &[Posting], side: Side) -> bool
+    ensures { result ≡ list_all (λ p. not (same_side side p.side)) postings.now }
+{
+    postings
+        .iter()
+        .all(|posting| !same_side(side, posting.side))
+}
+
 /// What is left of the sums of a side, and what is missing there.
+#[tactic(auto, using(crate::proofs::Sides::no_sums, crate::proofs::Sides::none_missing))]
 fn side_plan<'a>(
     alloc: Global,
     postings: &'a [Posting],
@@ -83,6 +94,13 @@ fn side_plan<'a>(
     ensures misses { IfOk result (λ plan. plan.misses ≡ misses side postings.now) }
     ensures range { IfErr result (λ e. IsRange e → turnover_fits (side_values side postings.now) ≡ false) }
 {
+    if lacks_side(postings, side) {
+        return Ok(SidePlan {
+            left: Vec::new(alloc),
+            found: Vec::new(alloc),
+            misses: false,
+        });
+    }
     let sums = match side_sums(alloc, postings, side) {
         Ok(sums) => sums,
         Err(fault) => return Err(fault),

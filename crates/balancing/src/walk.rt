@@ -64,10 +64,11 @@ struct Entries {
 fn settle_items(alloc: Global, items: Items) -> Result<Entries, Memory>
     ensures { IfOk result (λ entries. IsRead (txns_of items) entries.txns.items entries.causes.items entries.groups.items) }
 {
+    let count = items.len();
     let mut entries = Entries {
-        txns: Vec::new(alloc),
-        causes: Vec::new(alloc),
-        groups: Vec::new(alloc),
+        txns: Vec::with_capacity(alloc, count)?,
+        causes: Vec::with_capacity(alloc, count)?,
+        groups: Vec::with_capacity(alloc, count)?,
     };
     for placed in items.into_vec() {
         let Placed { piece: _, item } = placed;

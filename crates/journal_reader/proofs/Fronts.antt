@@ -1,10 +1,12 @@
 -- What the front of a text begins with, the text begins with.
-use Rattle.std.proofs.Common.{◌≡◌, ℕ, zero, suc, ◌+◌, ◌<◌, Bool, true, false, cond, ◌==◌, ◌&&◌, not, List, [], ◌∷◌, length, take, drop, refl, sym, ap, ◌∙◌, arith}
+use Rattle.std.proofs.Common.{Ok, None, ◌≡◌, ℕ, zero, suc, ◌+◌, ◌<◌, Bool, true, false, cond, ◌==◌, ◌&&◌, not, List, [], ◌∷◌, length, take, drop, refl, sym, ap, ◌∙◌, arith}
 use Rattle.std.specs.List.{prefix_len, suffix_len}
 use Rattle.std.proofs.lemmas.Bool.{false≢true}
+use Rattle.std.proofs.lemmas.List.{nil_from_length}
 use Rattle.hl_base.specs.Items.{is_white}
-use Rattle.journal_reader.specs.Comments.{is_comment, comment_text, comments_in}
+use Rattle.journal_reader.specs.Comments.{is_comment, comment_text, comments_in, comment_of, tags_in, day_in}
 use Rattle.journal_reader.specs.Lines.{first_is, begins, after_white, before_white, contents_of}
+use Rattle.journal_reader.specs.Tags.{tags_within}
 use Rattle.journal_reader.proofs.Lines.{inside, contents_cut}
 
 first_of_front : (p : ℕ → Bool) (n : ℕ) (text : List ℕ) → first_is p (take n text) ≡ true → first_is p text ≡ true
@@ -55,3 +57,15 @@ no_remark (b ∷ bs) h =
     ap comments_in (contents_cut (b ∷ bs) (omega arith))
     ∙ none_first (before_white content) (contents_of (drop (inside (b ∷ bs) + 1) (b ∷ bs)))
     (λ t. false≢true (sym h ∙ comment_of_front (inside (b ∷ bs)) (b ∷ bs) (comment_of_front _ content t)))
+
+-- nothing is written in comments
+pub no_comments : (own after : List ℕ) → length own ≡ 0 → length after ≡ 0 → [] ≡ comment_of own (comments_in (contents_of after))
+no_comments own after e f = rw (nil_from_length own e, nil_from_length after f) refl
+
+pub no_tags : (own after : List ℕ) → length own ≡ 0 → length after ≡ 0 → [] ≡ tags_in (own ∷ comments_in (contents_of after))
+unfolding tags_within
+no_tags own after e f = rw (nil_from_length own e, nil_from_length after f) refl
+
+pub no_day : (year line : ℕ) (own after : List ℕ) → length own ≡ 0 → length after ≡ 0 → day_in year line (own ∷ comments_in (contents_of after)) ≡ Ok None
+unfolding tags_within
+no_day year line own after e f = rw (nil_from_length own e, nil_from_length after f) refl

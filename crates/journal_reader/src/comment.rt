@@ -81,11 +81,15 @@ fn append(text: &mut String, bytes: &[u8]) -> Result<(), Memory>
 }
 
 /// A comment on a line and the comment lines at the front of what follows, joined by LF.
+#[tactic(auto, using(crate::proofs::Fronts::no_comments))]
 pub(crate) fn read_comment(alloc: Global, own: &[u8], after: &[u8]) -> Result<Text, Memory>
     requires own { is_utf8 own.now ≡ true }
     requires after { is_utf8 after.now ≡ true }
     ensures { IfOk result (λ text. text ≡ spec.comment_of own.now (spec.comments_in (contents_of after.now))) }
 {
+    if own.is_empty() && after.is_empty() {
+        return Ok(Text::new(alloc));
+    }
     let mut comment = String::new(alloc);
     append(&mut comment, own)?;
     let mut rest = after;
@@ -98,11 +102,15 @@ pub(crate) fn read_comment(alloc: Global, own: &[u8], after: &[u8]) -> Result<Te
 }
 
 /// The tags of a comment on a line and of the comment lines at the front of what follows.
+#[tactic(auto, using(crate::proofs::Fronts::no_tags))]
 pub(crate) fn read_tags(alloc: Global, own: &[u8], after: &[u8]) -> Result<List<Tag>, Memory>
     requires own { is_utf8 own.now ≡ true }
     requires after { is_utf8 after.now ≡ true }
     ensures { IfOk result (λ tags. tags ≡ spec.tags_in (own.now ∷ spec.comments_in (contents_of after.now))) }
 {
+    if own.is_empty() && after.is_empty() {
+        return Ok(List::new(alloc));
+    }
     let mut tags = Vec::new(alloc);
     push_tags(alloc, &mut tags, own)?;
     let mut rest = after;
@@ -124,6 +132,7 @@ fn day_written(value: &[u8], year: u16, line: u64) -> Result<Option<Day>, ReadFa
 }
 
 /// The day that the first tag `date` says of a comment on a line and of the comment lines at the front of what follows.
+#[tactic(auto, using(crate::proofs::Fronts::no_day))]
 pub(crate) fn read_own_day(
     own: &[u8],
     after: &[u8],
@@ -133,6 +142,9 @@ pub(crate) fn read_own_day(
     requires { line + 1 + length after.now < 2 ^ 64 }
     ensures { Gives (λ day. day) cause_in result (spec.day_in year line (own.now ∷ spec.comments_in (contents_of after.now))) }
 {
+    if own.is_empty() && after.is_empty() {
+        return Ok(None);
+    }
     if let Some(value) = find_date(own) {
         return day_written(value, year, line);
     }
