@@ -285,9 +285,13 @@ fn keeps_to_the_limit<L: Ledger>(
     Ok(())
 }
 
-/// A report without a word.
-fn tells_the_words<L: Ledger>(alloc: Global, steps: &mut Steps<L>) -> Result<(), Fail> {
-    let live = Live::open(alloc, BREAD, None, 0, steps)?;
+/// A report of a text without a word.
+fn tells_the_words<L: Ledger>(
+    alloc: Global,
+    text: &[u8],
+    steps: &mut Steps<L>,
+) -> Result<(), Fail> {
+    let live = Live::open(alloc, text, None, 0, steps)?;
     let told = report_text(alloc, &live, &[], TODAY, steps);
     if matches!(told, Err(WordsFault::NoCommand { .. })) {
         Ok(())
@@ -307,7 +311,7 @@ fn each_request<L: Ledger>(alloc: Global, blank: Blank, tables: &Tables<'_>) -> 
     refuses_edits(alloc, tables.refused, tables.later, steps)?;
     keeps_to_the_limit(alloc, tables.past, tables.anew, steps)?;
     goes_on_after_a_fault(alloc, tables.faulty, tables.later, steps)?;
-    tells_the_words(alloc, steps)
+    tells_the_words(alloc, BREAD, steps)
 }
 
 #[test]

@@ -93,6 +93,16 @@ fn meets(told: Told, wanted: Told) -> Result<(), Fail> {
     }
 }
 
+/// A journal of a text at a revision.
+fn journal<L: Ledger>(
+    alloc: Global,
+    text: &[u8],
+    revision: u64,
+    steps: &mut Steps<L>,
+) -> Result<Live, Fail> {
+    Ok(Live::open(alloc, text, None, revision, steps)?)
+}
+
 /// An edit is refused so.
 fn refuses<L: Ledger>(
     live: &mut Live,
@@ -165,14 +175,14 @@ fn edits_a_journal<L: Ledger>(
     rows: &[Row],
     steps: &mut Steps<L>,
 ) -> Result<(), Fail> {
-    let mut live = Live::open(alloc, BREAD, None, 5, steps)?;
+    let mut live = journal(alloc, BREAD, 5, steps)?;
     refuses_all(alloc, &mut live, refused, steps)?;
     puts_all(alloc, &mut live, rows, steps)
 }
 
 /// A text without an edit is the same.
 fn plans_no_change<L: Ledger>(alloc: Global, steps: &mut Steps<L>) -> Result<(), Fail> {
-    let mut live = Live::open(alloc, BREAD, None, 5, steps)?;
+    let mut live = journal(alloc, BREAD, 5, steps)?;
     let edit = edit_of(alloc, Ask::Replace(5, BREAD))?;
     let plan = live.prepare(&edit, steps)?;
     if plan.same() {
@@ -184,7 +194,7 @@ fn plans_no_change<L: Ledger>(alloc: Global, steps: &mut Steps<L>) -> Result<(),
 
 /// What is made of a text of two entries.
 fn loads_a_text<L: Ledger>(alloc: Global, steps: &mut Steps<L>) -> Result<(), Fail> {
-    let live = Live::open(alloc, BOTH, None, 0, steps)?;
+    let live = journal(alloc, BOTH, 0, steps)?;
     if live.items().len() != 3 || live.book().txns.len() != 2 {
         return Err(Fail::new("two entries and a gap"));
     }
