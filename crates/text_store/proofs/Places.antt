@@ -84,24 +84,30 @@ pub found : (parts : List Part) (left before : ℕ) → Found parts left before 
 found [] left before =
     elim (cases_lt 0 left) [
       | inl some ↦ subst (λ (b : Bool). Found [] left before (if b then None else Some (record { part = before; inside = 0 }))) (sym (lt_true 0 left some)) some
-      | inr none ↦ subst (λ (b : Bool). Found [] left before (if b then None else Some (record { part = before; inside = 0 }))) (sym (lt_false 0 left none))
-        (0, omega arith, subst (λ (k : ℕ). IsPlace [] k 0 0) (let e : 0 ≡ left = omega (arith, none) in e)
-          (record { within = omega arith; reached = omega arith; front = refl; behind = refl; is_inside = refl }))
+      | inr none ↦ subst (λ (b : Bool). Found [] left before (if b then None else Some (record { part = before; inside = 0 }))) (sym (lt_false 0 left none)) (
+        0,
+        omega arith,
+        subst (λ (k : ℕ). IsPlace [] k 0 0) (let e : 0 ≡ left = omega (arith, none) in e)
+            (record { within = omega arith; reached = omega arith; front = refl; behind = refl; is_inside = refl }),
+      )
     ]
 found (part ∷ parts) left before =
     elim (cases_lt left (length part.items)) [
       | inl less ↦ subst (λ (b : Bool). Found (part ∷ parts) left before (if b then Some (record { part = before; inside = left }) else place_from parts (left - length part.items) (before + 1)))
-        (sym (lt_true left (length part.items) less))
-        (0, omega arith, record {
-          within = omega arith;
-          reached = omega (arith, less, length-append part.items (joined parts));
-          front = refl;
-          behind = refl;
-          is_inside = less;
-        })
+          (sym (lt_true left (length part.items) less)) (
+            0,
+            omega arith,
+            record {
+              within = omega arith;
+              reached = omega (arith, less, length-append part.items (joined parts));
+              front = refl;
+              behind = refl;
+              is_inside = less;
+            },
+          )
       | inr le ↦ subst (λ (b : Bool). Found (part ∷ parts) left before (if b then Some (record { part = before; inside = left }) else place_from parts (left - length part.items) (before + 1)))
-        (sym (lt_false left (length part.items) le))
-        (on_cons part parts left before le (place_from parts (left - length part.items) (before + 1)) (found parts (left - length part.items) (before + 1)))
+          (sym (lt_false left (length part.items) le))
+          (on_cons part parts left before le (place_from parts (left - length part.items) (before + 1)) (found parts (left - length part.items) (before + 1)))
     ]
 
 -- the place that was found, from the first part on

@@ -1,5 +1,5 @@
 //! The records of a file as changes of a text and of import states.
-ghost use Rattle.std.specs.Prelude.{◌≡◌, ℕ, ◌<◌, ◌≤◌, ◌+◌, ◌^◌, ◌++◌, length, take, drop, true, false, Some, None, IfOk, IfSome, OnOk, MatchBool};
+ghost use Rattle.std.specs.Prelude.{◌≡◌, ℕ, ◌<◌, ◌≤◌, ◌+◌, ◌^◌, length, take, drop, true, false, Some, None, IfOk, IfSome, OnOk, MatchBool};
 ghost use Rattle.std.specs.Int.{w32, from_le_bytes};
 ghost use Rattle.std.specs.List.{list_any};
 ghost use Rattle.text_store.specs.Contents.{content_in_code, if_content_in_code, end_in_code, IsStateAt, AreStatesAt, IsEnd};

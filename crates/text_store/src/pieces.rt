@@ -1,5 +1,5 @@
 //! A text in pieces, so that an edit moves only the bytes near its place.
-ghost use Rattle.std.specs.Prelude.{◌≡◌, ◌≤◌, ◌<◌, ◌+◌, ◌++◌, length, take, drop, OnOk, IfOk, IfSome, MatchBool, MatchOption};
+ghost use Rattle.std.specs.Prelude.{◌≡◌, ◌≤◌, ◌<◌, ◌+◌, ◌++◌, length, take, drop, OnOk, IfOk, MatchBool, MatchOption};
 ghost use Rattle.text_store.specs.Joined.{joined};
 ghost use Rattle.text_store.specs.Pieces.{IsInside, place_from};
 
@@ -76,11 +76,7 @@ fn cut_first(alloc: Global, parts: &mut Vec<Vec<u8>>, inside: usize) -> Result<V
 }
 
 // Takes what stands behind a place off the parts, if the place isn't behind the text.
-fn split(
-    alloc: Global,
-    parts: &mut Vec<Vec<u8>>,
-    at: usize,
-) -> Result<Option<Vec<Vec<u8>>>, Memory>
+fn split(alloc: Global, parts: &mut Vec<Vec<u8>>, at: usize) -> Result<Option<Vec<Vec<u8>>>, Memory>
     ensures { IfOk result (λ found. MatchOption found (length (joined parts.old.items) < at)
         (λ behind. (at ≤ length (joined parts.old.items)) × (joined parts.new.items ≡ take at (joined parts.old.items)) × (joined behind.items ≡ drop at (joined parts.old.items)))) }
 {
@@ -139,7 +135,7 @@ fn replace_in(
 ) -> Result<bool, Memory>
     ensures { IfOk result (λ good. MatchBool good
         ((at + removed ≤ length (joined parts.old.items))
-            × (joined parts.new.items ≡ take at (joined parts.old.items) ++ inserted.now ++ drop (at + removed) (joined parts.old.items)))
+        × (joined parts.new.items ≡ take at (joined parts.old.items) ++ inserted.now ++ drop (at + removed) (joined parts.old.items)))
         (length (joined parts.old.items) < at + removed)) }
 {
     let Some(mut behind) = split(alloc, parts, at)? else {
@@ -217,7 +213,7 @@ mod tests {
         assert!(rt; pieces.replace(alloc, 0, 0, b"> ")?);
         assert!(rt; pieces.replace(alloc, 13, 0, b".")?);
         let text = pieces.into_vec(alloc)?;
-        assert_eq!(rt; text.as_slice(), b"> one 2 three.");
+        assert_eq!(rt; text.as_slice(), b"> one 2 three.".as_slice());
         Ok(())
     }
 

@@ -28,10 +28,10 @@ returns c =
     let taken = c.in_ok-behind.behind.items in
     elim c.if-place-gt0.branch [
       | then-place-gt0+in_ok-front+in_ok-push w ↦
-        let got = split_inside parts c.args.at place.part place.inside is kept taken c.in_ok-behind.ensures.items c.in_ok-behind.ensures.tail
-        w.in_ok-front.front w.push.new.self.items w.cut_first.new.parts.items w.in_ok-front.ensures.front w.in_ok-push.ensures.items w.in_ok-front.ensures.behind in
-        (got.0, ap (λ (v : Vec Part Global). joined v.items) w.parts-is ∙ got.1, ap (λ (v : Vec Part Global). joined v.items) w.behind-is ∙ got.2)
+          let got = split_inside parts c.args.at place.part place.inside is kept taken c.in_ok-behind.ensures.items c.in_ok-behind.ensures.tail
+          w.in_ok-front.front w.push.new.self.items w.cut_first.new.parts.items w.in_ok-front.ensures.front w.in_ok-push.ensures.items w.in_ok-front.ensures.behind in
+          (got.0, ap (λ (v : Vec Part Global). joined v.items) w.parts-is ∙ got.1, ap (λ (v : Vec Part Global). joined v.items) w.behind-is ∙ got.2)
       | else-place-gt0 w ↦
-        let got = split_border parts c.args.at place.part place.inside is kept taken c.in_ok-behind.ensures.items c.in_ok-behind.ensures.tail (omega (arith, w.if-place-gt0.false)) in
-        (got.0, ap (λ (v : Vec Part Global). joined v.items) w.parts-is ∙ got.1, ap (λ (v : Vec Part Global). joined v.items) w.behind-is ∙ got.2)
+          let got = split_border parts c.args.at place.part place.inside is kept taken c.in_ok-behind.ensures.items c.in_ok-behind.ensures.tail (omega (arith, w.if-place-gt0.false)) in
+          (got.0, ap (λ (v : Vec Part Global). joined v.items) w.parts-is ∙ got.1, ap (λ (v : Vec Part Global). joined v.items) w.behind-is ∙ got.2)
     ]
