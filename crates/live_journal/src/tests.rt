@@ -12,66 +12,21 @@ const BREAD: &[u8] = b"2024-01-05 bread\n    expenses:food  10 EUR\n    assets:c
 
 const TEA: &[u8] = b"2024-01-06 tea\n    a  1 EUR\n    b  -1 EUR";
 
-const TEA_TEXT: &[u8] = b"2024-01-06 tea\n    a  1 EUR\n    b  -1 EUR\n";
-
-/// The second entry behind the blank line that stood before it.
-const TEA_ALONE: &[u8] = b"\n2024-01-06 tea\n    a  1 EUR\n    b  -1 EUR\n";
-
 const BOTH: &[u8] =
     b"2024-01-05 bread\n    expenses:food  10 EUR\n    assets:cash  -10 EUR\n\n2024-01-06 tea\n    a  1 EUR\n    b  -1 EUR\n";
 
-/// An entry of which the sum isn't zero, in its first line.
-const OFF: &[u8] = b"2024-01-06 x\n    a  1 EUR\n    b  -2 EUR\n";
+fn add(alloc: Global, entry: &[u8]) -> Result<Edit, Memory> {
+    let entry = Bytes::copied(alloc, entry)?;
+    Ok(Edit::Add { entry })
+}
 
-/// An edit in short.
-#[derive(Clone, Copy)]
-enum Ask {
-    Add(&'static [u8]),
-    Change(u64, u64, &'static [u8]),
-    Replace(u64, &'static [u8]),
+fn replace(alloc: Global, base: u64, text: &[u8]) -> Result<Edit, Memory> {
+    let text = Bytes::copied(alloc, text)?;
+    Ok(Edit::Replace { base, text })
 }
 
 /// A refusal's name and its numbers.
 type Told = (&'static str, u64, u64);
-
-/// Refusals of edits of the first entry at revision 5.
-const REFUSED: [(Ask, Told); 7] = [
-    (Ask::Replace(4, BREAD), ("stale", 4, 5)),
-    (Ask::Replace(9, BREAD), ("bad base", 9, 5)),
-    (Ask::Change(5, 99, TEA), ("no such item", 99, 1)),
-    (Ask::Add(b"alias a=b"), ("not transactions", 1, 0)),
-    (Ask::Add(b"; no entry"), ("not transactions", 1, 0)),
-    (Ask::Change(5, 1, b"\nP 1"), ("not transactions", 2, 0)),
-    (Ask::Add(OFF), ("load", 5, 0)),
-];
-
-/// An edit, the place where it changes the text, the revision after it, and the text.
-type Row = (Ask, u64, u64, &'static [u8]);
-
-/// Edits of the first entry at revision 5, one after another.
-const PUT: [Row; 4] = [
-    (Ask::Add(TEA), 68, 6, BOTH),
-    (Ask::Change(6, 1, b""), 0, 7, TEA_ALONE),
-    (Ask::Replace(7, TEA_TEXT), 0, 8, TEA_TEXT),
-    (Ask::Replace(8, TEA_TEXT), 0, 8, TEA_TEXT),
-];
-
-fn edit_of(alloc: Global, ask: Ask) -> Result<Edit, Memory> {
-    match ask {
-        Ask::Add(entry) => Ok(Edit::Add {
-            entry: Bytes::copied(alloc, entry)?,
-        }),
-        Ask::Change(base, item, entry) => Ok(Edit::Change {
-            base,
-            item,
-            entry: Bytes::copied(alloc, entry)?,
-        }),
-        Ask::Replace(base, text) => Ok(Edit::Replace {
-            base,
-            text: Bytes::copied(alloc, text)?,
-        }),
-    }
-}
 
 fn told(fault: &EditFault) -> Told {
     match fault {
@@ -116,25 +71,11 @@ fn refuses<L: Ledger>(
     }
 }
 
-/// Each edit is refused so.
-fn refuses_all<L: Ledger>(
-    alloc: Global,
-    live: &mut Live,
-    rows: &[(Ask, Told)],
-    steps: &mut Steps<L>,
-) -> Result<(), Fail> {
-    for row in rows {
-        let edit = edit_of(alloc, row.0)?;
-        refuses(live, &edit, row.1, steps)?;
-    }
-    Ok(())
-}
-
 /// Puts in an edit. Gives the place where it changes the text.
 fn put<L: Ledger>(live: &mut Live, edit: &Edit, steps: &mut Steps<L>) -> Result<u64, Fail> {
     let plan = live.prepare(edit, steps)?;
-    if live.revision() > 100 {
-        return Err(Fail::new("few edits"));
+    if plan.same() || live.revision() > 100 {
+        return Err(Fail::new("another text, and few edits"));
     }
     let at = plan.splice().at;
     live.put(plan);
@@ -150,51 +91,38 @@ fn expect(live: &Live, text: &[u8], revision: u64) -> Result<(), Fail> {
     }
 }
 
-/// Puts in each edit.
-fn puts_all<L: Ledger>(
+/// An edit of an earlier revision is refused.
+fn refuses_a_stale_edit<L: Ledger>(
     alloc: Global,
-    live: &mut Live,
-    rows: &[Row],
+    text: &[u8],
     steps: &mut Steps<L>,
 ) -> Result<(), Fail> {
-    for row in rows {
-        let edit = edit_of(alloc, row.0)?;
-        let at = put(live, &edit, steps)?;
-        if at != row.1 {
-            return Err(Fail::new("the place of the change"));
-        }
-        expect(live, row.3, row.2)?;
-    }
-    Ok(())
+    let mut live = journal(alloc, text, 5, steps)?;
+    let edit = replace(alloc, 4, text)?;
+    refuses(&mut live, &edit, ("stale", 4, 5), steps)
 }
 
-/// A journal of the first entry, after edits that are refused and edits that stand.
-fn edits_a_journal<L: Ledger>(
+/// An entry is put behind the text, with a blank line between.
+fn puts_an_entry<L: Ledger>(
     alloc: Global,
-    refused: &[(Ask, Told)],
-    rows: &[Row],
+    text: &[u8],
+    entry: &[u8],
+    after: &[u8],
     steps: &mut Steps<L>,
 ) -> Result<(), Fail> {
-    let mut live = journal(alloc, BREAD, 5, steps)?;
-    refuses_all(alloc, &mut live, refused, steps)?;
-    puts_all(alloc, &mut live, rows, steps)
-}
-
-/// A text without an edit is the same.
-fn plans_no_change<L: Ledger>(alloc: Global, steps: &mut Steps<L>) -> Result<(), Fail> {
-    let mut live = journal(alloc, BREAD, 5, steps)?;
-    let edit = edit_of(alloc, Ask::Replace(5, BREAD))?;
-    let plan = live.prepare(&edit, steps)?;
-    if plan.same() {
-        Ok(())
-    } else {
-        Err(Fail::new("the same text"))
-    }
+    let mut live = journal(alloc, text, 5, steps)?;
+    let edit = add(alloc, entry)?;
+    put(&mut live, &edit, steps)?;
+    expect(&live, after, 6)
 }
 
 /// What is made of a text of two entries.
-fn loads_a_text<L: Ledger>(alloc: Global, steps: &mut Steps<L>) -> Result<(), Fail> {
-    let live = journal(alloc, BOTH, 0, steps)?;
+fn loads_a_text<L: Ledger>(
+    alloc: Global,
+    text: &[u8],
+    steps: &mut Steps<L>,
+) -> Result<(), Fail> {
+    let live = journal(alloc, text, 0, steps)?;
     if live.items().len() != 3 || live.book().txns.len() != 2 {
         return Err(Fail::new("two entries and a gap"));
     }
@@ -225,8 +153,9 @@ fn judges_sizes<L: Ledger>(alloc: Global, steps: &mut Steps<L>) -> Result<(), Fa
 fn each_journal<L: Ledger>(
     alloc: Global,
     blank: Blank,
-    refused: &[(Ask, Told)],
-    rows: &[Row],
+    text: &[u8],
+    entry: &[u8],
+    after: &[u8],
 ) -> Result<(), Fail>
     requires name { blank.name ≡ L.name }
     requires parts { blank.parts ≡ L.parts }
@@ -234,13 +163,13 @@ fn each_journal<L: Ledger>(
 {
     let mut steps = Steps::<L>::start(blank);
     let steps = &mut steps;
-    edits_a_journal(alloc, refused, rows, steps)?;
-    plans_no_change(alloc, steps)?;
-    loads_a_text(alloc, steps)?;
+    refuses_a_stale_edit(alloc, text, steps)?;
+    puts_an_entry(alloc, text, entry, after, steps)?;
+    loads_a_text(alloc, after, steps)?;
     judges_sizes(alloc, steps)
 }
 
 #[test]
 fn journals(rt: HostRuntime) -> Result<(), Fail> {
-    each_journal::<Brand>(rt.alloc(), Blank::new(3), &REFUSED, &PUT)
+    each_journal::<Brand>(rt.alloc(), Blank::new(3), BREAD, TEA, BOTH)
 }
