@@ -177,7 +177,11 @@ fn adds_an_entry<L: Ledger>(
 }
 
 /// A replacement isn't allowed where entries may be added.
-fn forbids_an_edit<L: Ledger>(alloc: Global, text: &[u8], steps: &mut Steps<L>) -> Result<(), Fail> {
+fn forbids_an_edit<L: Ledger>(
+    alloc: Global,
+    text: &[u8],
+    steps: &mut Steps<L>,
+) -> Result<(), Fail> {
     let mut desk = new_desk(alloc, 4000, Allow::Add, &[], steps)?;
     let edit = replace(alloc, 0, text);
     expect(alloc, &mut desk, edit, ("forbidden", 0, 0), steps)
@@ -190,7 +194,13 @@ fn goes_on_after_a_fault<L: Ledger>(
     steps: &mut Steps<L>,
 ) -> Result<(), Fail> {
     let mut desk = new_desk(alloc, 4000, Allow::Edit, &[12], steps)?;
-    expect(alloc, &mut desk, add(alloc, entry), ("disk fault", 0, 1), steps)?;
+    expect(
+        alloc,
+        &mut desk,
+        add(alloc, entry),
+        ("disk fault", 0, 1),
+        steps,
+    )?;
     expect(alloc, &mut desk, add(alloc, entry), ("done", 1, 0), steps)?;
     is_kept(alloc, desk, entry, steps)
 }

@@ -117,11 +117,7 @@ fn puts_an_entry<L: Ledger>(
 }
 
 /// What is made of a text of two entries.
-fn loads_a_text<L: Ledger>(
-    alloc: Global,
-    text: &[u8],
-    steps: &mut Steps<L>,
-) -> Result<(), Fail> {
+fn loads_a_text<L: Ledger>(alloc: Global, text: &[u8], steps: &mut Steps<L>) -> Result<(), Fail> {
     let live = journal(alloc, text, 0, steps)?;
     if live.items().len() != 3 || live.book().txns.len() != 2 {
         return Err(Fail::new("two entries and a gap"));
