@@ -1,5 +1,5 @@
 -- A machine whose disks don't fail makes a history.
-use Rattle.std.proofs.Common.{◌≡◌, ◌≤◌, ℕ, ◌+◌, min, max, List, [], ◌∷◌, Some, refl, sym, ◌∙◌, ap, subst, arith, tt}
+use Rattle.std.proofs.Common.{◌≡◌, ◌≤◌, ℕ, ◌+◌, min, max, List, [], ◌∷◌, Some, refl, sym, ◌∙◌, ap, subst, arith}
 use Rattle.hl_base.specs.declared.disk.Disk.{Ghosts}
 use Rattle.text_store.specs.Stores.{bounds, disks, fault_count}
 use Rattle.desk.specs.Desks.{IsServed, Leads, state_of, faults_of}
@@ -11,12 +11,12 @@ use Rattle.command_line.specs.Talks.{IsHistory, NeverFails}
 within : (old new bound most : ℕ) → new ≤ max old bound → old ≤ most → bound ≤ most → new ≤ most
 within old new bound most a b c = omega (arith, a, b, c)
 
-module _ {D : Type 0} {g : Ghosts D} (most : ℕ) where
+module _ {D : Type 0} {g : Ghosts D} (most : ℕ) (unfailing : (disk : D) (room : ℕ) → g.unfailing_to disk ≡ Some room → g.reach disk ≤ room → g.failures disk ≡ 0) where
   -- no call failed
   pub no_faults : (desk : Desk D g) → NeverFails most desk → faults_of desk ≡ 0
   no_faults desk n =
-      let first : g.failures (disks desk.store).0 ≡ 0 = g.unfailing (disks desk.store).0 most n.first n.reach_first in
-      let second : g.failures (disks desk.store).1 ≡ 0 = g.unfailing (disks desk.store).1 most n.second n.reach_second in
+      let first : g.failures (disks desk.store).0 ≡ 0 = unfailing (disks desk.store).0 most n.first n.reach_first in
+      let second : g.failures (disks desk.store).1 ≡ 0 = unfailing (disks desk.store).1 most n.second n.reach_second in
       omega (arith, first, second)
 
   -- a request leaves it so

@@ -1,5 +1,5 @@
 mod Endings
 mod Histories
-mod Made
 mod TalkEndings
+mod Talking
 mod Words

@@ -4,8 +4,10 @@ use Rattle.hl_base.specs.Causes.{Rose}
 use Rattle.web_desk.specs.Counts.{Counted}
 use Rattle.web_desk.specs.declared.conn_end.ConnEnd.{ConnEnd}
 use Rattle.web_desk.specs.declared.conn_end.ConnEnd.TheVariants as conn
+use Rattle.web_desk.specs.declared.conn_end.Way.{Way}
 use Rattle.web_desk.specs.declared.conn_end.Way.TheVariants.{Read, Write}
-use Rattle.command_line.specs.Answers.{IsStatus}
+use Rattle.command_line.specs.Answers.{IsStatus, Says}
+use Rattle.command_line.specs.Errors.{read_fault_line, write_fault_line}
 use Rattle.command_line.specs.Talks.{TellsEnd, end_status}
 
 -- the status is that of the end, or a line couldn't be written
@@ -110,3 +112,14 @@ write_counted end ro rn wo wn fo fn (inl e) c =
     let rose : F (conn.LinkFault Write) = subst F e c in
     inl rose.1
 write_counted end ro rn wo wn fo fn (inr h) c = inr h
+
+-- a fault of the link is told by its line
+pub fault_read : (way : Way) (status : ℕ) (old new : Option (List ℕ)) (fo fn : ℕ) → way ≡ Read → Says status 3 read_fault_line old new fo fn → TellsEnd (conn.LinkFault way) status old new fo fn
+fault_read way status old new fo fn e h =
+    let F : Way → Type 0 = λ w. TellsEnd (conn.LinkFault w) status old new fo fn in
+    subst F (sym e) h
+
+pub fault_write : (way : Way) (status : ℕ) (old new : Option (List ℕ)) (fo fn : ℕ) → way ≡ Write → Says status 4 write_fault_line old new fo fn → TellsEnd (conn.LinkFault way) status old new fo fn
+fault_write way status old new fo fn e h =
+    let F : Way → Type 0 = λ w. TellsEnd (conn.LinkFault w) status old new fo fn in
+    subst F (sym e) h

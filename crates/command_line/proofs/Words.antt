@@ -5,7 +5,7 @@ use Rattle.command_line.specs.Commands.{is_talk}
 use Rattle.command_line.specs.Errors.{usage_word_line}
 use Rattle.command_line.specs.Output.{usage_of}
 
-either : (a b : Bool) (line : List ℕ) → b ≡ true → (if a || b then None else Some line) ≡ None {List ℕ}
+either : (a b : Bool) (line : List ℕ) → b ≡ true → (if a || b then None else Some line) ≡ None
 either true b line h = refl
 either false b line h = rw h refl
 

@@ -9,3 +9,4 @@ mod streams;
 mod talk;
 
 pub use program::{Status, run};
+pub use streams::Streams;

@@ -13,6 +13,7 @@ ghost use Rattle.web_desk.specs.declared.conn_end.ConnEnd.{ConnEnd};
 use crate::errors::{no_command, past_limit, unknown_word};
 use crate::refusal::Refusal;
 use crate::report::{MOST_BYTES, balance};
+use crate::streams::Streams;
 use crate::talk::talk;
 use hl_base::{Bytes, Memory, ReadAllFault, Sink, Source, Steps, Text, read_all, write_all};
 use hl_time::Day;
@@ -177,43 +178,50 @@ pub fn run<J: Source, O: Sink, E: Sink, L: Ledger>(
     alloc: Global,
     words: &[Text],
     day: Day,
-    input: &mut J,
-    out: &mut O,
+    streams: &mut Streams<J, O>,
     err: &mut E,
     steps: &mut Steps<L>,
 ) -> Status
     requires { IsDay day.0 }
     ensures statuses { IsStatus result.0 }
     // All was done: the input was read to its end, and the answer to it was written.
-    ensures done { is_talk words.now ≡ false → result.0 ≡ 0 → (E.written err.new ≡ E.written err.old) × IfSome (J.left input.old) (λ text.
-        ((outcome words.now day.0 text).status ≡ 0) × (J.left input.new ≡ Some [])
-        × Wrote (O.written out.old) (O.written out.new) (outcome words.now day.0 text).output) }
+    ensures done { is_talk words.now ≡ false → result.0 ≡ 0 → (E.written err.new ≡ E.written err.old) × IfSome (J.left streams.old.input) (λ text.
+        ((outcome words.now day.0 text).status ≡ 0) × (J.left streams.new.input ≡ Some [])
+        × Wrote (O.written streams.old.output) (O.written streams.new.output) (outcome words.now day.0 text).output) }
     // It was refused, and nothing of a report was written.
-    ensures refused { is_talk words.now ≡ false → IsRefusal result.0 → (O.written out.new ≡ O.written out.old) × IfSome (J.left input.old) (λ text.
+    ensures refused { is_talk words.now ≡ false → IsRefusal result.0 → (O.written streams.new.output ≡ O.written streams.old.output) × IfSome (J.left streams.old.input) (λ text.
         ((outcome words.now day.0 text).status ≡ result.0)
         × Wrote (E.written err.old) (E.written err.new) (outcome words.now day.0 text).error) }
     // Words without a reading are refused whatever the input is, and no others are refused so.
     ensures usage { IsUsage (usage_of words.now) result.0 (E.written err.old) (E.written err.new) }
-    ensures read_fault { is_talk words.now ≡ false → result.0 ≡ 3 → Rose (J.faults input.old) (J.faults input.new)
-        × (O.written out.new ≡ O.written out.old) × Wrote (E.written err.old) (E.written err.new) read_fault_line }
-    ensures write_fault { is_talk words.now ≡ false → result.0 ≡ 4 → (Rose (O.faults out.old) (O.faults out.new) ⊎ Rose (E.faults err.old) (E.faults err.new))
-        × IfSome (J.left input.old) (λ text. WrotePrefix (O.written out.old) (O.written out.new) (outcome words.now day.0 text).output) }
-    ensures memory { is_talk words.now ≡ false → result.0 ≡ 6 → (O.written out.new ≡ O.written out.old) × Wrote (E.written err.old) (E.written err.new) memory_line }
+    ensures read_fault { is_talk words.now ≡ false → result.0 ≡ 3 → Rose (J.faults streams.old.input) (J.faults streams.new.input)
+        × (O.written streams.new.output ≡ O.written streams.old.output) × Wrote (E.written err.old) (E.written err.new) read_fault_line }
+    ensures write_fault { is_talk words.now ≡ false → result.0 ≡ 4 → (Rose (O.faults streams.old.output) (O.faults streams.new.output) ⊎ Rose (E.faults err.old) (E.faults err.new))
+        × IfSome (J.left streams.old.input) (λ text. WrotePrefix (O.written streams.old.output) (O.written streams.new.output) (outcome words.now day.0 text).output) }
+    ensures memory { is_talk words.now ≡ false → result.0 ≡ 6 → (O.written streams.new.output ≡ O.written streams.old.output) × Wrote (E.written err.old) (E.written err.new) memory_line }
     // Where nothing of the outside can fail, nothing is said to have failed.
-    ensures sound_input { is_talk words.now ≡ false → J.IsSound input.old → result.0 ≢ 3 }
-    ensures sound_outputs { is_talk words.now ≡ false → IfSome (J.left input.old) (λ text. O.HasRoom out.old (length (outcome words.now day.0 text).output)
+    ensures sound_input { is_talk words.now ≡ false → J.IsSound streams.old.input → result.0 ≢ 3 }
+    ensures sound_outputs { is_talk words.now ≡ false → IfSome (J.left streams.old.input) (λ text. O.HasRoom streams.old.output (length (outcome words.now day.0 text).output)
         → ((line : List ℕ) → IsErrorLine line (outcome words.now day.0 text) → E.HasRoom err.old (length line)) → result.0 ≢ 4) }
     // A connection: its messages, answers and end are as they have to be, and its entries are a history.
-    ensures talked { is_talk words.now ≡ true → IfSome (J.left input.old) (λ bytes. IfSome (O.written out.old) (λ before.
-        (end : ConnEnd) × (text : List ℕ) × (O.written out.new ≡ Some (before ++ text)) × Talks day.0 bytes end text
+    ensures talked { is_talk words.now ≡ true → IfSome (J.left streams.old.input) (λ bytes. IfSome (O.written streams.old.output) (λ before.
+        (end : ConnEnd) × (text : List ℕ) × (O.written streams.new.output ≡ Some (before ++ text)) × Talks day.0 bytes end text
         × TellsEnd end result.0 (E.written err.old) (E.written err.new) (E.faults err.old) (E.faults err.new))) }
-    ensures talk_read_fault { is_talk words.now ≡ true → result.0 ≡ 3 → Rose (J.faults input.old) (J.faults input.new) }
+    ensures talk_read_fault { is_talk words.now ≡ true → result.0 ≡ 3 → Rose (J.faults streams.old.input) (J.faults streams.new.input) }
     ensures talk_write_fault { is_talk words.now ≡ true → result.0 ≡ 4
-        → Rose (O.faults out.old) (O.faults out.new) ⊎ Rose (E.faults err.old) (E.faults err.new) }
+        → Rose (O.faults streams.old.output) (O.faults streams.new.output) ⊎ Rose (E.faults err.old) (E.faults err.new) }
 {
     if is_talk(words) {
-        talk(alloc, day, input, out, err, steps)
+        talk(alloc, day, streams, err, steps)
     } else {
-        run_report(alloc, words, day, input, out, err, steps)
+        run_report(
+            alloc,
+            words,
+            day,
+            &mut streams.input,
+            &mut streams.output,
+            err,
+            steps,
+        )
     }
 }

@@ -1,24 +1,25 @@
-//! An input and an output as one connection.
+//! An input and an output, which are also one connection.
 
 use hl_base::{Failed, Link, Sink, Source};
 
-/// A connection whose bytes come from an input and are sent to an output.
+/// What the program reads and where it writes. As a connection its bytes come from the input and are sent to the
+/// output.
 #[derive(Drop)]
-pub struct Streams<'a, J: Source, O: Sink> {
-    pub input: &'a mut J,
-    pub output: &'a mut O,
+pub struct Streams<J, O> {
+    pub input: J,
+    pub output: O,
 }
 
-impl<J: Source, O: Sink> Link for Streams<'_, J, O> {
-    ghost coming = { λ s. J.left s.input.now };
+impl<J: Source, O: Sink> Link for Streams<J, O> {
+    ghost coming = { λ s. J.left s.input };
 
-    ghost sent = { λ s. O.written s.output.now };
+    ghost sent = { λ s. O.written s.output };
 
-    ghost read_faults = { λ s. J.faults s.input.now };
+    ghost read_faults = { λ s. J.faults s.input };
 
-    ghost write_faults = { λ s. O.faults s.output.now };
+    ghost write_faults = { λ s. O.faults s.output };
 
-    ghost HasRoom = { λ s more. J.IsSound s.input.now × O.HasRoom s.output.now more };
+    ghost HasRoom = { λ s more. J.IsSound s.input × O.HasRoom s.output more };
 
     fn read(&mut self, room: &mut [u8]) -> Result<usize, Failed> {
         self.input.read(room)

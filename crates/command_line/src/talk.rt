@@ -64,14 +64,23 @@ fn say<E: Sink>(err: &mut E, status: u8, line: &[u8]) -> Status
     }
 }
 
+/// The exit status of a read or a write that failed, with its line.
+fn tell_fault<E: Sink>(err: &mut E, way: Way) -> Status
+    ensures { TellsEnd (ConnEnd.LinkFault way) result.0 (E.written err.old) (E.written err.new) (E.faults err.old) (E.faults err.new) }
+{
+    match way {
+        Way::Read => say(err, 3, b"error: read fault\n"),
+        Way::Write => say(err, 4, b"error: write fault\n"),
+    }
+}
+
 /// The exit status of an end. Where it isn't a good one its line is written.
 fn tell_end<E: Sink>(err: &mut E, end: ConnEnd) -> Status
     ensures { TellsEnd end result.0 (E.written err.old) (E.written err.new) (E.faults err.old) (E.faults err.new) }
 {
     match end {
         ConnEnd::Closed => Status(0),
-        ConnEnd::LinkFault { way: Way::Read } => say(err, 3, b"error: read fault\n"),
-        ConnEnd::LinkFault { way: Way::Write } => say(err, 4, b"error: write fault\n"),
+        ConnEnd::LinkFault { way } => tell_fault(err, way),
         ConnEnd::Memory => say(err, 6, b"error: memory\n"),
         ConnEnd::BadHead { .. }
         | ConnEnd::HeadTooLong
@@ -86,21 +95,19 @@ fn tell_end<E: Sink>(err: &mut E, end: ConnEnd) -> Status
 pub fn talk<J: Source, O: Sink, E: Sink, L: Ledger>(
     alloc: Global,
     day: Day,
-    input: &mut J,
-    out: &mut O,
+    streams: &mut Streams<J, O>,
     err: &mut E,
     steps: &mut Steps<L>,
 ) -> Status
     requires { IsDay day.0 }
     ensures statuses { IsStatus result.0 }
     ensures read { result.0 ≢ 2 }
-    ensures talked { IfSome (J.left input.old) (λ bytes. IfSome (O.written out.old) (λ before.
-        (end : ConnEnd) × (text : List ℕ) × (O.written out.new ≡ Some (before ++ text)) × Talks day.0 bytes end text
+    ensures talked { IfSome (J.left streams.old.input) (λ bytes. IfSome (O.written streams.old.output) (λ before.
+        (end : ConnEnd) × (text : List ℕ) × (O.written streams.new.output ≡ Some (before ++ text)) × Talks day.0 bytes end text
         × TellsEnd end result.0 (E.written err.old) (E.written err.new) (E.faults err.old) (E.faults err.new))) }
-    ensures read_fault { result.0 ≡ 3 → Rose (J.faults input.old) (J.faults input.new) }
-    ensures write_fault { result.0 ≡ 4 → Rose (O.faults out.old) (O.faults out.new) ⊎ Rose (E.faults err.old) (E.faults err.new) }
+    ensures read_fault { result.0 ≡ 3 → Rose (J.faults streams.old.input) (J.faults streams.new.input) }
+    ensures write_fault { result.0 ≡ 4 → Rose (O.faults streams.old.output) (O.faults streams.new.output) ⊎ Rose (E.faults err.old) (E.faults err.new) }
 {
-    let mut link = Streams { input, output: out };
-    let end = talk_over(alloc, day, &mut link, steps);
+    let end = talk_over(alloc, day, streams, steps);
     tell_end(err, end)
 }

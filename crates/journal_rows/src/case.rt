@@ -2,7 +2,7 @@
 ghost use Rattle.std.specs.Prelude.{◌≡◌, ◌<◌};
 
 use crate::cuts::Cuts;
-use command_line::run;
+use command_line::{Streams, run};
 use hl_base::{Bytes, MemSink, MemSource, Memory, Source, Steps, Text};
 use hl_time::Day;
 use std::alloc::Global;
@@ -32,23 +32,23 @@ const ROOM: u64 = 65536;
 
 /// Runs the program on the case.
 pub fn answer(alloc: Global, case: &Case) -> Result<Seen, Memory> {
-    let mut input = MemSource::new(alloc, case.text, case.read_fails)?;
-    counted::<Brand, MemSource>(alloc, Blank::new(3), case, &mut input)
+    let input = MemSource::new(alloc, case.text, case.read_fails)?;
+    counted::<Brand, MemSource>(alloc, Blank::new(3), case, input)
 }
 
 /// Runs the program on the case, where a read gives at most so many bytes.
 pub fn answer_in_cuts(alloc: Global, case: &Case, most: usize) -> Result<Seen, Memory>
     requires { 0 < most }
 {
-    let mut input = Cuts::new(alloc, case.text, case.read_fails, most)?;
-    counted::<Brand, Cuts>(alloc, Blank::new(3), case, &mut input)
+    let input = Cuts::new(alloc, case.text, case.read_fails, most)?;
+    counted::<Brand, Cuts>(alloc, Blank::new(3), case, input)
 }
 
-fn counted<L: Ledger, J: Source>(
+fn counted<L: Ledger, J: Source + Drop>(
     alloc: Global,
     blank: Blank,
     case: &Case,
-    input: &mut J,
+    input: J,
 ) -> Result<Seen, Memory>
     requires name { blank.name ≡ L.name }
     requires parts { blank.parts ≡ L.parts }
@@ -58,7 +58,8 @@ fn counted<L: Ledger, J: Source>(
     for word in case.words {
         words.push(Text::copied(alloc, word)?)?;
     }
-    let mut out = MemSink::new(alloc, ROOM, case.write_fails)?;
+    let output = MemSink::new(alloc, ROOM, case.write_fails)?;
+    let mut streams = Streams { input, output };
     let mut err = MemSink::new(alloc, ROOM, case.error_fails)?;
     let mut steps = Steps::<L>::start(blank);
     let day = Day(739_052);
@@ -66,14 +67,13 @@ fn counted<L: Ledger, J: Source>(
         alloc,
         words.as_slice(),
         day,
-        input,
-        &mut out,
+        &mut streams,
         &mut err,
         &mut steps,
     );
     Ok(Seen {
         status: status.0,
-        output: Bytes::copied(alloc, out.as_slice())?,
+        output: Bytes::copied(alloc, streams.output.as_slice())?,
         error: Bytes::copied(alloc, err.as_slice())?,
     })
 }

@@ -4,7 +4,7 @@ ghost use Rattle.hl_time.specs.Calendar.{IsDay};
 ghost use Rattle.std.specs.Prelude.{◌≡◌, ◌≤◌};
 
 use crate::streams::{Input, Output};
-use command_line::{Status, run};
+use command_line::{Status, Streams, run};
 use hl_base::{Memory, Sink, Source, Steps, Text};
 use hl_time::Day;
 use std::alloc::Global;
@@ -27,7 +27,7 @@ const OUT_OF_MEMORY: u8 = 6;
 
 /// Runs the program on the process's words and day, over these streams. Where there is no memory for the words nothing
 /// is read or written.
-pub fn run_process<R: Env + Clock + AllocGlobal, I: Read, O: Write, E: Write>(
+pub fn run_process<R: Env + Clock + AllocGlobal, I: Read + Drop, O: Write + Drop, E: Write + Drop>(
     rt: &R,
     input: I,
     output: O,
@@ -40,8 +40,10 @@ pub fn run_process<R: Env + Clock + AllocGlobal, I: Read, O: Write, E: Write>(
                 Blank::new(3),
                 words.as_slice(),
                 today(rt),
-                &mut Input::new(input),
-                &mut Output::new(output),
+                &mut Streams {
+                    input: Input::new(input),
+                    output: Output::new(output),
+                },
                 &mut Output::new(errors),
             );
             ExitCode::from(status)
@@ -81,8 +83,7 @@ fn counted<L: Ledger, J: Source, O: Sink, E: Sink>(
     blank: Blank,
     words: &[Text],
     day: Day,
-    input: &mut J,
-    out: &mut O,
+    streams: &mut Streams<J, O>,
     err: &mut E,
 ) -> Status
     requires name { blank.name ≡ L.name }
@@ -91,5 +92,5 @@ fn counted<L: Ledger, J: Source, O: Sink, E: Sink>(
     requires day { IsDay day.0 }
 {
     let mut steps = Steps::<L>::start(blank);
-    run(alloc, words, day, input, out, err, &mut steps)
+    run(alloc, words, day, streams, err, &mut steps)
 }
