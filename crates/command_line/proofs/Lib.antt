@@ -2,4 +2,3 @@ mod Endings
 mod Histories
 mod TalkEndings
 mod Talking
-mod Words
