@@ -2,15 +2,7 @@
 #![tactic(auto)]
 
 pub mod case;
-mod cuts;
-#[cfg(test)]
-mod ends;
-#[cfg(test)]
-mod heads;
 #[cfg(test)]
 mod limits;
 #[cfg(test)]
 mod rows;
-pub mod served;
-#[cfg(test)]
-mod talks;
