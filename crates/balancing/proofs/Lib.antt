@@ -1,5 +1,6 @@
 pub mod Adding
 mod Rows
+mod Settling
 pub mod Causes
 pub mod Covers
 pub mod Filled

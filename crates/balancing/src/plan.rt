@@ -4,7 +4,7 @@ ghost use Rattle.std.specs.List.{list_all};
 ghost use Rattle.book.specs.declared.fault.Cause.TheVariants as cause;
 ghost use Rattle.book.specs.declared.transaction.Side.TheVariants.{Real, Balanced};
 ghost use Rattle.balancing.specs.Tally.{named, turnover_fits, IsRange};
-ghost use Rattle.balancing.specs.Entry.{costs_fit, misses, exchanges, left_over, needed, or_nothing, found_values, recorded_between, recorded_cost, unbalanced_by, unbalanced_sums, side_values, same_side, is_nothing};
+ghost use Rattle.balancing.specs.Entry.{costs_fit, misses, exchanges, left_over, needed, or_nothing, found_values, recorded_between, recorded_cost, unbalanced_by, unbalanced_sums, side_values, same_side, is_nothing, is_nothing_at, precision_of};
 
 use crate::rules::{Found, Recorded, are_opposite, are_plain, left_over, misses, recorded_between};
 use crate::sums::{same_side, side_sums};
@@ -49,7 +49,7 @@ pub(crate) fn make_plan(alloc: Global, postings: &[Posting]) -> Result<Plan, Tal
         Ok(balanced) => balanced,
         Err(fault) => return Err(fault),
     };
-    let exchanges = are_plain(postings) && are_opposite(&real.left);
+    let exchanges = exchanges(postings, &real.left);
     let recorded = match recorded_if(alloc, exchanges, postings, &real.left) {
         Ok(recorded) => recorded,
         Err(Memory) => return Err(TallyFault::Memory),
@@ -72,6 +72,15 @@ pub(crate) fn make_plan(alloc: Global, postings: &[Posting]) -> Result<Plan, Tal
     })
 }
 
+/// Whether nothing else is written and two symbols stand against each other, by what is left of the real sums where none
+/// is missing.
+fn exchanges(postings: &[Posting], left: &[Sum]) -> bool
+    requires { misses Real postings.now ≡ false → named left.now ≡ left_over Real postings.now }
+    ensures { result ≡ exchanges postings.now }
+{
+    are_plain(postings) && are_opposite(left)
+}
+
 /// Whether no posting is of a side.
 fn lacks_side(postings: &[Posting], side: Side) -> bool
     ensures { result ≡ list_all (λ p. not (same_side side p.side)) postings.now }
@@ -81,7 +90,7 @@ fn lacks_side(postings: &[Posting], side: Side) -> bool
         .all(|posting| !same_side(side, posting.side))
 }
 
-/// What is left of the sums of a side, and what is missing there.
+/// What is left of the sums of a side where no amount is missing, and what is missing there.
 #[tactic(auto, using(crate::proofs::Sides::no_sums, crate::proofs::Sides::none_missing))]
 fn side_plan<'a>(
     alloc: Global,
@@ -89,7 +98,7 @@ fn side_plan<'a>(
     side: Side,
 ) -> Result<SidePlan<'a>, TallyFault>
     requires { costs_fit postings.now ≡ true }
-    ensures left { IfOk result (λ plan. named plan.left.items ≡ left_over side postings.now) }
+    ensures left { IfOk result (λ plan. misses side postings.now ≡ false → named plan.left.items ≡ left_over side postings.now) }
     ensures found { IfOk result (λ plan. misses side postings.now ≡ true → plan.found.items ≡ found_values side postings.now) }
     ensures misses { IfOk result (λ plan. plan.misses ≡ misses side postings.now) }
     ensures range { IfErr result (λ e. IsRange e → turnover_fits (side_values side postings.now) ≡ false) }
@@ -105,11 +114,11 @@ fn side_plan<'a>(
         Ok(sums) => sums,
         Err(fault) => return Err(fault),
     };
-    let left = match left_over(alloc, postings, &sums) {
+    let misses = misses(postings, side);
+    let left = match left_unless(alloc, misses, postings, &sums) {
         Ok(left) => left,
         Err(Memory) => return Err(TallyFault::Memory),
     };
-    let misses = misses(postings, side);
     let found = match found_if(alloc, misses, &sums) {
         Ok(found) => found,
         Err(Memory) => return Err(TallyFault::Memory),
@@ -119,6 +128,23 @@ fn side_plan<'a>(
         found,
         misses,
     })
+}
+
+/// The sums that don't count as zero, if no amount is missing.
+fn left_unless<'a>(
+    alloc: Global,
+    misses: bool,
+    postings: &[Posting],
+    sums: &[Sum<'a>],
+) -> Result<Vec<Sum<'a>>, Memory>
+    ensures { IfOk result (λ left. misses ≡ false → named left.items
+        ≡ filter (λ sum. not (is_nothing_at (precision_of sum.0 postings.now) sum.1)) (named sums.now)) }
+{
+    if misses {
+        Ok(Vec::new(alloc))
+    } else {
+        left_over(alloc, postings, sums)
+    }
 }
 
 /// What is found for a missing amount, if there is one.

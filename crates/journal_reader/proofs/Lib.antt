@@ -1,6 +1,7 @@
 mod After
 mod Bare
 mod Both
+mod Digits
 mod Entries
 mod Fronts
 mod Laws
@@ -8,6 +9,7 @@ mod LineEnds
 mod Lines
 mod Names
 mod Parts
+mod Places
 mod Remarks
 mod Rows
 mod TagSteps

@@ -85,3 +85,12 @@ pub inside_utf8 : (text : List ℕ) (first last : ℕ) → is_within first last 
 inside_utf8 text first last e low high u =
     let g = within_parts (leb 2 (length text)) (get_or text 0 0 == first) (get_or text (length text - 1) 0 == last) e in
     within_utf8 text (within_long text first last e) (omega (arith, eqb-true _ _ g.1)) (omega (arith, eqb-true _ _ g.2)) u
+
+-- no account ends before a byte above the blank
+pub goes_on : (b : ℕ) (bs : List ℕ) → 32 < b → false ≡ ends_name b bs
+goes_on b bs high = by (b == 9) (is_white b) (first_is is_white bs) b refl refl high
+  where
+    by : (t w n : Bool) (b : ℕ) → (b == 9) ≡ t → is_white b ≡ w → 32 < b → false ≡ (t || (w && n))
+    by true w n b e f high = absurd (grind (arith, nat_tests))
+    by false true n b e f high = absurd (grind (arith, nat_tests))
+    by false false n b e f high = refl

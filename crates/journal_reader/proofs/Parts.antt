@@ -1,11 +1,11 @@
 -- The parts of an account, read byte by byte.
-use Rattle.std.proofs.Common.{◌≡◌, ℕ, suc, ◌+◌, ◌<◌, Bool, true, false, cond, ◌==◌, ◌&&◌, leb, List, [], ◌∷◌, length, refl, sym, ◌∙◌, arith, drop, get_or, count_by}
+use Rattle.std.proofs.Common.{◌≡◌, ℕ, suc, ◌+◌, ◌<◌, ◌≤◌, Bool, true, false, cond, ◌==◌, ◌&&◌, leb, List, [], ◌∷◌, length, refl, sym, ◌∙◌, arith, drop, get_or, count_by}
 use Rattle.std.specs.List.{list_all}
 use Rattle.hl_base.specs.Lines.{onto}
 use Rattle.book.specs.Accounts.{parts_of}
 use Rattle.std.proofs.lemmas.Bool.Decides.{nat_tests}
 use Rattle.std.proofs.lemmas.List.{at_drop_more}
-use Rattle.std.proofs.lemmas.List.Sums.{sum_by-cons}
+use Rattle.std.proofs.lemmas.List.Sums.{count_by-le-length, sum_by-cons}
 
 -- no part is empty of what follows, of which the first part is open if it has a byte already
 abbrev pub filled_from : Bool → List ℕ → Bool
@@ -55,3 +55,7 @@ ends_closed account i is_open lt colon closed so_far =
     let more = at_drop_more (filled_from is_open) account i 0 lt in
     let stops : filled_from is_open (get_or account i 0 ∷ drop (i + 1) account) ≡ false = rw (colon, closed) refl in
     sym stops ∙ sym more ∙ so_far ∙ sym (fills_is account)
+
+-- a short account has few colons
+pub few_colons : (account : List ℕ) → length account < 64 → length (parts_of account) ≤ 64
+few_colons account short = omega (arith, part_count account, count_by-le-length (λ b. b == 58) account, short)

@@ -14,11 +14,12 @@ use book::{Cause, Side};
 use hl_base::Text;
 use std::alloc::Global;
 
-/// Whether an account ends before a byte.
+/// Whether an account ends before a byte. No white space lies above the blank, which tells most bytes at once.
+#[tactic(auto, using(crate::proofs::Names::goes_on))]
 fn ends_name(byte: u8, rest: &[u8]) -> bool
     ensures { result ≡ spec.ends_name byte rest.now }
 {
-    is_white(byte) && (byte == b'\t' || begins_white(rest))
+    byte <= b' ' && is_white(byte) && (byte == b'\t' || begins_white(rest))
 }
 
 /// How many bytes the account has that a text begins with: up to a tab or two white spaces.
@@ -117,12 +118,19 @@ fn colon_count(account: &[u8]) -> usize
     account.iter().filter(|byte| **byte == b':').count()
 }
 
+/// Whether an account has at most 64 parts; one of fewer bytes has.
+#[tactic(auto, using(crate::proofs::Parts::part_count, crate::proofs::Parts::few_colons))]
+fn has_few_parts(account: &[u8]) -> bool
+    ensures { result ≡ nat_le (length (parts_of account.now)) 64 }
+{
+    account.len() < 64 || colon_count(account) < 64
+}
+
 /// Whether an account has 1 to 64 parts, none of them empty.
-#[tactic(auto, using(crate::proofs::Parts::part_count))]
 pub(crate) fn has_parts(account: &[u8]) -> bool
     ensures { result ≡ spec.has_parts account.now }
 {
-    colon_count(account) < 64 && are_parts_filled(account)
+    has_few_parts(account) && are_parts_filled(account)
 }
 
 /// The side and the name that an account's text is.

@@ -18,7 +18,7 @@ use crate::context::Context;
 use crate::fault::{ReadFault, fault_at};
 use crate::head::read_head;
 use crate::posting::{line_ends, read_postings};
-use crate::scan::{cut_line, text_of};
+use crate::scan::{begins_digit, cut_line, text_of};
 use book::{Cause, Item, Txn};
 use hl_base::line::{kind_of, line_at};
 use hl_base::{Kind, Steps};
@@ -47,11 +47,15 @@ fn check_utf8(bytes: &[u8], line: u64) -> Result<(), ReadFault>
 }
 
 /// What a piece is.
+#[tactic(auto, using(crate::proofs::Digits::entry_front))]
 fn kind_at(bytes: &[u8]) -> Kind
     ensures { result ≡ items.kind_of (first_line bytes.now) }
 {
     if bytes.is_empty() {
         return Kind::Gap;
+    }
+    if begins_digit(bytes) {
+        return Kind::Entry;
     }
     let (first, _) = line_at(bytes, 0);
     kind_of(first)

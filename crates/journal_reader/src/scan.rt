@@ -9,6 +9,7 @@ ghost use Rattle.journal_reader.specs.Lines as spec;
 ghost use Rattle.journal_reader.specs.Symbols as symbols;
 
 use hl_base::{Memory, Text};
+use memchr::memchr;
 use std::alloc::Global;
 
 pub(crate) fn is_white(byte: u8) -> bool
@@ -105,12 +106,12 @@ fn symbol_length(text: &[u8]) -> usize
 }
 
 /// The place of the first such byte, or the length.
-#[tactic(auto, using(crate::proofs::Texts::prefix_count, crate::proofs::Texts::prefix_bound))]
+#[tactic(auto, using(crate::proofs::Places::first_place, crate::proofs::Places::no_place))]
 pub(crate) fn place_of(text: &[u8], byte: u8) -> usize
     ensures place { result ≡ position_or_len (λ b. b == byte) text.now }
     ensures bound { result ≤ length text.now }
 {
-    text.iter().take_while(|b| **b != byte).count()
+    memchr(byte, text).unwrap_or(text.len())
 }
 
 /// What follows the byte at a place.
@@ -168,6 +169,16 @@ pub(crate) fn begins_white(text: &[u8]) -> bool
     match text {
         [] => false,
         [first, ..] => is_white(*first),
+    }
+}
+
+/// Whether the text begins with a digit, as an entry does.
+pub(crate) fn begins_digit(text: &[u8]) -> bool
+    ensures { result ≡ items.begins_entry text.now }
+{
+    match text {
+        [] => false,
+        [first, ..] => is_digit(*first),
     }
 }
 
@@ -301,10 +312,8 @@ pub(crate) fn text_of(alloc: Global, bytes: &[u8]) -> Result<Text, Memory>
     requires { is_utf8 bytes.now ≡ true }
     ensures { IfOk result (λ text. text ≡ bytes.now) }
 {
-    match std::str::from_utf8(bytes) {
-        Ok(text) => Text::copied(alloc, text),
-        Err(_) => unreachable!(),
-    }
+    // The caller's bytes are UTF-8.
+    Text::copied(alloc, unsafe { std::str::from_utf8_unchecked(bytes) })
 }
 
 /// Whether bytes are a text in UTF-8.
