@@ -1,2 +1,3 @@
 pub mod BalanceList
+pub mod BookList
 pub mod Shown

@@ -1,15 +1,17 @@
 //! The balance list: a line for each amount of each account, dashes, and the total.
 ghost use Rattle.std.specs.Prelude.{◌≡◌, IfOk, map};
+ghost use Rattle.book.specs.Bounds.{TurnoverFits};
+ghost use Rattle.book.specs.Postings.{postings_of};
 ghost use Rattle.book.specs.Styles.{style_in};
-ghost use Rattle.reports.specs.Cells.{row_seen, seen};
+ghost use Rattle.reports.specs.Cells.{row_seen, rows_of, seen, totals_of};
 ghost use Rattle.balance_report.specs.BalanceList.{balance_list};
 
 use crate::lines::push_list;
 use crate::printed::{printed_cell, widest_amount};
 use crate::shown::{printed_rows, widest_row};
-use book::Styles;
+use book::{Book, Styles};
 use hl_base::{Bytes, Memory};
-use reports::{Cells, Job, ReportFault};
+use reports::{Cells, Job, ReportFault, make_cells};
 use std::alloc::Global;
 
 /// The least number of columns of the amounts.
@@ -38,4 +40,17 @@ pub fn balance_text(alloc: Global, cells: &Cells, job: &Job) -> Result<Bytes, Re
     ensures { IfOk result (λ text. text ≡ balance_list (style_in job.now.styles.now) (map row_seen cells.now.rows) (map seen cells.now.totals)) }
 {
     Ok(laid_out(alloc, cells, job.styles)?)
+}
+
+/// The balance list of a book, in the styles of a text's items.
+pub fn book_list(alloc: Global, book: &Book, styles: &Styles) -> Result<Bytes, Memory>
+    requires { TurnoverFits (postings_of book.now.txns) }
+    ensures { IfOk result (λ text. text ≡ balance_list (style_in styles.now)
+        (rows_of (postings_of book.now.txns)) (totals_of (postings_of book.now.txns))) }
+{
+    let job = Job { book, styles };
+    match make_cells(alloc, &job) {
+        Ok(cells) => laid_out(alloc, &cells, styles),
+        Err(ReportFault::Memory) => Err(Memory),
+    }
 }

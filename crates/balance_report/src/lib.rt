@@ -6,7 +6,7 @@ mod lines;
 mod printed;
 mod shown;
 
-pub use balance_list::balance_text;
+pub use balance_list::{balance_text, book_list};
 
 #[cfg(test)]
 mod tests;

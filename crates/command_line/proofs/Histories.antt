@@ -1,7 +1,7 @@
 -- A machine whose disks don't fail makes a history.
-use Rattle.std.proofs.Common.{◌≡◌, ◌≤◌, ℕ, ◌+◌, min, max, List, [], ◌∷◌, Some, refl, sym, ◌∙◌, ap, subst, arith}
+use Rattle.std.proofs.Common.{◌≡◌, ◌≤◌, ℕ, max, List, [], ◌∷◌, Some, ◌∙◌, subst, arith}
 use Rattle.hl_base.specs.declared.disk.Disk.{Ghosts}
-use Rattle.text_store.specs.Stores.{bounds, disks, fault_count}
+use Rattle.text_store.specs.Stores.{disks}
 use Rattle.desk.specs.Desks.{IsServed, Leads, state_of, faults_of}
 use Rattle.desk.specs.Entries.{Entry}
 use Rattle.desk.specs.Steps.{Step}

@@ -1,5 +1,5 @@
 -- How a connection may end, and the status of each end.
-use Rattle.std.proofs.Common.{◌≡◌, ◌≢◌, ◌⊎◌, inl, inr, ℕ, List, Option, refl, ap, sym, ◌∙◌, subst, arith}
+use Rattle.std.proofs.Common.{◌≡◌, ◌⊎◌, inl, inr, ℕ, List, Option, refl, sym, ◌∙◌, subst, arith}
 use Rattle.hl_base.specs.Causes.{Rose}
 use Rattle.web_desk.specs.Counts.{Counted}
 use Rattle.web_desk.specs.declared.conn_end.ConnEnd.{ConnEnd}

@@ -1,17 +1,14 @@
 -- What a command answers to a text on its input.
-use Rattle.std.specs.Prelude.{ℕ, ◌+◌, List, [], ◌∷◌, nat_lt, Option, Some, None, Result, Ok, Err, if◌then◌else◌, length, codes}
+use Rattle.std.specs.Prelude.{ℕ, ◌+◌, List, [], ◌∷◌, nat_lt, Option, Some, None, Result, Ok, Err, if◌then◌else◌, length}
 use Rattle.hl_base.specs.Items.{items_of}
 use Rattle.book.specs.declared.fault.Fault.{Fault}
 use Rattle.book.specs.declared.item.Placed.{Placed}
 use Rattle.book.specs.declared.item.Book.{Book}
-use Rattle.book.specs.Postings.{postings_of}
-use Rattle.book.specs.Style.{style_of}
 use Rattle.book.specs.FaultLine.{fault_line}
 use Rattle.hl_time.specs.Calendar.{year_of}
 use Rattle.journal_reader.specs.Items.{items_in}
 use Rattle.balancing.specs.Load.{load}
-use Rattle.reports.specs.Cells.{rows_of, totals_of}
-use Rattle.balance_report.specs.BalanceList.{balance_list}
+use Rattle.balance_report.specs.BookList.{book_list}
 use Rattle.command_line.specs.Commands.{is_command}
 use Rattle.command_line.specs.Errors.{usage_line, usage_word_line, limit_line, fault_status}
 
@@ -42,10 +39,6 @@ usage_after (word ∷ words) = Some (usage_word_line word)
 abbrev pub usage_of : List (List ℕ) → Option (List ℕ)
 usage_of [] = Some usage_line
 usage_of (word ∷ words) = if is_command word then usage_after words else Some (usage_word_line word)
-
--- the balance list of a book, in the styles of the text's items
-abbrev pub book_list : List Placed → Book → List ℕ
-book_list items book = balance_list (style_of items) (rows_of (postings_of book.txns)) (totals_of (postings_of book.txns))
 
 abbrev pub loaded_outcome : List Placed → Result Book Fault → Outcome
 loaded_outcome items (Ok book) = written (book_list items book)

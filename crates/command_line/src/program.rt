@@ -1,5 +1,5 @@
 //! The program's run over its words, its input and its outputs.
-ghost use Rattle.std.specs.Prelude.{◌≡◌, ◌≢◌, ◌⊎◌, ◌≤◌, ◌++◌, ℕ, List, [], Some, Err, IfOk, IfSome, length, true, false};
+ghost use Rattle.std.specs.Prelude.{◌≡◌, ◌≢◌, ◌⊎◌, ◌++◌, ℕ, List, [], Some, Err, IfOk, IfSome, length, true, false};
 ghost use Rattle.hl_base.specs.Causes.{Rose};
 ghost use Rattle.hl_time.specs.Calendar.{IsDay};
 ghost use Rattle.command_line.specs.Answers.{Answers, KeepsToUsage, Says, status_of, line_of, Wrote, WrotePrefix, IsStatus, IsRefusal, IsUsage, IsErrorLine};

@@ -1,25 +1,19 @@
 //! The answer of a report command to a text.
-ghost use Rattle.std.specs.Prelude.{◌≡◌, ◌≤◌, length, IfOk};
+ghost use Rattle.std.specs.Prelude.{◌≤◌, length};
 ghost use Rattle.hl_time.specs.Calendar.{IsDay};
 ghost use Rattle.book.specs.Assertions.{HasNoAssertions};
-ghost use Rattle.book.specs.Bounds.{TurnoverFits};
-ghost use Rattle.book.specs.Postings.{postings_of};
-ghost use Rattle.book.specs.Styles.{style_in};
 ghost use Rattle.balancing.specs.Load.{load};
-ghost use Rattle.reports.specs.Cells.{rows_of, totals_of};
-ghost use Rattle.balance_report.specs.BalanceList.{balance_list};
 ghost use Rattle.command_line.specs.Answers.{Finds};
 ghost use Rattle.command_line.specs.Output.{report_outcome, loaded_outcome};
 
 use crate::errors::{past_limit, refuse_fault};
 use crate::refusal::Refusal;
-use balance_report::balance_text;
+use balance_report::book_list;
 use balancing::{CheckFault, check};
-use book::{Book, Items, Styles};
-use hl_base::{Bytes, Memory, Steps, cut_items};
+use book::{Items, Styles};
+use hl_base::{Bytes, Steps, cut_items};
 use hl_time::{Day, civil_of};
 use journal_reader::{ReadFault, read_items};
-use reports::{Job, ReportFault, make_cells};
 use std::alloc::Global;
 use std::sync::ledger::Ledger;
 
@@ -69,21 +63,5 @@ fn balance_of(alloc: Global, items: Items) -> Result<Bytes, Refusal>
         }
         Err(CheckFault::Journal(fault)) => Err(refuse_fault(alloc, &fault)),
         Err(CheckFault::Memory) => Err(Refusal::Memory),
-    }
-}
-
-/// The balance list of a book.
-fn book_list(alloc: Global, book: &Book, styles: &Styles) -> Result<Bytes, Memory>
-    requires { TurnoverFits (postings_of book.now.txns) }
-    ensures { IfOk result (λ text. text ≡ balance_list (style_in styles.now)
-        (rows_of (postings_of book.now.txns)) (totals_of (postings_of book.now.txns))) }
-{
-    let job = Job { book, styles };
-    match make_cells(alloc, &job) {
-        Ok(cells) => match balance_text(alloc, &cells, &job) {
-            Ok(text) => Ok(text),
-            Err(ReportFault::Memory) => Err(Memory),
-        },
-        Err(ReportFault::Memory) => Err(Memory),
     }
 }

@@ -4,18 +4,11 @@ use Rattle.std.specs.Str.{bytes_eq}
 use Rattle.book.specs.declared.fault.Fault.{Fault}
 use Rattle.book.specs.declared.item.Placed.{Placed}
 use Rattle.book.specs.declared.item.Book.{Book}
-use Rattle.book.specs.Postings.{postings_of}
-use Rattle.book.specs.Style.{style_of}
 use Rattle.balancing.specs.Load.{load}
-use Rattle.reports.specs.Cells.{rows_of, totals_of}
-use Rattle.balance_report.specs.BalanceList.{balance_list}
+use Rattle.balance_report.specs.BookList.{book_list}
 use Rattle.live_journal.specs.Loading.{reading_in}
 use Rattle.desk.specs.declared.reply.WordsFault.{WordsFault}
 use Rattle.desk.specs.declared.reply.WordsFault.TheVariants as words_fault
-
--- the balance list of a book, in the styles of the text's items
-abbrev pub book_list : List Placed → Book → List ℕ
-book_list items book = balance_list (style_of items) (rows_of (postings_of book.txns)) (totals_of (postings_of book.txns))
 
 -- a word after the command has no place yet
 abbrev pub fault_after : List (List ℕ) → Option WordsFault

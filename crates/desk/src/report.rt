@@ -3,19 +3,12 @@ ghost use Rattle.std.specs.Prelude.{◌≡◌, IfOk};
 ghost use Rattle.hl_base.specs.Gives.{Gives};
 ghost use Rattle.desk.specs.Reports as spec;
 ghost use Rattle.live_journal.specs.Loading.{reading_in};
-ghost use Rattle.book.specs.Bounds.{TurnoverFits};
-ghost use Rattle.book.specs.Postings.{postings_of};
-ghost use Rattle.book.specs.Styles.{style_in};
-ghost use Rattle.reports.specs.Cells.{rows_of, totals_of};
-ghost use Rattle.balance_report.specs.BalanceList.{balance_list};
 
 use crate::reply::WordsFault;
-use balance_report::balance_text;
-use book::{Book, Styles};
+use balance_report::book_list;
 use hl_base::{Bytes, Memory, Steps, Text};
 use hl_time::Day;
 use live_journal::Live;
-use reports::{Job, ReportFault, make_cells};
 use std::alloc::Global;
 use std::sync::ledger::Ledger;
 
@@ -40,22 +33,6 @@ fn fault_in(alloc: Global, words: &[Text]) -> Result<Option<WordsFault>, Memory>
                 }
             }
         }
-    }
-}
-
-/// The balance list of a book.
-fn book_list(alloc: Global, book: &Book, styles: &Styles) -> Result<Bytes, Memory>
-    requires { TurnoverFits (postings_of book.now.txns) }
-    ensures { IfOk result (λ text. text ≡ balance_list (style_in styles.now)
-        (rows_of (postings_of book.now.txns)) (totals_of (postings_of book.now.txns))) }
-{
-    let job = Job { book, styles };
-    match make_cells(alloc, &job) {
-        Ok(cells) => match balance_text(alloc, &cells, &job) {
-            Ok(text) => Ok(text),
-            Err(ReportFault::Memory) => Err(Memory),
-        },
-        Err(ReportFault::Memory) => Err(Memory),
     }
 }
 

@@ -3,7 +3,7 @@ use Rattle.book.specs.Postings.{postings_of}
 use Rattle.balancing.specs.Load.{load}
 use Rattle.reports.specs.Cells.{rows_of, totals_of}
 use Rattle.balance_report.specs.BalanceList.{balance_list}
-use Rattle.command_line.specs.Output.{book_list}
+use Rattle.balance_report.specs.BookList.{book_list}
 use Rattle.command_line.proofs.report.balance_of.Goals as goal
 
 pub returns-in-Ok : goal.returns-in-Ok

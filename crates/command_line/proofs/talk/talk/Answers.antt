@@ -1,4 +1,3 @@
-use Rattle.std.proofs.Common.{ℕ}
 use Rattle.web_desk.specs.declared.conn_end.ConnEnd.{ConnEnd}
 use Rattle.command_line.specs.Talks.{TellsEnd}
 use Rattle.command_line.proofs.TalkEndings.{own, kind, never_usage, unread, unwritten, read_counted, write_counted}
