@@ -6,6 +6,7 @@ ghost use Rattle.web_desk.specs.Heads.{facts_of, JudgedSo};
 ghost use Rattle.web_desk.specs.Streams.{most_head, most_fields};
 
 use crate::fields::{length_of_body, says_to_close};
+use crate::paths::Paths;
 use crate::route::{Route, find_route, split_target};
 use crate::target::is_inside_target;
 use hl_base::{Bytes, Memory};
@@ -47,6 +48,7 @@ pub enum Judged {
 /// The head that was found at the front of some bytes.
 fn head_at(
     alloc: Global,
+    paths: &Paths,
     bytes: &[u8],
     spans: &[HeaderSpan],
     found: &RequestSpans,
@@ -60,7 +62,7 @@ fn head_at(
     let closing = says_to_close(alloc, bytes, fields)?;
     Ok(Head {
         length: found.len,
-        route: find_route(found.method.of(bytes), path),
+        route: find_route(paths, found.method.of(bytes), path),
         query: Bytes::copied(alloc, query)?,
         said,
         closing: found.version == 0 || closing,
@@ -102,14 +104,16 @@ fn judge_many(alloc: Global, bytes: &[u8]) -> Result<Judged, Memory>
 }
 
 /// Judges the bytes at the front of a stream, at most as many as a head may have.
-pub fn judge(alloc: Global, bytes: &[u8]) -> Result<Judged, Memory>
+pub fn judge(alloc: Global, paths: &Paths, bytes: &[u8]) -> Result<Judged, Memory>
     requires { length bytes.now ≤ most_head }
     ensures { IfOk result (λ judged. JudgedSo bytes.now judged) }
 {
     let mut spans = empty_spans(alloc, MOST_FIELDS)?;
     let room = spans.as_mut_slice();
     match parse_request(bytes, room) {
-        Ok(Status::Complete(found)) => Ok(Judged::Whole(head_at(alloc, bytes, room, &found)?)),
+        Ok(Status::Complete(found)) => Ok(Judged::Whole(head_at(
+            alloc, paths, bytes, room, &found,
+        )?)),
         Ok(Status::Partial) => Ok(Judged::Open),
         Err(Error::TooManyHeaders) => judge_many(alloc, bytes),
         Err(_) => Ok(bad_or_open(bytes)),

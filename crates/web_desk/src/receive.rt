@@ -7,6 +7,7 @@ ghost use Rattle.web_desk.specs.Streams.{most_head, front, IsOpen, EndsSo};
 use crate::conn_end::ConnEnd;
 use crate::head::{Head, Judged, judge};
 use crate::incoming::Incoming;
+use crate::paths::Paths;
 use crate::target::is_past_target;
 use hl_base::{Link, Memory};
 use std::alloc::Global;
@@ -75,12 +76,17 @@ fn may_be_whole(bytes: &[u8], from: usize) -> bool {
 }
 
 /// What the front of a stream is, if no more bytes can change that.
-fn settle(alloc: Global, bytes: &[u8], settled: bool) -> Result<Option<Judged>, Memory>
+fn settle(
+    alloc: Global,
+    paths: &Paths,
+    bytes: &[u8],
+    settled: bool,
+) -> Result<Option<Judged>, Memory>
     requires { length bytes.now ≤ most_head }
     ensures found { IfOk result (λ found. IfSome found (λ judged. SettledSo settled bytes.now judged)) }
     ensures some { IfOk result (λ found. settled ≡ true → IsSome found) }
 {
-    match judge(alloc, bytes)? {
+    match judge(alloc, paths, bytes)? {
         Judged::Open if !settled => Ok(None),
         Judged::Bad if !settled && !is_past_target(bytes) => Ok(None),
         judged => Ok(Some(judged)),
@@ -95,14 +101,19 @@ fn has_settled(incoming: &Incoming) -> bool
 }
 
 /// What the front of the stream is, if no more bytes can change that.
-fn look(alloc: Global, incoming: &Incoming, seen: usize) -> Result<Option<Judged>, Memory>
+fn look(
+    alloc: Global,
+    paths: &Paths,
+    incoming: &Incoming,
+    seen: usize,
+) -> Result<Option<Judged>, Memory>
     ensures found { IfOk result (λ found. IfSome found (λ judged. SettledSo (is_settled incoming.now) (front incoming.now.bytes) judged)) }
     ensures none { IfOk result (λ found. found ≡ None → is_settled incoming.now ≡ false) }
 {
     let settled = has_settled(incoming);
     let bytes = front_of(incoming.as_slice());
     if settled || may_be_whole(bytes, seen) {
-        return settle(alloc, bytes, settled);
+        return settle(alloc, paths, bytes, settled);
     }
     Ok(None)
 }
@@ -110,6 +121,7 @@ fn look(alloc: Global, incoming: &Incoming, seen: usize) -> Result<Option<Judged
 /// Reads until it is settled what the front of the stream is.
 fn read_head<K: Link>(
     alloc: Global,
+    paths: &Paths,
     incoming: &mut Incoming,
     link: &mut K,
 ) -> Result<Judged, ConnEnd>
@@ -121,7 +133,7 @@ fn read_head<K: Link>(
 {
     let mut seen = 0;
     'heads: loop {
-        if let Some(judged) = look(alloc, incoming, seen)? {
+        if let Some(judged) = look(alloc, paths, incoming, seen)? {
             return Ok(judged);
         }
         seen = incoming.as_slice().len();
@@ -188,6 +200,7 @@ fn next_body<K: Link>(incoming: &mut Incoming, link: &mut K, head: Head) -> Resu
 /// Reads the next message, or up to where the stream stops.
 pub fn next_message<K: Link>(
     alloc: Global,
+    paths: &Paths,
     incoming: &mut Incoming,
     link: &mut K,
 ) -> Result<Next, ConnEnd>
@@ -197,7 +210,7 @@ pub fn next_message<K: Link>(
     ensures broken { IfErr result IsBroken }
     ensures counted { CountedIn result (K.read_faults link.old) (K.read_faults link.new) (K.write_faults link.old) (K.write_faults link.new) }
 {
-    match read_head(alloc, incoming, link)? {
+    match read_head(alloc, paths, incoming, link)? {
         Judged::Whole(head) => next_body(incoming, link, head),
         Judged::Long => Ok(Next::Stopped(Stop::LongHead)),
         Judged::Bad => Ok(Next::Stopped(Stop::BadHead)),

@@ -3,7 +3,9 @@ ghost use Rattle.std.specs.Prelude.{◌≡◌, IfOk, []};
 ghost use Rattle.web_desk.specs.Calls.{path_of, query_of, by_method, route_of, call_at};
 
 use crate::form::{all_named, parameters, take_only, take_values};
+use crate::paths::Paths;
 use crate::refusal::Refusal;
+use crate::resource::Resource;
 use desk::Request;
 use hl_base::{Bytes, Memory, Text};
 use std::alloc::Global;
@@ -44,17 +46,19 @@ fn by_one_method(method: &[u8], wanted: &[u8], found: Route, refusal: Refusal) -
 }
 
 /// Where a method and a path lead.
-pub fn find_route(method: &[u8], path: &[u8]) -> Route
+pub fn find_route(paths: &Paths, method: &[u8], path: &[u8]) -> Route
     ensures { result ≡ route_of method.now path.now }
 {
-    if path == b"/balance".as_slice() {
-        by_one_method(method, b"GET", Route::Balance, Refusal::GetOnly)
-    } else if path == b"/download".as_slice() {
-        by_one_method(method, b"GET", Route::Download, Refusal::GetOnly)
-    } else if path == b"/add".as_slice() {
-        by_one_method(method, b"POST", Route::Add, Refusal::PostOnly)
-    } else {
-        Route::Refused(Refusal::Path)
+    match paths.find(path) {
+        Some(Resource::Balance) => by_one_method(method, b"GET", Route::Balance, Refusal::GetOnly),
+        Some(Resource::Download) => by_one_method(
+            method,
+            b"GET",
+            Route::Download,
+            Refusal::GetOnly,
+        ),
+        Some(Resource::Add) => by_one_method(method, b"POST", Route::Add, Refusal::PostOnly),
+        None => Route::Refused(Refusal::Path),
     }
 }
 

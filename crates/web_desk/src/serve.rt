@@ -14,6 +14,7 @@ use crate::ask::Ask;
 use crate::conn_end::{ConnEnd, Way};
 use crate::head::Head;
 use crate::incoming::Incoming;
+use crate::paths::Paths;
 use crate::receive::{Next, Stop, next_message};
 use crate::refusal::Refusal;
 use crate::route::call;
@@ -177,6 +178,7 @@ fn closes_after(head: &Head, count: u64) -> bool
 /// Reads and answers the next message, and says how many bytes it had.
 fn serve_one<A: Ask, K: Link, C: Clock, L: Ledger>(
     alloc: Global,
+    paths: &Paths,
     ask: &mut A,
     link: &mut K,
     clock: &mut C,
@@ -198,7 +200,7 @@ fn serve_one<A: Ask, K: Link, C: Clock, L: Ledger>(
     ensures always { C.always clock.new ≡ C.always clock.old }
     ensures counted { CountedIn result (K.read_faults link.old) (K.read_faults link.new) (K.write_faults link.old) (K.write_faults link.new) }
 {
-    match next_message(alloc, incoming, link)? {
+    match next_message(alloc, paths, incoming, link)? {
         Next::Stopped(stop) => Err(finish(alloc, link, stop, at)),
         Next::Message { head, total } => {
             let closing = closes_after(&head, count);
@@ -231,12 +233,25 @@ pub fn serve_link<A: Ask, K: Link, C: Clock, L: Ledger>(
     ensures counted { Counted result (K.read_faults link.old) (K.read_faults link.new) (K.write_faults link.old) (K.write_faults link.new) }
     ensures spent { result ≡ ConnEnd.Spent → A.IsSpent ask.new }
 {
+    let Ok(paths) = Paths::new(alloc) else {
+        return ConnEnd::Memory;
+    };
     let Ok(mut incoming) = Incoming::new(alloc) else {
         return ConnEnd::Memory;
     };
     let mut at: u64 = 0;
     'messages: for count in 0..MOST_MESSAGES {
-        match serve_one(alloc, ask, link, clock, steps, &mut incoming, count, at) {
+        match serve_one(
+            alloc,
+            &paths,
+            ask,
+            link,
+            clock,
+            steps,
+            &mut incoming,
+            count,
+            at,
+        ) {
             Ok(size) => at += size,
             Err(end) => return end,
         }

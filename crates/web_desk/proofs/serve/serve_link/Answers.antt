@@ -10,6 +10,11 @@ returns-in_default-clause-served g c =
     let link = g.K.Link in
     ([], g.met.A.Ask.none c.args.ask.now, none_of (g.C.Clock.always c.args.clock.now), served_nothing (link.coming c.args.link.now) (link.sent c.args.link.now))
 
+pub returns-in_default-new-clause-served : goal.returns-in_default-new-clause-served
+returns-in_default-new-clause-served g c =
+    let link = g.K.Link in
+    ([], g.met.A.Ask.none c.args.ask.now, none_of (g.C.Clock.always c.args.clock.now), served_nothing (link.coming c.args.link.now) (link.sent c.args.link.now))
+
 pub messages-init : goal.messages-init
 messages-init g c =
     let link = g.K.Link in
@@ -22,7 +27,7 @@ messages-init g c =
       always = refl;
       reads = refl;
       writes = refl;
-      run = ([], g.met.A.Ask.none c.args.ask.now, none_of (g.C.Clock.always c.args.clock.now), subst P (sym c.in-Ok.ensures) (ran_start coming sent));
+      run = ([], g.met.A.Ask.none c.args.ask.now, none_of (g.C.Clock.always c.args.clock.now), subst P (sym c.in-Ok-new.ensures) (ran_start coming sent));
     }
 
 pub returns-in-Err-clause-served : goal.returns-in-Err-clause-served

@@ -1,0 +1,19 @@
+use Rattle.std.proofs.Common.{refl}
+use Rattle.matchit.proofs.OnLiterals.{matchit_on_literals}
+use Rattle.web_desk.proofs.PathLemmas.{three_find}
+use Rattle.web_desk.proofs.paths.Paths.new.Goals as goal
+
+pub add-requires-clause-literal : goal.add-requires-clause-literal
+unfolding matchit_on_literals
+add-requires-clause-literal c = refl
+
+pub add-requires-2-clause-literal : goal.add-requires-2-clause-literal
+unfolding matchit_on_literals
+add-requires-2-clause-literal c = refl
+
+pub add-requires-3-clause-literal : goal.add-requires-3-clause-literal
+unfolding matchit_on_literals
+add-requires-3-clause-literal c = refl
+
+pub invariant_of-result : goal.invariant_of-result
+invariant_of-result c = rw (c.in_ok-add-3.ensures, c.in_ok-add-2.ensures, c.in_ok-add.ensures, c.new-router.ensures) three_find
