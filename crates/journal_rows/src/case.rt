@@ -1,8 +1,9 @@
 //! One run of the program over memory.
-ghost use Rattle.std.specs.Prelude.{◌≡◌};
+ghost use Rattle.std.specs.Prelude.{◌≡◌, ◌<◌};
 
+use crate::cuts::Cuts;
 use command_line::{Streams, run};
-use hl_base::{Bytes, MemSink, MemSource, Memory, Steps, Text};
+use hl_base::{Bytes, MemSink, MemSource, Memory, Source, Steps, Text};
 use hl_time::Day;
 use std::alloc::Global;
 use std::marker::Brand;
@@ -31,10 +32,24 @@ const ROOM: u64 = 65536;
 
 /// Runs the program on the case.
 pub fn answer(alloc: Global, case: &Case) -> Result<Seen, Memory> {
-    counted::<Brand>(alloc, Blank::new(3), case)
+    let input = MemSource::new(alloc, case.text, case.read_fails)?;
+    counted::<Brand, MemSource>(alloc, Blank::new(3), case, input)
 }
 
-fn counted<L: Ledger>(alloc: Global, blank: Blank, case: &Case) -> Result<Seen, Memory>
+/// Runs the program on the case, where a read gives at most so many bytes.
+pub fn answer_in_cuts(alloc: Global, case: &Case, most: usize) -> Result<Seen, Memory>
+    requires { 0 < most }
+{
+    let input = Cuts::new(alloc, case.text, case.read_fails, most)?;
+    counted::<Brand, Cuts>(alloc, Blank::new(3), case, input)
+}
+
+fn counted<L: Ledger, J: Source + Drop>(
+    alloc: Global,
+    blank: Blank,
+    case: &Case,
+    input: J,
+) -> Result<Seen, Memory>
     requires name { blank.name ≡ L.name }
     requires parts { blank.parts ≡ L.parts }
     requires three { blank.parts ≡ 3 }
@@ -43,7 +58,6 @@ fn counted<L: Ledger>(alloc: Global, blank: Blank, case: &Case) -> Result<Seen, 
     for word in case.words {
         words.push(Text::copied(alloc, word)?)?;
     }
-    let input = MemSource::new(alloc, case.text, case.read_fails)?;
     let output = MemSink::new(alloc, ROOM, case.write_fails)?;
     let mut streams = Streams { input, output };
     let mut err = MemSink::new(alloc, ROOM, case.error_fails)?;

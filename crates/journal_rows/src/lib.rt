@@ -2,7 +2,17 @@
 #![tactic(auto)]
 
 pub mod case;
+mod cuts;
+#[cfg(test)]
+mod disks;
+#[cfg(test)]
+mod ends;
+#[cfg(test)]
+mod heads;
 #[cfg(test)]
 mod limits;
 #[cfg(test)]
 mod rows;
+pub mod served;
+#[cfg(test)]
+mod talks;
