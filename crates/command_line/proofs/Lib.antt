@@ -2,3 +2,4 @@ mod Endings
 mod Histories
 mod TalkEndings
 mod Talking
+mod Unmade

@@ -1,13 +1,17 @@
 -- One connection over the input and the output, to a journal in memory that begins empty.
-use Rattle.std.specs.Prelude.{◌≡◌, ◌≤◌, ℕ, List, [], ◌∷◌, Option, Some}
+use Rattle.std.specs.Prelude.{◌≡◌, ◌≤◌, ℕ, List, [], ◌∷◌, Option, None, Some}
 use Rattle.hl_base.specs.declared.disk.Disk.{Ghosts}
+use Rattle.live_journal.specs.Loading.{open_cause}
 use Rattle.text_store.specs.Edits.{whole_size}
 use Rattle.text_store.specs.Files.{fresh}
 use Rattle.text_store.specs.Stores.{bounds, disks}
+use Rattle.text_store.specs.declared.fault.StoreFault.TheVariants as store_fault
 use Rattle.desk.specs.Entries.{Entry}
 use Rattle.desk.specs.States.{State}
 use Rattle.desk.specs.Steps.{Step}
 use Rattle.desk.specs.declared.desk.Desk.{Desk}
+use Rattle.desk.specs.declared.fault.DeskFault.{DeskFault}
+use Rattle.desk.specs.declared.fault.DeskFault.TheVariants as desk_fault
 use Rattle.desk.specs.declared.request.Allow.TheVariants.{Add}
 use Rattle.web_desk.specs.Served.{Served, AreOf}
 use Rattle.web_desk.specs.declared.conn_end.ConnEnd.{ConnEnd}
@@ -36,6 +40,12 @@ IsHistory s (entry ∷ entries) =
 abbrev pub Talks : ℕ → List ℕ → ConnEnd → List ℕ → Type 0
 Talks day bytes end text =
     (entries : List Entry) × IsHistory begun entries × AreOf day entries × Served bytes end entries text
+
+-- a machine was refused for want of memory
+abbrev pub IsWantOfMemory : DeskFault → Type 0
+IsWantOfMemory desk_fault.Memory = Unit {0}
+IsWantOfMemory (desk_fault.Load fault) = open_cause fault ≡ None
+IsWantOfMemory (desk_fault.Store fault) = fault ≡ store_fault.Memory
 
 -- no call of a machine's disks fails
 pub record NeverFails {D : Type 0} {g : Ghosts D} (most : ℕ) (desk : Desk D g) : Type 0 where

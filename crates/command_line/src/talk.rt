@@ -1,27 +1,67 @@
 //! One connection over the input and the output, to a journal in memory that begins empty.
-ghost use Rattle.std.specs.Prelude.{◌≡◌, ◌≢◌, ◌⊎◌, ◌++◌, ℕ, List, [], Some, IfOk, IfSome};
+ghost use Rattle.std.specs.Prelude.{◌≡◌, ◌≢◌, ◌⊎◌, ◌++◌, ℕ, List, [], None, Some, IfOk, IfSome};
 ghost use Rattle.hl_base.specs.Causes.{Rose};
 ghost use Rattle.hl_time.specs.Calendar.{IsDay};
 ghost use Rattle.desk.specs.Desks.{state_of};
+ghost use Rattle.live_journal.specs.Loading.{open_cause};
+ghost use Rattle.text_store.specs.declared.fault.StoreFault.TheVariants as store_fault;
 ghost use Rattle.web_desk.specs.Counts.{Counted};
 ghost use Rattle.web_desk.specs.declared.conn_end.ConnEnd.{ConnEnd};
 ghost use Rattle.command_line.specs.Answers.{IsStatus, Says};
-ghost use Rattle.command_line.specs.Talks.{NeverFails, Talks, TellsEnd, begun, room};
+ghost use Rattle.command_line.specs.Talks.{IsWantOfMemory, NeverFails, Talks, TellsEnd, begun, room};
 
 use crate::program::Status;
 use crate::streams::Streams;
-use desk::{Allow, Desk};
+use desk::{Allow, Desk, DeskFault};
 use hl_base::{Link, MemClock, MemDisk, Memory, Sink, Source, Steps, write_all};
 use hl_time::Day;
+use live_journal::OpenFault;
 use std::alloc::Global;
 use std::sync::ledger::Ledger;
+use text_store::StoreFault;
 use web_desk::{Alone, ConnEnd, Way, serve_link};
 
 /// The room of each disk, and the limit of the store, in bytes.
 const ROOM: u64 = 67_108_864;
 
-/// The machine of an empty journal in memory, to which entries may be added. With room for it, only want of memory can
-/// refuse it.
+/// That a text which loads makes no journal: memory ran out.
+fn unloaded(fault: &OpenFault) -> Memory
+    requires { open_cause fault.now ≡ None }
+{
+    match fault {
+        OpenFault::Memory => Memory,
+        OpenFault::Load(_) => unreachable!(),
+        OpenFault::TooLarge { .. } => unreachable!(),
+    }
+}
+
+/// That files with room which never fail make no store: memory ran out.
+fn unstored(fault: StoreFault) -> Memory
+    requires { fault ≡ store_fault.Memory }
+{
+    match fault {
+        StoreFault::Memory => Memory,
+        StoreFault::DiskFault => unreachable!(),
+        StoreFault::NotAStore { .. } => unreachable!(),
+        StoreFault::Newer { .. } => unreachable!(),
+        StoreFault::Full { .. } => unreachable!(),
+        StoreFault::Exists { .. } => unreachable!(),
+    }
+}
+
+/// Why there is no machine where only memory may be wanting.
+fn unmade(fault: &DeskFault) -> Memory
+    requires { IsWantOfMemory fault.now }
+{
+    match fault {
+        DeskFault::Memory => Memory,
+        DeskFault::Load(fault) => unloaded(fault),
+        DeskFault::Store(fault) => unstored(*fault),
+    }
+}
+
+/// The machine of an empty journal in memory, to which entries may be added. Its text loads, and its disks have room and
+/// never fail, so only want of memory refuses it.
 fn machine<L: Ledger>(alloc: Global, steps: &mut Steps<L>) -> Result<Desk<MemDisk>, Memory>
     ensures begun { IfOk result (λ desk. state_of desk ≡ begun) }
     ensures sound { IfOk result (λ desk. NeverFails room desk) }
@@ -30,7 +70,7 @@ fn machine<L: Ledger>(alloc: Global, steps: &mut Steps<L>) -> Result<Desk<MemDis
     let second = MemDisk::new(alloc, &[], ROOM, None, &[])?;
     match Desk::create(alloc, first, second, &[], ROOM, Allow::Add, steps) {
         Ok(desk) => Ok(desk),
-        Err(_) => Err(Memory),
+        Err((_, _, fault)) => Err(unmade(&fault)),
     }
 }
 
