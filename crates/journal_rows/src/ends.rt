@@ -125,3 +125,16 @@ fn the_read_of_the_end_fails(rt: HostRuntime) -> Result<(), Fail> {
     assert!(rt; is(&ended, ConnEnd::Closed, sent.as_slice()));
     Ok(())
 }
+
+/// A head that is bad is answered at its end, before more bytes come: the call after the first read is a write.
+#[test]
+fn a_bad_head_is_answered_at_its_end(rt: HostRuntime) -> Result<(), Fail> {
+    let connection = Connection {
+        coming: b"GET /none HTTP/2.0\r\nHost: a\r\n\r\n",
+        most: 65536,
+        fails: &[2],
+    };
+    let ended = served(rt.alloc(), &connection)?;
+    assert!(rt; is(&ended, ConnEnd::LinkFault { way: Way::Write }, b""));
+    Ok(())
+}

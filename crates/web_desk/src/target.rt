@@ -86,7 +86,8 @@ pub fn is_inside_target(bytes: &[u8]) -> bool
 
 /// Whether some bytes end past the target, or where no head can be.
 pub fn is_past_target(bytes: &[u8]) -> bool
-    ensures { IsTrue result → place_from Start bytes.now ≡ Past }
+    ensures past { IsTrue result → place_from Start bytes.now ≡ Past }
+    ensures found { place_from Start bytes.now ≡ Past → IsTrue result }
 {
     matches!(place_of(bytes), Place::Past)
 }
