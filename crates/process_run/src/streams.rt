@@ -1,4 +1,6 @@
 //! The process's streams as objects of the outside. They tell nothing of their bytes.
+ghost use Rattle.std.specs.Prelude.{◌≡◌};
+
 use hl_base::{Failed, Sink, Source};
 use std::io::{Read, Write};
 
@@ -10,7 +12,10 @@ pub struct Input<R: Read> {
 }
 
 impl<R: Read> Input<R> {
-    pub fn new(stream: R) -> Input<R> {
+    /// The stream, of which no read has failed.
+    pub fn new(stream: R) -> Input<R>
+        ensures { (result.faults ≡ 0) × (result.stream ≡ stream) }
+    {
         Input { stream, faults: 0 }
     }
 }
@@ -43,7 +48,10 @@ pub struct Output<W: Write> {
 }
 
 impl<W: Write> Output<W> {
-    pub fn new(stream: W) -> Output<W> {
+    /// The stream, of which no write has failed.
+    pub fn new(stream: W) -> Output<W>
+        ensures { (result.faults ≡ 0) × (result.stream ≡ stream) }
+    {
         Output { stream, faults: 0 }
     }
 }

@@ -1,5 +1,5 @@
 //! The files of the operating system under their paths.
-ghost use Rattle.std.specs.Prelude.{◌≡◌, ◌≢◌, ◌≤◌, ◌^◌, ◌-◌, ◌<◌, ℕ, List, length, Option, IfOk, IfErr, OnOk, Some};
+ghost use Rattle.std.specs.Prelude.{◌≡◌, ◌≢◌, ◌≤◌, ◌^◌, ◌-◌, ◌<◌, ℕ, List, length, Option, IfOk, IfErr, OnOk, None, Some};
 ghost use Rattle.hl_base.specs.Shelf.{HasBlame, NotTooLong};
 ghost use Rattle.hl_base.specs.declared.shelf.ShelfFault.TheVariants as shelf_fault;
 
@@ -20,7 +20,10 @@ pub struct FileShelf<'a, R: Files<File = File>> {
 }
 
 impl<'a, R: Files<File = File>> FileShelf<'a, R> {
-    pub fn new(files: &'a R) -> FileShelf<'a, R> {
+    /// The files, of which no call has failed.
+    pub fn new(files: &'a R) -> FileShelf<'a, R>
+        ensures { (result.faults ≡ 0) × (result.disk_faults ≡ 0) × (result.last_failed ≡ None) }
+    {
         FileShelf {
             files,
             faults: 0,
