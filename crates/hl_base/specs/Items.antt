@@ -1,18 +1,16 @@
 -- How a text is cut into items.
-use Rattle.std.specs.Prelude.{ℕ, ◌+◌, Bool, true, false, ◌&&◌, ◌||◌, not, List, [], ◌∷◌, ◌==◌, nat_le, nat_eq, if◌then◌else◌, length, take, drop, take_while, codes, suc, zero, Option, Some, None}
+use Rattle.std.specs.Prelude.{ℕ, ◌+◌, Bool, true, false, ◌&&◌, ◌||◌, not, List, [], ◌∷◌, ◌==◌, nat_eq, if◌then◌else◌, length, take, drop, take_while, codes, suc, zero, Option, Some, None}
 use Rattle.std.specs.List.{starts_with, list_all, concat, find}
 use Rattle.hl_base.specs.declared.items.Kind.{Kind}
 use Rattle.hl_base.specs.declared.items.Kind.TheVariants.{Gap, Block, Entry, Head, Stray}
 use Rattle.hl_base.specs.declared.items.Piece.{Piece}
+use Rattle.hl_base.specs.Ascii.{line_feed, semicolon, hash, asterisk}
 use Rattle.hl_base.specs.Lines.{lines_of}
-
--- white space: a space, a tab or a CR
-abbrev pub is_white : ℕ → Bool
-is_white b = (b == 32) || (b == 9) || (b == 13)
+pub use Rattle.hl_base.specs.Ascii.{is_white, is_digit}
 
 -- it holds only white space and its end
 abbrev pub is_blank : List ℕ → Bool
-is_blank line = list_all (λ b. is_white b || (b == 10)) line
+is_blank line = list_all (λ b. is_white b || (b == line_feed)) line
 
 -- it begins with white space and isn't blank
 abbrev pub is_indented : List ℕ → Bool
@@ -22,7 +20,7 @@ is_indented (b ∷ bs) = is_white b && not (is_blank bs)
 -- the first byte after white space ends the line or marks a remark, or there is none
 abbrev pub marks_remark : Option ℕ → Bool
 marks_remark None = true
-marks_remark (Some b) = (b == 10) || (b == 59) || (b == 35) || (b == 42)
+marks_remark (Some b) = (b == line_feed) || (b == semicolon) || (b == hash) || (b == asterisk)
 
 -- it is blank, or its first character after white space is `;`, `#` or `*`
 abbrev pub is_remark : List ℕ → Bool
@@ -31,9 +29,6 @@ is_remark line = marks_remark (find (λ b. not (is_white b)) line)
 -- it is this word but for white space at its end
 abbrev pub is_word : List ℕ → List ℕ → Bool
 is_word word line = starts_with nat_eq line word && is_blank (drop (length word) line)
-
-abbrev pub is_digit : ℕ → Bool
-is_digit b = nat_le 48 b && nat_le b 57
 
 -- it begins with a digit
 abbrev pub begins_entry : List ℕ → Bool

@@ -1,0 +1,10 @@
+//! The limits of a journal: each stands here once, and contracts cite it by its name.
+
+/// How many bytes a journal's text has at most.
+pub const TEXT_LIMIT: u64 = 16_777_216;
+
+/// How many items a journal's text has at most.
+pub const ITEM_LIMIT: u64 = 200_000;
+
+/// How many bytes an entry, or any other item that isn't a remark, has at most.
+pub const ENTRY_LIMIT: u64 = 65_536;
