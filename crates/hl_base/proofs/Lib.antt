@@ -5,4 +5,5 @@ pub mod Files
 pub mod LineLemmas
 pub mod Replays
 pub mod ShelfLaws
+pub mod Stops
 mod Transfers

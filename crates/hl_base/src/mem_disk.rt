@@ -76,7 +76,9 @@ impl MemDisk {
     /// reads. It has the same room, no record and no calls that are to fail.
     pub fn stopped(&self, alloc: Global, call: u64, bytes: u64) -> Result<MemDisk, Memory>
         requires { 0 < call }
-        ensures { IfOk result (λ disk. IsFreshDisk disk (stopped_text_of self.now.log self.now.surface.text call bytes) self.now.surface.room None []) }
+        ensures fresh { IfOk result (λ disk. IsFreshDisk disk (stopped_text_of self.now.log self.now.surface.text call bytes) self.now.surface.room None []) }
+        // This disk tells of such a crash, at each moment before that call's end.
+        ensures told { IfOk result (λ disk. (moment : ℕ) → moment < call → ⟦<MemDisk as Disk>⟧.left_since self.now moment disk.surface.text) }
     {
         let room = self.surface.room();
         let surface = match &self.log {
