@@ -1,6 +1,7 @@
 pub mod CallRecords
 mod CutLemmas
 pub mod DiskLaws
+pub mod DoorLaws
 pub mod Files
 pub mod LineLemmas
 pub mod Replays

@@ -64,6 +64,16 @@ impl MemLink {
         })
     }
 
+    /// The link, with no fault counted.
+    pub(crate) fn uncounted(self) -> MemLink
+        ensures { result ≡ record self { read_faults = 0; write_faults = 0 } }
+    {
+        let mut link = self;
+        link.read_faults = 0;
+        link.write_faults = 0;
+        link
+    }
+
     /// The bytes that were sent.
     pub fn as_slice(&self) -> &[u8]
         ensures { ⟦<MemLink as Link>⟧.sent self.now ≡ Some result.now }

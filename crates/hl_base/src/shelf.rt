@@ -36,7 +36,7 @@ impl From<Memory> for ShelfFault {
 
 /// Files under names. A file is loaded whole, or taken as a disk that is given back.
 pub trait Shelf {
-    type Disk: Disk + Drop;
+    type Disk: Disk + Drop + Send;
 
     /// Which things it tells.
     ghost tells: { Self → Tells };
