@@ -4,3 +4,4 @@ pub mod Rosters
 pub mod Keeping
 pub mod Standings
 pub mod Ending
+pub mod Growth

@@ -4,7 +4,7 @@
 pub trait Kept {
     /// What is entered in the history when the value is given back. A value of it takes no bytes: make it of
     /// snapshots of what it names. Contracts see it as plain data.
-    type Entry: Drop;
+    type Entry: Drop + Send;
 
     /// The states that values stand for.
     ghost State: { Type 0 };

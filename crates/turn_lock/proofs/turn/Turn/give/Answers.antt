@@ -4,7 +4,7 @@ use Rattle.turn_lock.proofs.Standings.{holds_as, alive, live_as, carries_as, sea
 use Rattle.turn_lock.proofs.turn.Turn.give.Goals as goal
 
 pub release-requires-clause-held : goal.release-requires-clause-held
-release-requires-clause-held g c = let held = c.requires.leads in
+release-requires-clause-held g c κs within = let held = c.requires.leads in
     holds_as c.pass.inside.seat c.pass.inside.live g.T.Kept.state g.T.Kept.leads c.args.pass.now c.pass.view_is c.pass.invariant held.0 c.args.held.value c.args.entry held.1 held.2
 
 pub invariant_of-pass-inside : goal.invariant_of-pass-inside
