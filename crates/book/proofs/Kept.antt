@@ -18,7 +18,7 @@ use Rattle.book.specs.declared.style.Styles.{Styles}
 use Rattle.book.specs.Entries.{held}
 use Rattle.book.specs.Style.{of_symbol, said_in, commodity_styles, default_styles, first_class, second_class, style_of, last_else, first_else, default_style}
 use Rattle.book.specs.Standing.{Numbered, Table, Keeps, Rise, all_greater, is_free, with_number, without_number, places_from, kept_of, said_under, noted, noted_all, forgotten, styles_only, last_kept, first_kept}
-use Rattle.book.specs.Styles.{AreOf, style_in, after_item}
+use Rattle.book.specs.Styles.{AreOf, style_in, style_standing, said_standing, after_item}
 use Rattle.book.proofs.Entries.{tie-bytes_eq}
 
 equal_from : (r : Ordering) → is_eq r ≡ true → r ≡ Equal
@@ -248,27 +248,41 @@ AreOf-place i items d styles lt h =
     subst (λ (es : Numbered Item). AreOf es (after_item i styles (get_or items i d).item)) (places-more 0 i i items d (omega arith) lt)
     (AreOf-with i (get_or items i d).item (places_from 0 (take i items)) styles h (free-places 0 i (take i items) (omega (arith, length-take i items))))
 
--- what is said under places is what is said in the text
-said-places : (saying : Item → List (List ℕ × Style)) (m : ℕ) (items : List Placed) (q : List ℕ) → styles_only (said_under saying (places_from m items) q) ≡ said_in saying items q
-said-places saying m [] q = refl
-said-places saying m (p ∷ items) q =
-    map-append (λ (s : ℕ × Style). s.1) (map (λ s. (m, s)) (of_symbol q (saying p.item))) (said_under saying (places_from (suc m) items) q)
-    ∙ ap (λ (t : List Style). t ++ styles_only (said_under saying (places_from (suc m) items) q)) (only m (of_symbol q (saying p.item)))
-    ∙ ap (λ (t : List Style). of_symbol q (saying p.item) ++ t) (said-places saying (suc m) items q)
+-- what is kept is what the items that stand say
+said-standing : (saying : Item → List (List ℕ × Style)) (es : Numbered Item) (q : List ℕ) → styles_only (said_under saying es q) ≡ said_standing saying es q
+said-standing saying [] q = refl
+said-standing saying (e ∷ es) q =
+    map-append (λ (s : ℕ × Style). s.1) (map (λ s. (e.0, s)) (of_symbol q (saying e.1))) (said_under saying es q)
+    ∙ ap (λ (t : List Style). t ++ styles_only (said_under saying es q)) (only e.0 (of_symbol q (saying e.1)))
+    ∙ ap (λ (t : List Style). of_symbol q (saying e.1) ++ t) (said-standing saying es q)
   where
-    only : (m : ℕ) (ss : List Style) → styles_only (map (λ s. (m, s)) ss) ≡ ss
-    only m [] = refl
-    only m (s ∷ ss) = ap (λ (t : List Style). s ∷ t) (only m ss)
+    only : (n : ℕ) (ss : List Style) → styles_only (map (λ s. (n, s)) ss) ≡ ss
+    only n [] = refl
+    only n (s ∷ ss) = ap (λ (t : List Style). s ∷ t) (only n ss)
 
--- the styles of a text's items are those of the text
-pub style_in-places : (items : List Placed) (styles : Styles) → AreOf (places_from 0 items) styles → (q : List ℕ) → style_in styles q ≡ style_of items q
-style_in-places items styles h q =
-    let said = λ (saying : Item → List (List ℕ × Style)) (t : Table) (k : Keeps saying (places_from 0 items) t). ap styles_only (k q) ∙ said-places saying 0 items q in
+-- the styles of the items that stand are as they are defined over them
+pub style_in-standing : (es : Numbered Item) (styles : Styles) → AreOf es styles → (q : List ℕ) → style_in styles q ≡ style_standing es q
+style_in-standing es styles h q =
+    let said = λ (saying : Item → List (List ℕ × Style)) (t : Table) (k : Keeps saying es t). ap styles_only (k q) ∙ said-standing saying es q in
     let a = said commodity_styles styles.commodities h.commodities in
     let b = said default_styles styles.defaults h.defaults in
     let c = said first_class styles.first h.first in
     let d = said second_class styles.second h.second in
     cc (a, b, c, d)
+
+-- what is said under places is what is said in the text
+said-places : (saying : Item → List (List ℕ × Style)) (m : ℕ) (items : List Placed) (q : List ℕ) → said_standing saying (places_from m items) q ≡ said_in saying items q
+said-places saying m [] q = refl
+said-places saying m (p ∷ items) q = ap (λ (t : List Style). of_symbol q (saying p.item) ++ t) (said-places saying (suc m) items q)
+
+-- the styles of a text's items are those of the text
+pub style_in-places : (items : List Placed) (styles : Styles) → AreOf (places_from 0 items) styles → (q : List ℕ) → style_in styles q ≡ style_of items q
+style_in-places items styles h q =
+    let a = said-places commodity_styles 0 items q in
+    let b = said-places default_styles 0 items q in
+    let c = said-places first_class 0 items q in
+    let d = said-places second_class 0 items q in
+    style_in-standing (places_from 0 items) styles h q ∙ cc (a, b, c, d)
 
 last-found : (ms : Numbered Style) (other : Style) → last_else (styles_only ms) other ≡ unwrap_or (last_kept ms) other
 last-found [] other = refl

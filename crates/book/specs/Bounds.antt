@@ -1,8 +1,6 @@
 -- How large sums can get.
-use Rattle.std.specs.Prelude.{ℕ, ◌+◌, ◌-◌, ◌*◌, ◌^◌, ◌<◌, ◌≤◌, List, [], ◌∷◌, Option, Some, None, IsSomeAnd, length, max, if◌then◌else◌, unsigned_abs}
-use Rattle.std.specs.List.{AllByRecursion}
+use Rattle.std.specs.Prelude.{ℕ, ◌+◌, ◌-◌, ◌*◌, ◌^◌, ◌<◌, List, [], ◌∷◌, Option, Some, None, max, if◌then◌else◌, unsigned_abs}
 use Rattle.std.specs.Str.{bytes_eq}
-use Rattle.hl_num.specs.Decimal.{units_of}
 use Rattle.book.specs.declared.amount.Amount.{Amount}
 use Rattle.book.specs.declared.transaction.Posting.{Posting}
 use Rattle.book.specs.Sums.{share}
@@ -25,12 +23,3 @@ places_of symbol (p ∷ ps) = max (places_in symbol p.amount) (places_of symbol 
 -- In each symbol the absolute amounts, in units of the greatest number of decimals, sum to less than 2^127.
 abbrev pub TurnoverFits : List Posting → Type 0
 TurnoverFits ps = (symbol : List ℕ) → turnover symbol ps < 2 ^ 127 * 10 ^ (36 - places_of symbol ps)
-
--- a written amount of at most fifteen digits before the mark and two decimals
-abbrev pub IsSmallAmount : Amount → Type 0
-IsSmallAmount a = (unsigned_abs (units_of a.value) < 10 ^ 51) × (a.value.places ≤ 2)
-
--- Each posting has such an amount, and there are at most so many postings.
-pub record AreSmall (bound : ℕ) (ps : List Posting) : Type 0 where
-  pub few : length ps ≤ bound
-  pub small : AllByRecursion (λ p. IsSomeAnd p.amount IsSmallAmount) ps

@@ -1,8 +1,6 @@
 -- Postings, transactions and items, as lists.
-use Rattle.std.specs.Prelude.{ℕ, Bool, false, List, [], ◌∷◌, Option, Some, None}
-use Rattle.std.specs.List.{flat_map, list_all}
-use Rattle.std.specs.Str.{bytes_eq}
-use Rattle.book.specs.declared.amount.Amount.{Amount}
+use Rattle.std.specs.Prelude.{ℕ, false, List, [], ◌∷◌, None}
+use Rattle.std.specs.List.{flat_map}
 use Rattle.book.specs.declared.transaction.Posting.{Posting}
 use Rattle.book.specs.declared.transaction.Txn.{Txn}
 use Rattle.book.specs.declared.transaction.Side.{Side}
@@ -40,16 +38,3 @@ txn_in _ = []
 -- the transactions among some items, in order
 abbrev pub txns_of : List Placed → List Txn
 txns_of items = flat_map (λ placed. txn_in placed.item) items
-
-abbrev pub has_symbol : List ℕ → Option Amount → Bool
-has_symbol symbol None = false
-has_symbol symbol (Some a) = bytes_eq a.symbol symbol
-
-abbrev pub all_have : Option Amount → List Posting → Bool
-all_have None ps = false
-all_have (Some a) ps = list_all (λ p. has_symbol a.symbol p.amount) ps
-
--- there is a posting, and all have one symbol
-abbrev pub have_one_symbol : List Posting → Bool
-have_one_symbol [] = false
-have_one_symbol (p ∷ ps) = all_have p.amount (p ∷ ps)

@@ -1,10 +1,24 @@
 -- The styles of the items that stand under some numbers.
 use Rattle.std.specs.Prelude.{ℕ, List}
+use Rattle.std.specs.List.{flat_map}
 use Rattle.book.specs.declared.item.Item.{Item}
 use Rattle.book.specs.declared.style.Style.{Style}
 use Rattle.book.specs.declared.style.Styles.{Styles}
 use Rattle.book.specs.Standing.{Numbered, Rise, Keeps, IsSameBut, kept_of, styles_only, noted_all, forgotten}
-use Rattle.book.specs.Style.{commodity_styles, default_styles, first_class, second_class, style_by}
+use Rattle.book.specs.Style.{of_symbol, commodity_styles, default_styles, first_class, second_class, style_by}
+
+-- what the items that stand say of a symbol, in the order of their numbers
+abbrev pub said_standing : (Item → List (List ℕ × Style)) → Numbered Item → List ℕ → List Style
+said_standing saying standing symbol = flat_map (λ e. of_symbol symbol (saying e.1)) standing
+
+-- the style of a symbol in the items that stand
+abbrev pub style_standing : Numbered Item → List ℕ → Style
+style_standing standing symbol =
+    style_by
+    (said_standing commodity_styles standing symbol)
+    (said_standing default_styles standing symbol)
+    (said_standing first_class standing symbol)
+    (said_standing second_class standing symbol)
 
 -- the style that is kept of a symbol
 abbrev pub style_in : Styles → List ℕ → Style

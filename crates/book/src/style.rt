@@ -1,7 +1,7 @@
 //! The styles in which amounts are printed.
 ghost use Rattle.std.specs.Prelude.{◌≡◌, ◌≤◌, IfOk, OnOk, OnErr, List, ℕ, [], IsTrue};
 ghost use Rattle.book.specs.Style.{default_style, style_of};
-ghost use Rattle.book.specs.Styles.{style_in, AreOf, AreSameBut, after_item, without_item};
+ghost use Rattle.book.specs.Styles.{style_in, style_standing, AreOf, AreSameBut, after_item, without_item};
 ghost use Rattle.book.specs.declared.item.Item.{Item};
 ghost use Rattle.book.specs.declared.item.Item.TheVariants as kinds;
 ghost use Rattle.book.specs.Standing.{Numbered, with_number, without_number, is_free, places_from};
@@ -78,6 +78,8 @@ impl Styles {
     pub fn add_item(&mut self, alloc: Global, number: u64, item: &Item) -> Result<(), Memory>
         ensures ok { OnOk result ((standing : Numbered Item) → AreOf standing self.old → IsTrue (is_free number standing) → AreOf (with_number number item.now standing) self.new) }
         ensures err { OnErr result ((standing : Numbered Item) → AreOf standing self.old → IsTrue (is_free number standing) → AreOf standing self.new) }
+        ensures same { OnErr result ((standing : Numbered Item) → AreOf standing self.old → IsTrue (is_free number standing)
+            → (symbol : List ℕ) → style_in self.new symbol ≡ style_in self.old symbol) }
     {
         match note_item(self, alloc, number, item) {
             Ok(()) => Ok(()),
@@ -112,6 +114,8 @@ impl Styles {
     /// amounts of costs, assertions, prices and rules; else the default one.
     pub fn style(&self, symbol: &Text) -> Style
         ensures value { result ≡ style_in self.now symbol.now }
+        // Of whichever items these styles are, it is the style of the symbol in them.
+        ensures defined { (standing : Numbered Item) → AreOf standing self.now → result ≡ style_standing standing symbol.now }
         ensures places { result.places ≤ 36 }
     {
         if let Some(style) = self.commodities.last(symbol) {
