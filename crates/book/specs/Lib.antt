@@ -12,3 +12,4 @@ pub mod Standing
 pub mod Style
 pub mod Styles
 pub mod Sums
+pub mod SumsBefore

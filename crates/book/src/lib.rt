@@ -16,6 +16,7 @@ mod place;
 pub mod printed;
 pub mod rules;
 pub mod style;
+pub mod sums;
 mod table;
 #[cfg(test)]
 mod tests;
@@ -32,4 +33,5 @@ pub use mixed::{Mixed, MixedFault};
 pub use printed::{print_amount, print_plain};
 pub use rules::{AutoRule, Factor, PeriodicRule, RulePosting};
 pub use style::{Style, Styles};
+pub use sums::{DaySums, Sums};
 pub use transaction::{Mark, Posting, Side, Tag, Txn};
