@@ -5,5 +5,6 @@ pub mod Kept
 pub mod Order
 pub mod Others
 pub mod Places
+mod Rows
 pub mod Standing
 pub mod Tables

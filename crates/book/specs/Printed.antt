@@ -1,8 +1,7 @@
 -- Amounts as they are printed.
-use Rattle.std.specs.Prelude.{ℕ, ℤ, Bool, ◌&&◌, ◌||◌, not, List, [], ◌∷◌, ◌++◌, ◌==◌, nat_le, Option, Some, None, if◌then◌else◌, codes}
+use Rattle.std.specs.Prelude.{ℕ, ℤ, Bool, ◌&&◌, ◌||◌, not, List, [], ◌∷◌, ◌++◌, ◌==◌, Option, Some, None, if◌then◌else◌, codes}
 use Rattle.std.specs.List.{list_all}
-use Rattle.hl_base.specs.Items.{is_white}
-use Rattle.hl_num.specs.Reading.{is_digit}
+use Rattle.hl_base.specs.Ascii.{line_feed, quote, dollar, percent, comma, dot, underscore, is_white, is_digit, is_punctuation}
 use Rattle.hl_num.specs.Decimal.{Decimal, units_of}
 use Rattle.hl_num.specs.Printing.{printed_units, printed_number}
 use Rattle.hl_num.specs.declared.printing.Shape.{Shape}
@@ -11,8 +10,8 @@ use Rattle.book.specs.declared.style.Style.{Style}
 
 -- the decimal mark of a shape: what is written; else a comma where the group mark is a point; else a point
 abbrev pub mark_beside : Option ℕ → ℕ
-mark_beside None = 46
-mark_beside (Some group) = if group == 46 then 44 else 46
+mark_beside None = dot
+mark_beside (Some group) = if group == dot then comma else dot
 
 abbrev pub mark_of : Option ℕ → Option ℕ → ℕ
 mark_of None group = mark_beside group
@@ -22,22 +21,17 @@ mark_of (Some mark) group = mark
 abbrev pub number_shape : Written → Shape
 number_shape shape = record { mark = mark_of shape.mark shape.group; group = shape.group; first = shape.first; rest = shape.rest }
 
--- ASCII punctuation
-abbrev pub is_punctuation : ℕ → Bool
-is_punctuation b =
-    (nat_le 33 b && nat_le b 47) || (nat_le 58 b && nat_le b 64) || (nat_le 91 b && nat_le b 96) || (nat_le 123 b && nat_le b 126)
-
 -- the punctuation that may stand in a symbol without quotes: `$`, `%` and `_`
 abbrev pub is_symbol_mark : ℕ → Bool
-is_symbol_mark b = (b == 36) || (b == 37) || (b == 95)
+is_symbol_mark b = (b == dollar) || (b == percent) || (b == underscore)
 
 -- what may stand in a symbol without quotes: no white space, no ASCII digit, and no other ASCII punctuation
 abbrev pub stands_unquoted : ℕ → Bool
-stands_unquoted b = not (is_white b || (b == 10) || is_digit b || (is_punctuation b && not (is_symbol_mark b)))
+stands_unquoted b = not (is_white b || (b == line_feed) || is_digit b || (is_punctuation b && not (is_symbol_mark b)))
 
 -- a symbol, in double quotes where it can't stand without
 abbrev pub printed_symbol : List ℕ → List ℕ
-printed_symbol symbol = if list_all stands_unquoted symbol then symbol else (34 ∷ []) ++ symbol ++ (34 ∷ [])
+printed_symbol symbol = if list_all stands_unquoted symbol then symbol else (quote ∷ []) ++ symbol ++ (quote ∷ [])
 
 -- the space between a number and its symbol
 abbrev pub gap_of : Bool → List ℕ
@@ -60,7 +54,7 @@ printed_amount symbol value style = printed_units_of symbol (units_of value) sty
 
 -- numbers in error lines: a point, no groups
 abbrev pub plain_number_shape : Shape
-plain_number_shape = record { mark = 46; group = None; first = 3; rest = 3 }
+plain_number_shape = record { mark = dot; group = None; first = 3; rest = 3 }
 
 -- an amount in an error line: the exact number with all its decimals, a space, and the symbol
 abbrev pub plain_amount : List ℕ → Decimal → List ℕ
