@@ -17,6 +17,7 @@ use Rattle.std.proofs.lemmas.Str.{encode_ascii}
 use Rattle.hl_num.specs.declared.printing.Shape.{Shape}
 use Rattle.hl_num.specs.Decimal.{Decimal, units_of}
 use Rattle.hl_num.specs.Rounding.{half_even}
+use Rattle.hl_num.specs.ReadBack.{ReadsBack, rounded_magnitude}
 use Rattle.hl_num.specs.Printing.{ends_group, mark_text, grouped, separator, decimals, zero_padded, printed_number, printed_units, printed_scaled}
 use Rattle.hl_num.specs.Reading.{is_digit, is_mark, is_number_byte, mantissa_of, number_of, whole_len, is_written, sizes_between, group_sizes}
 use Rattle.hl_num.proofs.ReadingLemmas.{after-append, number_with-some}
@@ -320,3 +321,9 @@ unfolding printed_units printed_scaled
 printed_number-sign v places shape =
     let n = half_even (unsigned_abs (units_of v)) (10 ^ (36 - places)) in
     append_assoc (sign_text (int_lt (units_of v) (pos 0) && nat_lt 0 n)) (grouped shape (decimal (n / 10 ^ places))) (decimals shape places (n % 10 ^ places))
+
+-- such a text is that of the rounded magnitude, which reads back
+pub text_reads_back : (v : Decimal) (places : ℕ) (shape : Shape) (text : List ℕ) → text ≡ printed_number v places shape → ReadsBack v places shape text
+unfolding printed_units
+text_reads_back v places shape text is positive few small none m =
+    rw (is, positive) (number_of-printed (rounded_magnitude v places) places shape few small none m)

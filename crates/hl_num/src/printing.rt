@@ -4,6 +4,7 @@ ghost use Rattle.std.specs.String.{string_bytes};
 ghost use Rattle.std.specs.Fmt.{decimal, sign_text};
 ghost use Rattle.hl_num.specs.Decimal.{units_of};
 ghost use Rattle.hl_num.specs.Rounding.{half_even};
+ghost use Rattle.hl_num.specs.ReadBack.{ReadsBack};
 ghost use Rattle.hl_num.specs.Printing.{ends_group, separator, grouped, decimals, zero_padded, printed_number};
 
 use crate::decimal::{Dec, power_of_ten};
@@ -36,7 +37,8 @@ impl Shape {
 /// The value, rounded half to even to that many places, without a sign at a rounded zero.
 pub fn print_number(alloc: Global, value: Dec, places: u8, shape: &Shape) -> Result<Text, Memory>
     requires { places ≤ 36 }
-    ensures { IfOk result (λ text. text ≡ printed_number value places shape.now) }
+    ensures text { IfOk result (λ text. text ≡ printed_number value places shape.now) }
+    ensures back { IfOk result (ReadsBack value places shape.now) }
 {
     let (whole, fraction) = rounded_parts(value, places);
     let mut text = String::new(alloc);
