@@ -18,14 +18,15 @@ use Rattle.book.specs.declared.fault.Cause.TheVariants as cause
 use Rattle.book.specs.declared.item.Item.{Item}
 use Rattle.book.specs.declared.transaction.Posting.{Posting}
 use Rattle.book.specs.declared.transaction.Txn.{Txn}
-use Rattle.journal_reader.specs.Causes.{◌>>=◌, fault_at}
-use Rattle.journal_reader.specs.Contexts.{Context, context_of, directive_in}
-use Rattle.journal_reader.specs.Lines.{first_is, after_white, contents_of}
-use Rattle.journal_reader.specs.Comments.{is_comment, comments_in, day_in}
-use Rattle.journal_reader.specs.Accounts.{account_len}
-use Rattle.journal_reader.specs.Heads.{mark_at, head_of}
-use Rattle.journal_reader.specs.Postings.{account_at, numbers_at, ending_of, posting_line, posting_of, postings_of}
-use Rattle.journal_reader.specs.Items.{entry_with, entry_of, entry_limit, said_by, broken_line, reading, reading_from}
+use Rattle.entry_reader.specs.Causes.{◌>>=◌, fault_at}
+use Rattle.entry_reader.specs.Contexts.{Context, context_of, directive_in}
+use Rattle.entry_reader.specs.Lines.{first_is, after_white, contents_of}
+use Rattle.entry_reader.specs.Comments.{is_comment, comments_in, day_in}
+use Rattle.entry_reader.specs.Accounts.{account_len}
+use Rattle.entry_reader.specs.Heads.{mark_at, head_of}
+use Rattle.entry_reader.specs.Postings.{account_at, numbers_at, ending_of, posting_line, posting_of, postings_of}
+use Rattle.entry_reader.specs.Entries.{entry_with, entry_of}
+use Rattle.journal_reader.specs.Items.{entry_limit, said_by, broken_line, reading, reading_from}
 
 -- what holds of a part's answers, and so of what follows it
 after_part : {A B : Type 0} (Q : A → Type 0) (P : B → Type 0) (r : Result A Fault) (f : A → Result B Fault) → IfOk r Q → ((a : A) → Q a → IfOk (f a) P) → IfOk (r >>= f) P

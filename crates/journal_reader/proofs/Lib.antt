@@ -1,17 +1,5 @@
 mod After
-mod Bare
-mod Both
 mod Digits
-mod Entries
-mod Fronts
 mod Laws
 mod LineEnds
-mod Lines
-mod Names
-mod Parts
-mod Places
-mod Remarks
-mod Rows
-mod TagSteps
-mod Texts
 mod Whole

@@ -10,10 +10,10 @@ use Rattle.hl_base.specs.Pieces.{IsWithin}
 use Rattle.book.specs.declared.fault.Fault.{Fault}
 use Rattle.book.specs.declared.item.Item.{Item}
 use Rattle.book.specs.declared.item.Placed.{Placed}
-use Rattle.journal_reader.specs.declared.fault.ReadFault.{ReadFault}
-use Rattle.journal_reader.specs.declared.fault.ReadFault.TheVariants as faults
-use Rattle.journal_reader.specs.Causes.{◌>>=◌, cause_in}
-use Rattle.journal_reader.specs.Contexts.{Context, directive_in, directives_in, context_from, context_of}
+use Rattle.entry_reader.specs.declared.fault.ReadFault.{ReadFault}
+use Rattle.entry_reader.specs.declared.fault.ReadFault.TheVariants as faults
+use Rattle.entry_reader.specs.Causes.{◌>>=◌, cause_in}
+use Rattle.entry_reader.specs.Contexts.{Context, directive_in, directives_in, context_from, context_of}
 use Rattle.journal_reader.specs.Whole.{AreWithin}
 use Rattle.journal_reader.specs.Items.{reading, reading_from}
 use Rattle.journal_reader.proofs.Laws.{reading_plain}

@@ -1,13 +1,2 @@
-pub mod After
-pub mod Accounts
-pub mod Amounts
-pub mod Causes
-pub mod Comments
-pub mod Contexts
-pub mod Heads
 pub mod Items
-pub mod Lines
-pub mod Postings
-pub mod Symbols
-pub mod Tags
 pub mod Whole

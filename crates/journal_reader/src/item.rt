@@ -6,23 +6,21 @@ ghost use Rattle.hl_base.specs.Gives.{Gives};
 ghost use Rattle.hl_base.specs.Lines.{first_line};
 ghost use Rattle.hl_base.specs.Items as items;
 ghost use Rattle.book.specs.declared.fault.Cause.TheVariants.{Encoding};
-ghost use Rattle.journal_reader.specs.declared.fault.ReadFault.TheVariants.{Read};
-ghost use Rattle.journal_reader.specs.After.{says_year_at_most};
-ghost use Rattle.journal_reader.specs.Causes as causes;
-ghost use Rattle.journal_reader.specs.Causes.{cause_in};
-ghost use Rattle.journal_reader.specs.Lines.{contents_of};
+ghost use Rattle.entry_reader.specs.declared.fault.ReadFault.TheVariants.{Read};
+ghost use Rattle.entry_reader.specs.After.{says_year_at_most};
+ghost use Rattle.entry_reader.specs.Causes as causes;
+ghost use Rattle.entry_reader.specs.Causes.{cause_in};
+ghost use Rattle.entry_reader.specs.Lines.{contents_of};
 ghost use Rattle.journal_reader.specs.Items as spec;
 
-use crate::comment::{comment_lines, read_comment, read_tags};
-use crate::context::Context;
-use crate::fault::{ReadFault, fault_at};
-use crate::head::read_head;
-use crate::posting::{line_ends, read_postings};
-use crate::scan::{begins_digit, cut_line, text_of};
-use book::{Cause, Item, Txn};
+use book::{Cause, Item};
+use entry_reader::entry::read_entry;
+use entry_reader::fault::fault_at;
+use entry_reader::posting::line_ends;
+use entry_reader::scan::begins_digit;
+use entry_reader::{Context, ReadFault};
 use hl_base::line::{kind_of, line_at};
 use hl_base::{Kind, Steps};
-use hl_time::civil_of;
 use std::alloc::Global;
 use std::sync::ledger::Ledger;
 
@@ -59,51 +57,6 @@ fn kind_at(bytes: &[u8]) -> Kind
     }
     let (first, _) = line_at(bytes, 0);
     kind_of(first)
-}
-
-/// The entry of a head line's content and the lines after it.
-#[tactic(auto, unfolding(crate::specs::Items::entry_with))]
-fn read_lines(
-    alloc: Global,
-    content: &[u8],
-    after: &[u8],
-    context: &Context,
-    line: u64,
-) -> Result<Item, ReadFault>
-    requires content { is_utf8 content.now ≡ true }
-    requires after { is_utf8 after.now ≡ true }
-    requires lines { line + 1 + length after.now < 2 ^ 64 }
-    ensures { Gives (λ item. item) cause_in result (spec.entry_with context.now line content.now (contents_of after.now)) }
-{
-    let head = read_head(context, content, line)?;
-    let year = civil_of(head.day).year;
-    let postings = read_postings(alloc, context, year, after, line + 1)?;
-    let more = comment_lines(after);
-    let comment = read_comment(alloc, head.comment, more)?;
-    let tags = read_tags(alloc, head.comment, more)?;
-    Ok(Item::Txn(Txn {
-        line,
-        day: head.day,
-        mark: head.mark,
-        code: text_of(alloc, head.code)?,
-        description: text_of(alloc, head.description)?,
-        comment,
-        tags,
-        postings,
-    }))
-}
-
-/// An entry of a head line and the lines after it.
-fn read_entry(alloc: Global, bytes: &[u8], context: &Context, line: u64) -> Result<Item, ReadFault>
-    requires utf8 { is_utf8 bytes.now ≡ true }
-    requires lines { line + length bytes.now < 2 ^ 64 }
-    ensures { Gives (λ item. item) cause_in result (spec.entry_of context.now line (contents_of bytes.now)) }
-{
-    if bytes.is_empty() {
-        return Err(fault_at(line, Cause::Form));
-    }
-    let (content, after) = cut_line(bytes);
-    read_lines(alloc, content, after, context, line)
 }
 
 /// What a piece in UTF-8 says.

@@ -3,14 +3,13 @@ ghost use Rattle.std.specs.Prelude.{◌≡◌, ◌+◌, ◌≤◌, ◌<◌, ◌^
 ghost use Rattle.hl_base.specs.Gives.{Gives};
 ghost use Rattle.hl_base.specs.Pieces.{bytes_in};
 ghost use Rattle.book.specs.Assertions.{HasNoAssertions};
-ghost use Rattle.journal_reader.specs.Causes.{cause_in};
+ghost use Rattle.entry_reader.specs.Causes.{cause_in};
 ghost use Rattle.journal_reader.specs.Items as spec;
 ghost use Rattle.journal_reader.specs.Whole.{AreWithin};
 
-use crate::context::Context;
-use crate::fault::ReadFault;
 use crate::item::read_item;
 use book::{Items, Placed};
+use entry_reader::{Context, ReadFault};
 use hl_base::{List, Piece, Steps, cut_items};
 use std::alloc::Global;
 use std::sync::ledger::Ledger;

@@ -1,5 +1,5 @@
 use Rattle.std.proofs.lemmas.Str.{is_utf8-from_IsUtf8}
-use Rattle.journal_reader.proofs.Texts.{not_utf8}
+use Rattle.entry_reader.proofs.Texts.{not_utf8}
 use Rattle.journal_reader.proofs.item.check_utf8.Goals as goal
 
 pub returns-in-Ok-clause-ok : goal.returns-in-Ok-clause-ok

@@ -2,7 +2,7 @@ use Rattle.std.specs.Prelude.{IsTrue}
 use Rattle.hl_base.specs.Items.{kind_of}
 use Rattle.hl_base.specs.Lines.{first_line}
 use Rattle.book.specs.declared.item.Item.{Item}
-use Rattle.journal_reader.specs.After.{says_year_at_most}
+use Rattle.entry_reader.specs.After.{says_year_at_most}
 use Rattle.journal_reader.specs.Items.{said_by}
 use Rattle.journal_reader.proofs.After.{said_year}
 use Rattle.journal_reader.proofs.Whole.{given_ok}

@@ -1,6 +1,6 @@
 use Rattle.std.proofs.Common.{◌≡◌, ◌+◌, [], take, drop}
 use Rattle.hl_base.specs.Pieces.{bytes_in}
-use Rattle.journal_reader.specs.Contexts.{directives_in}
+use Rattle.entry_reader.specs.Contexts.{directives_in}
 use Rattle.journal_reader.specs.Items.{reading_from}
 use Rattle.journal_reader.proofs.Whole.{items_at, items_before}
 use Rattle.journal_reader.proofs.journal.read_items.Given as goal

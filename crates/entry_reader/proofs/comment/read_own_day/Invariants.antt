@@ -1,0 +1,13 @@
+use Rattle.std.proofs.Common.{◌≡◌, ◌+◌, ◌≤◌, ◌∷◌, length}
+use Rattle.entry_reader.specs.Comments.{comments_in, day_in}
+use Rattle.entry_reader.specs.Lines.{contents_of}
+use Rattle.entry_reader.proofs.comment.read_own_day.Given as goal
+
+abbrev pub invariant-loop-text : goal.invariant-loop-text
+invariant-loop-text l = record {
+  so_far : day_in l.year (l.here + 1) (comments_in (contents_of l.rest)) ≡ day_in l.year l.line (l.own ∷ comments_in (contents_of l.after));
+  room : l.here + length l.rest ≤ l.line + length l.after;
+}
+
+abbrev pub decreases-loop-text : goal.decreases-loop-text
+decreases-loop-text l = length l.rest

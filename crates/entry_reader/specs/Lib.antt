@@ -1,0 +1,12 @@
+pub mod Accounts
+pub mod After
+pub mod Amounts
+pub mod Causes
+pub mod Comments
+pub mod Contexts
+pub mod Entries
+pub mod Heads
+pub mod Lines
+pub mod Postings
+pub mod Symbols
+pub mod Tags

@@ -1,0 +1,327 @@
+//! Scans of bytes: what they begin with, and their parts between white space and marks.
+ghost use Rattle.std.specs.Prelude.{◌≡◌, true, ◌==◌, ◌+◌, ◌<◌, ◌≤◌, ◌∷◌, ◌||◌, length, take, drop, IfOk};
+ghost use Rattle.std.specs.List.{prefix_len, position_or_len};
+ghost use Rattle.std.specs.Str.{is_utf8};
+ghost use Rattle.hl_base.specs.Items as items;
+ghost use Rattle.hl_num.specs.Reading as numbers;
+ghost use Rattle.entry_reader.specs.Heads as heads;
+ghost use Rattle.entry_reader.specs.Lines as spec;
+ghost use Rattle.entry_reader.specs.Symbols as symbols;
+
+use hl_base::{Memory, Text};
+use memchr::memchr;
+use std::alloc::Global;
+
+pub fn is_white(byte: u8) -> bool
+    ensures { result ≡ items.is_white byte }
+{
+    byte == b' ' || byte == b'\t' || byte == b'\r'
+}
+
+fn is_digit(byte: u8) -> bool
+    ensures { result ≡ numbers.is_digit byte }
+{
+    b'0' <= byte && byte <= b'9'
+}
+
+fn is_number_byte(byte: u8) -> bool
+    ensures { result ≡ numbers.is_number_byte byte }
+{
+    is_digit(byte) || byte == b'.' || byte == b','
+}
+
+fn is_date_byte(byte: u8) -> bool
+    ensures { result ≡ heads.is_date_byte byte }
+{
+    is_digit(byte) || byte == b'-' || byte == b'.' || byte == b'/'
+}
+
+fn is_sign(byte: u8) -> bool
+    ensures { result ≡ symbols.is_sign byte }
+{
+    byte == b'+' || byte == b'-'
+}
+
+fn is_mark(byte: u8) -> bool
+    ensures { result ≡ heads.is_mark byte }
+{
+    byte == b'!' || byte == b'*'
+}
+
+fn is_punctuation(byte: u8) -> bool
+    ensures { result ≡ symbols.is_punctuation byte }
+{
+    matches!(byte, 33..=47 | 58..=64 | 91..=96 | 123..=126)
+}
+
+fn is_symbol_mark(byte: u8) -> bool
+    ensures { result ≡ symbols.is_symbol_mark byte }
+{
+    byte == b'$' || byte == b'%' || byte == b'_'
+}
+
+fn is_symbol_byte(byte: u8) -> bool
+    ensures { result ≡ symbols.is_symbol_byte byte }
+{
+    !(is_white(byte)
+        || byte == b'\n'
+        || is_digit(byte)
+        || (is_punctuation(byte) && !is_symbol_mark(byte)))
+}
+
+#[tactic(auto, using(crate::proofs::Texts::prefix_count, crate::proofs::Texts::prefix_bound))]
+fn white_length(text: &[u8]) -> usize
+    ensures count { result ≡ prefix_len items.is_white text.now }
+    ensures bound { result ≤ length text.now }
+{
+    text.iter().take_while(|byte| is_white(**byte)).count()
+}
+
+#[tactic(auto, using(crate::proofs::Texts::prefix_count, crate::proofs::Texts::prefix_bound))]
+fn number_length(text: &[u8]) -> usize
+    ensures count { result ≡ prefix_len numbers.is_number_byte text.now }
+    ensures bound { result ≤ length text.now }
+{
+    text.iter()
+        .take_while(|byte| is_number_byte(**byte))
+        .count()
+}
+
+#[tactic(auto, using(crate::proofs::Texts::prefix_count, crate::proofs::Texts::prefix_bound))]
+fn date_length(text: &[u8]) -> usize
+    ensures count { result ≡ prefix_len heads.is_date_byte text.now }
+    ensures bound { result ≤ length text.now }
+{
+    text.iter().take_while(|byte| is_date_byte(**byte)).count()
+}
+
+#[tactic(auto, using(crate::proofs::Texts::prefix_count, crate::proofs::Texts::prefix_bound))]
+fn symbol_length(text: &[u8]) -> usize
+    ensures count { result ≡ prefix_len symbols.is_symbol_byte text.now }
+    ensures bound { result ≤ length text.now }
+{
+    text.iter()
+        .take_while(|byte| is_symbol_byte(**byte))
+        .count()
+}
+
+/// The place of the first such byte, or the length.
+#[tactic(auto, using(crate::proofs::Places::first_place, crate::proofs::Places::no_place))]
+pub fn place_of(text: &[u8], byte: u8) -> usize
+    ensures place { result ≡ position_or_len (λ b. b == byte) text.now }
+    ensures bound { result ≤ length text.now }
+{
+    memchr(byte, text).unwrap_or(text.len())
+}
+
+/// What follows the byte at a place.
+#[tactic(auto, using(std::proofs::lemmas::List::drop_all))]
+fn past(text: &[u8], at: usize) -> &[u8]
+    ensures { result.now ≡ drop (at + 1) text.now }
+{
+    if at < text.len() {
+        &text[at + 1..]
+    } else {
+        &[]
+    }
+}
+
+/// What stands before the first such byte, or all of the text.
+pub fn before(text: &[u8], byte: u8) -> &[u8]
+    ensures value { result.now ≡ spec.before_byte byte text.now }
+    ensures utf8 { byte < 128 → is_utf8 text.now ≡ true → is_utf8 result.now ≡ true }
+{
+    let (front, _) = text.split_at(place_of(text, byte));
+    front
+}
+
+/// What stands after the first such byte, or nothing.
+pub fn after(text: &[u8], byte: u8) -> &[u8]
+    ensures value { result.now ≡ spec.after_byte byte text.now }
+    ensures utf8 { byte < 128 → is_utf8 text.now ≡ true → is_utf8 result.now ≡ true }
+{
+    past(text, place_of(text, byte))
+}
+
+/// Whether such a byte stands in the text.
+pub fn has(text: &[u8], byte: u8) -> bool
+    ensures { result ≡ spec.has_byte byte text.now }
+{
+    text.iter().any(|b| *b == byte)
+}
+
+/// Whether the text begins with this byte.
+pub fn begins(text: &[u8], byte: u8) -> bool
+    ensures value { result ≡ spec.begins text.now byte }
+    ensures ascii { byte < 128 → result ≡ true → spec.starts_ascii text.now ≡ true }
+{
+    match text {
+        [] => false,
+        [first, ..] => *first == byte,
+    }
+}
+
+/// Whether the text begins with white space.
+pub fn begins_white(text: &[u8]) -> bool
+    ensures value { result ≡ spec.first_is items.is_white text.now }
+    ensures ascii { result ≡ true → spec.starts_ascii text.now ≡ true }
+{
+    match text {
+        [] => false,
+        [first, ..] => is_white(*first),
+    }
+}
+
+/// Whether the text begins with a digit, as an entry does.
+pub fn begins_digit(text: &[u8]) -> bool
+    ensures { result ≡ items.begins_entry text.now }
+{
+    match text {
+        [] => false,
+        [first, ..] => is_digit(*first),
+    }
+}
+
+/// Whether the text begins with `+` or `-`.
+pub fn begins_sign(text: &[u8]) -> bool
+    ensures value { result ≡ spec.first_is symbols.is_sign text.now }
+    ensures ascii { result ≡ true → spec.starts_ascii text.now ≡ true }
+{
+    match text {
+        [] => false,
+        [first, ..] => is_sign(*first),
+    }
+}
+
+/// Whether the text begins with `!` or `*`.
+pub fn begins_mark(text: &[u8]) -> bool
+    ensures value { result ≡ spec.first_is heads.is_mark text.now }
+    ensures ascii { result ≡ true → spec.starts_ascii text.now ≡ true }
+{
+    match text {
+        [] => false,
+        [first, ..] => is_mark(*first),
+    }
+}
+
+/// Whether the text begins with a number or a sign.
+pub fn begins_number(text: &[u8]) -> bool
+    ensures { result ≡ spec.first_is (λ b. numbers.is_number_byte b || symbols.is_sign b) text.now }
+{
+    match text {
+        [] => false,
+        [first, ..] => is_number_byte(*first) || is_sign(*first),
+    }
+}
+
+/// What follows the first byte.
+#[tactic(auto, using(crate::proofs::Texts::first_utf8))]
+pub fn past_first(text: &[u8]) -> &[u8]
+    ensures value { result.now ≡ drop 1 text.now }
+    ensures utf8 { spec.starts_ascii text.now ≡ true → is_utf8 text.now ≡ true → is_utf8 result.now ≡ true }
+{
+    past(text, 0)
+}
+
+/// The text without the white space at its front.
+#[tactic(auto, using(crate::proofs::Texts::after_white_utf8))]
+pub fn after_white(text: &[u8]) -> &[u8]
+    ensures value { result.now ≡ spec.after_white text.now }
+    ensures utf8 { is_utf8 text.now ≡ true → is_utf8 result.now ≡ true }
+{
+    let (_, rest) = text.split_at(white_length(text));
+    rest
+}
+
+/// The first bytes of a text.
+fn front(text: &[u8], end: usize) -> &[u8]
+    requires { end ≤ length text.now }
+    ensures { result.now ≡ take end text.now }
+{
+    let (front, _) = text.split_at(end);
+    front
+}
+
+/// The text without the white space at its end.
+pub fn before_white(text: &[u8]) -> &[u8]
+    ensures value { result.now ≡ spec.before_white text.now }
+    ensures utf8 { is_utf8 text.now ≡ true → is_utf8 result.now ≡ true }
+{
+    let mut end = text.len();
+    while 0 < end {
+        if !is_white(text[end - 1]) {
+            return front(text, end);
+        }
+        end -= 1;
+    }
+    front(text, 0)
+}
+
+/// The text without white space at both ends.
+pub fn trimmed(text: &[u8]) -> &[u8]
+    ensures value { result.now ≡ spec.trimmed text.now }
+    ensures utf8 { is_utf8 text.now ≡ true → is_utf8 result.now ≡ true }
+{
+    before_white(after_white(text))
+}
+
+/// The digits and marks that a text begins with, and what follows them.
+#[tactic(auto, using(crate::proofs::Texts::after_number_utf8))]
+pub fn cut_number(text: &[u8]) -> (&[u8], &[u8])
+    ensures number { result.0.now ≡ take (prefix_len numbers.is_number_byte text.now) text.now }
+    ensures rest { result.1.now ≡ drop (prefix_len numbers.is_number_byte text.now) text.now }
+    ensures utf8 { is_utf8 text.now ≡ true → is_utf8 result.1.now ≡ true }
+{
+    text.split_at(number_length(text))
+}
+
+/// The digits and separators that a text begins with, and what follows them.
+#[tactic(auto, using(crate::proofs::Texts::after_date_utf8))]
+pub fn cut_date(text: &[u8]) -> (&[u8], &[u8])
+    ensures date { result.0.now ≡ take (prefix_len heads.is_date_byte text.now) text.now }
+    ensures rest { result.1.now ≡ drop (prefix_len heads.is_date_byte text.now) text.now }
+    ensures utf8 { is_utf8 text.now ≡ true → is_utf8 result.1.now ≡ true }
+{
+    text.split_at(date_length(text))
+}
+
+/// The symbol without quotes that a text begins with, and what follows it.
+#[tactic(auto, using(crate::proofs::Texts::symbol_utf8, crate::proofs::Texts::after_symbol_utf8))]
+pub fn cut_symbol(text: &[u8]) -> (&[u8], &[u8])
+    ensures symbol { result.0.now ≡ take (prefix_len symbols.is_symbol_byte text.now) text.now }
+    ensures rest { result.1.now ≡ drop (prefix_len symbols.is_symbol_byte text.now) text.now }
+    ensures utf8 { is_utf8 text.now ≡ true → (is_utf8 result.0.now ≡ true) × (is_utf8 result.1.now ≡ true) }
+{
+    text.split_at(symbol_length(text))
+}
+
+/// What the first line of a text says, and the text after the line.
+pub fn cut_line(text: &[u8]) -> (&[u8], &[u8])
+    requires { 0 < length text.now }
+    ensures cut { spec.contents_of text.now ≡ result.0.now ∷ spec.contents_of result.1.now }
+    ensures shorter { length result.1.now < length text.now }
+    ensures utf8 { is_utf8 text.now ≡ true → (is_utf8 result.0.now ≡ true) × (is_utf8 result.1.now ≡ true) }
+{
+    let end = place_of(text, b'\n');
+    let (line, _) = text.split_at(end);
+    (before_white(line), past(text, end))
+}
+
+/// The text of bytes in UTF-8.
+pub fn text_of(alloc: Global, bytes: &[u8]) -> Result<Text, Memory>
+    requires { is_utf8 bytes.now ≡ true }
+    ensures { IfOk result (λ text. text ≡ bytes.now) }
+{
+    // The caller's bytes are UTF-8.
+    Text::copied(alloc, unsafe { std::str::from_utf8_unchecked(bytes) })
+}
+
+/// Whether bytes are a text in UTF-8.
+pub fn is_utf8(bytes: &[u8]) -> bool
+    ensures { result ≡ is_utf8 bytes.now }
+{
+    match std::str::from_utf8(bytes) {
+        Ok(_) => true,
+        Err(_) => false,
+    }
+}

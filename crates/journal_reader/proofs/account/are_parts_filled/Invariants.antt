@@ -1,6 +1,0 @@
-use Rattle.std.proofs.Common.{◌≡◌, drop, false}
-use Rattle.journal_reader.proofs.Parts.{filled_from}
-use Rattle.journal_reader.proofs.account.are_parts_filled.Given as goal
-
-abbrev pub invariant-loop-byte : goal.invariant-loop-byte
-invariant-loop-byte l = filled_from l.is_open (drop l.byte-index l.account) ≡ filled_from false l.account
