@@ -11,32 +11,12 @@ use Rattle.book.specs.declared.directive.Directive.TheVariants as directive
 use Rattle.book.specs.declared.fault.Fault.{Fault}
 use Rattle.book.specs.declared.item.Item.{Item}
 use Rattle.book.specs.declared.item.Item.TheVariants as item
-use Rattle.entry_reader.specs.After.{context_after, says_year_at_most}
-use Rattle.entry_reader.specs.Contexts.{Context, year_alone, directive_in, directives_in, year_after, mark_after, usual_after, applied_after, aliases_after, marks_after, context_from, context_of}
-
--- a context in which a year alone is known, after an item that says a year at most
-pub bare_after : (year : Option ℕ) (i : Item) → IsTrue (says_year_at_most i) → year_alone (fold year_after year (directive_in i)) ≡ context_after (year_alone year) i
-bare_after year item.Gap h = refl
-bare_after year item.Block h = refl
-bare_after year (item.Txn t) h = refl
-bare_after year (item.Auto r) h = refl
-bare_after year (item.Periodic r) h = refl
-bare_after year (item.Price p) h = refl
-bare_after year (item.Directive (directive.Commodity symbol amount)) h = absurd (false≢true h)
-bare_after year (item.Directive (directive.Default amount)) h = absurd (false≢true h)
-bare_after year (item.Directive (directive.Account name letter)) h = refl
-bare_after year (item.Directive (directive.Year y)) h = refl
-bare_after year (item.Directive (directive.Apply name)) h = absurd (false≢true h)
-bare_after year (item.Directive directive.EndApply) h = refl
-bare_after year (item.Directive (directive.Alias old new)) h = absurd (false≢true h)
-bare_after year (item.Directive directive.EndAliases) h = refl
-bare_after year (item.Directive (directive.Payee name)) h = refl
-bare_after year (item.Directive (directive.TagName name)) h = refl
-bare_after year (item.Directive (directive.DecimalMark mark)) h = absurd (false≢true h)
+use Rattle.entry_reader.specs.After.{context_after}
+use Rattle.entry_reader.specs.Contexts.{Context, directive_in, directives_in, year_after, mark_after, usual_after, applied_after, aliases_after, marks_after, context_from, context_of}
 
 -- some more directives
-from-append : (year : Option ℕ) (ds : List Directive) (i : Item) → context_after (context_from year ds) i ≡ context_from year (ds ++ directive_in i)
-from-append year ds i =
+from_append : (year : Option ℕ) (ds : List Directive) (i : Item) → context_after (context_from year ds) i ≡ context_from year (ds ++ directive_in i)
+from_append year ds i =
     let years = sym (fold-append year_after year ds (directive_in i)) in
     let decimal = sym (fold-append mark_after _ ds (directive_in i)) in
     let usuals = sym (fold-append usual_after _ ds (directive_in i)) in
@@ -46,8 +26,8 @@ from-append year ds i =
     λ t. record { year = years t; mark = decimal t; usual = usuals t; applied = names t; aliases = others t; marks = marked t }
 
 -- one more item
-pub after-items : (year : Option ℕ) (before : List Item) (i : Item) (old new : Context) → old ≡ context_of year before → new ≡ context_after old i → new ≡ context_of year (before ++ i ∷ [])
-after-items year before i old new is made =
+pub after_items : (year : Option ℕ) (before : List Item) (i : Item) (old new : Context) → old ≡ context_of year before → new ≡ context_after old i → new ≡ context_of year (before ++ i ∷ [])
+after_items year before i old new is made =
     let more : directives_in (before ++ i ∷ []) ≡ directives_in before ++ directive_in i = flat_map-append directive_in before (i ∷ []) ∙ ap (λ (ds : List Directive). directives_in before ++ ds) (append-nil (directive_in i)) in
-    made ∙ ap (λ (c : Context). context_after c i) is ∙ from-append year (directives_in before) i ∙ sym (ap (context_from year) more)
+    made ∙ ap (λ (c : Context). context_after c i) is ∙ from_append year (directives_in before) i ∙ sym (ap (context_from year) more)
 

@@ -1,8 +1,8 @@
-pub mod Bare
 pub mod Both
 pub mod Entries
 pub mod Fronts
 pub mod Lines
+pub mod Named
 pub mod Names
 pub mod Parts
 pub mod Places

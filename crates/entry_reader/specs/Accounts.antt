@@ -7,8 +7,9 @@ use Rattle.book.specs.declared.fault.Cause.TheVariants as cause
 use Rattle.book.specs.declared.transaction.Side.{Side}
 use Rattle.book.specs.declared.transaction.Side.TheVariants.{Real, Balanced, Free}
 use Rattle.book.specs.Accounts.{parts_of}
-use Rattle.entry_reader.specs.Causes.{fault_at}
-use Rattle.entry_reader.specs.Lines.{first_is, has_byte}
+use Rattle.entry_reader.specs.Causes.{fault_at, ◌>>=◌}
+use Rattle.entry_reader.specs.Contexts.{Context, account_named}
+use Rattle.entry_reader.specs.Lines.{first_is, has_byte, before_byte, before_white}
 
 -- an account ends before a tab and before two white spaces
 abbrev pub ends_name : ℕ → List ℕ → Bool
@@ -42,12 +43,31 @@ has_parts name = nat_le (length (parts_of name)) 64 && list_all (λ part. nat_le
 abbrev pub account_of : ℕ → List ℕ → Result (Side × List ℕ) Fault
 account_of line text = if has_parts (name_of text) then Ok (side_of text, name_of text) else Err (fault_at line cause.Account)
 
--- the text goes past the end of an account, or begins or ends with white space
+-- a name as the context changes it; it has its parts as it is written and as it is changed
+abbrev pub name_in : Context → ℕ → List ℕ → Result (List ℕ) Fault
+name_in context line name =
+    if has_parts name && has_parts (account_named context name) then Ok (account_named context name)
+    else Err (fault_at line cause.Account)
+
+-- the side and the name of the account that a text is, as the context changes it
+abbrev pub account_at : Context → ℕ → List ℕ → Result (Side × List ℕ) Fault
+account_at context line text = name_in context line (name_of text) >>= λ name. Ok (side_of text, name)
+
+-- all of a text is an account, without white space at its ends
 abbrev pub is_account_text : List ℕ → Bool
 is_account_text text =
     (account_len text == length text) && not (first_is is_white text) && not (has_byte 10 text)
     && not (first_is is_white (drop (length text - 1) text))
 
--- a whole text as the account of a posting
-abbrev pub account_alone : List ℕ → Result (Side × List ℕ) Fault
-account_alone text = if is_account_text text then account_of 1 text else Err (fault_at 1 cause.Form)
+-- what a line's text is the account of, were it one
+abbrev pub account_front : List ℕ → List ℕ
+account_front line = before_white (take (account_len line) line)
+
+-- A whole text as the account of a posting: first white space at its front, then the account that stands there, and then
+-- what follows it.
+unfoldable pub account_alone : List ℕ → Result (Side × List ℕ) Fault
+account_alone text =
+    if first_is is_white text then Err (fault_at 1 cause.Form)
+    else (do
+      account ← account_of 1 (account_front (before_byte 10 text))
+      if is_account_text text then Ok account else Err (fault_at 1 cause.Form))

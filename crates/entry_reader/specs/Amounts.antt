@@ -8,13 +8,15 @@ use Rattle.hl_num.specs.declared.reading.Number.{Number}
 use Rattle.hl_num.specs.declared.reading.BadNumber.{BadNumber}
 use Rattle.book.specs.declared.amount.Amount.{Amount}
 use Rattle.book.specs.declared.amount.Written.{Written}
+use Rattle.book.specs.declared.amount.Assertion.{Assertion}
 use Rattle.book.specs.declared.amount.Cost.{Cost}
 use Rattle.book.specs.declared.amount.Cost.TheVariants.{Unit, Total}
+use Rattle.book.specs.declared.rules.Factor.{Factor}
 use Rattle.book.specs.declared.fault.Fault.{Fault}
 use Rattle.book.specs.declared.fault.Cause.TheVariants as cause
 use Rattle.entry_reader.specs.Causes.{fault_at, ◌>>=◌}
 use Rattle.entry_reader.specs.Contexts.{Context, symbol_of, decided_mark}
-use Rattle.entry_reader.specs.Lines.{first_is, begins, has_byte, after_white, trimmed}
+use Rattle.entry_reader.specs.Lines.{first_is, begins, has_byte, before_byte, after_white, trimmed}
 use Rattle.entry_reader.specs.Symbols.{is_sign, ends_amount, symbol_name, after_symbol, is_left_good, is_right_good}
 
 -- what follows a sign and the white space after it, where a sign stands first
@@ -106,6 +108,54 @@ amount_at context line text = do
   number ← number_or_fault line (reading (take_while is_number_byte left.rest) (decided_mark context (written_symbol left (right_of left))))
   if (right_of left).is_good then Ok (amount_from context left (right_of left) number, (right_of left).rest) else Err (fault_at line cause.Quote)
 
+-- what decides the mark of a factor, of which this symbol is written: without one, that in force alone
+abbrev pub factor_mark : Context → List ℕ → Option ℕ
+factor_mark context [] = context.mark
+factor_mark context (b ∷ bs) = decided_mark context (b ∷ bs)
+
+abbrev pub factor_symbol : List ℕ → Option (List ℕ)
+factor_symbol [] = None
+factor_symbol (b ∷ bs) = Some (b ∷ bs)
+
+abbrev pub factor_from : Bool → Right → Number → Factor
+factor_from is_negative right number = record { by = signed is_negative number.value; symbol = factor_symbol right.symbol }
+
+-- The factor that a text behind a `*` begins with, and what follows it and white space: a sign if any, a number, and a
+-- symbol if any.
+abbrev pub factor_from_right : Context → ℕ → Bool → List ℕ → Right → Result (Factor × List ℕ) Fault
+factor_from_right context line is_negative digits right =
+    number_or_fault line (reading digits (factor_mark context right.symbol))
+    >>= λ number. if right.is_good then Ok (factor_from is_negative right number, right.rest) else Err (fault_at line cause.Quote)
+
+unfoldable pub factor_at : Context → ℕ → List ℕ → Result (Factor × List ℕ) Fault
+factor_at context line text =
+    let rest = after_sign text in
+    factor_from_right context line (begins text 45) (take_while is_number_byte rest)
+    (right_at false (drop (prefix_len is_number_byte rest) rest))
+
+-- the sign of an assertion: `=`, or `==` where it speaks of every symbol; and then `*` where it speaks of the accounts
+-- below too
+abbrev pub is_only : List ℕ → Bool
+is_only text = begins (drop 1 text) 61
+
+abbrev pub after_equals : List ℕ → List ℕ
+after_equals text = if is_only text then drop 1 (drop 1 text) else drop 1 text
+
+abbrev pub is_below : List ℕ → Bool
+is_below text = begins (after_equals text) 42
+
+abbrev pub after_claim : List ℕ → List ℕ
+after_claim text = if is_below text then drop 1 (after_equals text) else after_equals text
+
+abbrev pub assertion_from : Bool → Bool → Amount → Assertion
+assertion_from only below amount = record { amount = amount; only = only; below = below }
+
+-- the assertion of a text that begins with its sign, and what follows it and white space
+unfoldable pub assertion_at : Context → ℕ → List ℕ → Result (Assertion × List ℕ) Fault
+assertion_at context line text = do
+  a ← amount_at context line (after_white (after_claim text))
+  Ok (assertion_from (is_only text) (is_below text) a.0, a.1)
+
 -- how many bytes the mark of a total cost has, and of a unit cost; none where it doesn't stand
 abbrev pub total_mark : List ℕ → ℕ
 total_mark text = if starts_with nat_eq text (codes "@@") then 2 else if starts_with nat_eq text (codes "(@@)") then 4 else 0
@@ -125,14 +175,13 @@ cost_at context line text =
     else Ok (None, text)
 
 -- nothing may follow
-abbrev pub alone : {A : Type 0} → ℕ → A × List ℕ → Result A Fault
-alone line (a, []) = Ok a
-alone line (a, b ∷ bs) = Err (fault_at line cause.Form)
+abbrev pub alone : {A : Type 0} → Bool → A × List ℕ → Result A Fault
+alone is_line (a, []) = if is_line then Ok a else Err (fault_at 1 cause.Form)
+alone is_line (a, b ∷ bs) = Err (fault_at 1 cause.Form)
 
--- a whole text, of one line, as one amount
+abbrev pub alone_of : {A : Type 0} → Bool → Result (A × List ℕ) Fault → Result A Fault
+alone_of is_line read = read >>= λ a. alone is_line a
+
+-- a whole text as one amount, but for white space at its ends; its first line is read first, and another is no part of it
 unfoldable pub amount_alone : Context → List ℕ → Result Amount Fault
-amount_alone context text =
-    if has_byte 10 text then Err (fault_at 1 cause.Form)
-    else (do
-      a ← amount_at context 1 (trimmed text)
-      alone 1 a)
+amount_alone context text = alone_of (not (has_byte 10 text)) (amount_at context 1 (trimmed (before_byte 10 text)))

@@ -1,5 +1,5 @@
 -- What the directives before an item say.
-use Rattle.std.specs.Prelude.{ℕ, ◌-◌, ◌||◌, List, [], ◌∷◌, ◌++◌, nat_eq, if◌then◌else◌, length, take, drop, Option, Some, None}
+use Rattle.std.specs.Prelude.{ℕ, ◌-◌, Bool, true, ◌&&◌, List, [], ◌∷◌, ◌++◌, ◌==◌, nat_eq, if◌then◌else◌, length, take, drop, reverse, Option, Some, None}
 use Rattle.std.specs.List.{fold, find, flat_map, starts_with}
 use Rattle.std.specs.Str.{bytes_eq}
 use Rattle.book.specs.declared.amount.Amount.{Amount}
@@ -9,8 +9,8 @@ use Rattle.book.specs.declared.item.Item.{Item}
 use Rattle.book.specs.declared.item.Item.TheVariants as item
 
 -- The year of dates without one; the decimal mark of numbers; the symbol of amounts without one and the decimal mark of
--- its directive; the names before accounts, outermost first; the aliases, an old name and a new one, newest first; and
--- the decimal marks of the `commodity` directives, newest first.
+-- its directive; the names before accounts, outermost first; the aliases in force, an old name and a new one; and the
+-- decimal marks of the `commodity` directives. Aliases and marks stand in the order of the text.
 pub record Context : Type 0 where
   pub year : Option ℕ
   pub mark : Option ℕ
@@ -19,9 +19,8 @@ pub record Context : Type 0 where
   pub aliases : List (List ℕ × List ℕ)
   pub marks : List (List ℕ × Option ℕ)
 
--- a context in which only a year is known
-abbrev pub year_alone : Option ℕ → Context
-year_alone year = record { year = year; mark = None; usual = None; applied = []; aliases = []; marks = [] }
+abbrev pub context_with : Option ℕ → Option ℕ → Option (List ℕ × Option ℕ) → List (List ℕ) → List (List ℕ × List ℕ) → List (List ℕ × Option ℕ) → Context
+context_with year mark usual applied aliases marks = record { year = year; mark = mark; usual = usual; applied = applied; aliases = aliases; marks = marks }
 
 -- the directive that an item is
 abbrev pub directive_in : Item → List Directive
@@ -54,7 +53,7 @@ applied_after names _ = names
 
 -- an alias stays until the end of all aliases
 abbrev pub aliases_after : List (List ℕ × List ℕ) → Directive → List (List ℕ × List ℕ)
-aliases_after aliases (directive.Alias old new) = (old, new) ∷ aliases
+aliases_after aliases (directive.Alias old new) = aliases ++ (old, new) ∷ []
 aliases_after aliases directive.EndAliases = []
 aliases_after aliases _ = aliases
 
@@ -64,7 +63,7 @@ mark_in None = None
 mark_in (Some a) = a.shape.mark
 
 abbrev pub marks_after : List (List ℕ × Option ℕ) → Directive → List (List ℕ × Option ℕ)
-marks_after marks (directive.Commodity symbol amount) = (symbol, mark_in amount) ∷ marks
+marks_after marks (directive.Commodity symbol amount) = marks ++ (symbol, mark_in amount) ∷ []
 marks_after marks _ = marks
 
 -- what some directives say, with a year that was handed in
@@ -101,6 +100,10 @@ abbrev pub mark_found : Option (List ℕ × Option ℕ) → Option ℕ
 mark_found None = None
 mark_found (Some entry) = entry.1
 
+-- the mark of a symbol's latest `commodity` directive, if that has one
+abbrev pub latest_mark : List (List ℕ × Option ℕ) → List ℕ → Option ℕ
+latest_mark marks symbol = mark_found (find (λ entry. bytes_eq entry.0 symbol) (reverse marks))
+
 -- the mark of the default amount, for an amount without a symbol
 abbrev pub usual_mark : Context → List ℕ → Option ℕ
 usual_mark context [] = mark_found context.usual
@@ -111,19 +114,31 @@ usual_mark context (b ∷ bs) = None
 abbrev pub decided_mark : Context → List ℕ → Option ℕ
 decided_mark context written =
     or_else context.mark
-    (or_else (mark_found (find (λ entry. bytes_eq entry.0 (symbol_of context written)) context.marks))
-    (usual_mark context written))
+    (or_else (latest_mark context.marks (symbol_of context written)) (usual_mark context written))
 
 -- the name behind those that are applied
 abbrev pub with_applied : List (List ℕ) → List ℕ → List ℕ
 with_applied [] name = name
 with_applied (outer ∷ names) name = outer ++ 58 ∷ with_applied names name
 
+-- a part of a name ends where the name ends, and before a colon
+abbrev pub ends_part : List ℕ → Bool
+ends_part [] = true
+ends_part (b ∷ bs) = b == 58
+
+-- a name is the old one, or one below it
+abbrev pub is_under : List ℕ → List ℕ → Bool
+is_under old name = starts_with nat_eq name old && ends_part (drop (length old) name)
+
 -- one alias: the old name, or one below it, becomes the new one
 abbrev pub renamed_by : List ℕ × List ℕ → List ℕ → List ℕ
-renamed_by alias name =
-    if bytes_eq name alias.0 || starts_with nat_eq name (alias.0 ++ 58 ∷ []) then alias.1 ++ drop (length alias.0) name else name
+renamed_by alias name = if is_under alias.0 name then alias.1 ++ drop (length alias.0) name else name
+
+-- each alias is tried once, the newest first
+abbrev pub renamed : List (List ℕ × List ℕ) → List ℕ → List ℕ
+renamed [] name = name
+renamed (alias ∷ newer) name = renamed_by alias (renamed newer name)
 
 -- the account that a written name stands for
 abbrev pub account_named : Context → List ℕ → List ℕ
-account_named context name = fold (λ n alias. renamed_by alias n) (with_applied context.applied name) context.aliases
+account_named context name = renamed context.aliases (with_applied context.applied name)

@@ -8,8 +8,9 @@ ghost use Rattle.entry_reader.specs.Accounts as spec;
 ghost use Rattle.book.specs.Accounts.{parts_of};
 ghost use Rattle.book.specs.declared.fault.Cause.TheVariants.{Encoding};
 
+use crate::context::Context;
 use crate::fault::{ReadFault, fault_at};
-use crate::scan::{begins_white, has, is_utf8, is_white, text_of};
+use crate::scan::{before, before_white, begins_white, has, is_utf8, is_white, text_of};
 use book::{Cause, Side};
 use hl_base::Text;
 use std::alloc::Global;
@@ -146,7 +147,42 @@ pub fn read_name(text: &[u8], line: u64) -> Result<(Side, &[u8]), ReadFault>
     }
 }
 
-/// Whether a whole text is an account's, without white space at its ends.
+/// The account that a written name stands for in a context. The name has 1 to 64 parts, none of them empty, as it is
+/// written and as the context changes it.
+#[tactic(auto, using(crate::proofs::Named::unchanged_name))]
+pub fn read_name_in(alloc: Global, context: &Context, name: &[u8], line: u64) -> Result<Text, ReadFault>
+    requires { is_utf8 name.now ≡ true }
+    ensures { Gives (λ account. account) cause_in result (spec.name_in context.now line name.now) }
+{
+    if !has_parts(name) {
+        return Err(fault_at(line, Cause::Account));
+    }
+    if !context.changes_names() {
+        return Ok(text_of(alloc, name)?);
+    }
+    let account = context.account_named(alloc, name)?;
+    if has_parts(account.as_bytes()) {
+        Ok(account)
+    } else {
+        Err(fault_at(line, Cause::Account))
+    }
+}
+
+/// The side and the name of the account that a text is, as the context changes it.
+pub fn read_account_in(
+    alloc: Global,
+    context: &Context,
+    text: &[u8],
+    line: u64,
+) -> Result<(Side, Text), ReadFault>
+    requires { is_utf8 text.now ≡ true }
+    ensures { Gives (λ account. account) cause_in result (spec.account_at context.now line text.now) }
+{
+    let account = read_name_in(alloc, context, name_of(text), line)?;
+    Ok((side_of(text), account))
+}
+
+/// Whether all of a text is an account, without white space at its ends.
 fn is_account_text(text: &[u8]) -> bool
     ensures { result ≡ spec.is_account_text text.now }
 {
@@ -157,9 +193,19 @@ fn is_account_text(text: &[u8]) -> bool
         && !begins_white(last)
 }
 
+/// What a line's text is the account of, were it one.
+fn account_front(line: &[u8]) -> &[u8]
+    ensures value { result.now ≡ spec.account_front line.now }
+    ensures utf8 { is_utf8 line.now ≡ true → is_utf8 result.now ≡ true }
+{
+    let (account, _) = cut_account(line);
+    before_white(account)
+}
+
 /// The account of a posting that a whole text is, as it is written: its side, and its name without the brackets. The
-/// faults are in line 1: bytes that aren't UTF-8; text that goes past the end of an account, or begins or ends with
-/// white space; and a name with an empty part or more than 64 parts.
+/// faults are in line 1: bytes that aren't UTF-8; white space at the front; a name with an empty part or more than 64
+/// parts; and text, white space or a line end after the account. The first place in the text decides.
+#[tactic(auto, unfolding(crate::specs::Accounts::account_alone))]
 pub fn read_account(alloc: Global, text: &[u8]) -> Result<(Side, Text), ReadFault>
     ensures { Gives (λ account. account) cause_in result
         (if is_utf8 text.now then spec.account_alone text.now else Err (fault_at 1 Encoding)) }
@@ -167,10 +213,13 @@ pub fn read_account(alloc: Global, text: &[u8]) -> Result<(Side, Text), ReadFaul
     if !is_utf8(text) {
         return Err(fault_at(1, Cause::Encoding));
     }
+    if begins_white(text) {
+        return Err(fault_at(1, Cause::Form));
+    }
+    let (side, name) = read_name(account_front(before(text, b'\n')), 1)?;
     if !is_account_text(text) {
         return Err(fault_at(1, Cause::Form));
     }
-    let (side, name) = read_name(text, 1)?;
     let name = text_of(alloc, name)?;
     Ok((side, name))
 }

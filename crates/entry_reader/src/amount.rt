@@ -10,7 +10,7 @@ ghost use Rattle.book.specs.declared.fault.Cause.TheVariants.{Encoding};
 use crate::context::Context;
 use crate::fault::{ReadFault, fault_at};
 use crate::scan::{
-    after_white, begins, begins_sign, begins_white, cut_number, has, is_utf8, past_first, text_of,
+    after_white, before, begins, begins_sign, begins_white, cut_number, has, is_utf8, past_first,
     trimmed,
 };
 use crate::symbol::{cut_name, ends_amount, is_left_good, is_right_good};
@@ -29,15 +29,15 @@ struct Left<'a> {
 
 /// What stands behind a number, and what follows.
 #[derive(Clone, Copy)]
-struct Right<'a> {
-    symbol: &'a [u8],
-    spaced: bool,
-    is_good: bool,
-    rest: &'a [u8],
+pub struct Right<'a> {
+    pub symbol: &'a [u8],
+    pub spaced: bool,
+    pub is_good: bool,
+    pub rest: &'a [u8],
 }
 
 /// What follows a sign and the white space after it, where a sign stands first.
-fn after_sign(text: &[u8]) -> &[u8]
+pub fn after_sign(text: &[u8]) -> &[u8]
     ensures value { result.now ≡ spec.after_sign text.now }
     ensures utf8 { is_utf8 text.now ≡ true → is_utf8 result.now ≡ true }
 {
@@ -73,7 +73,7 @@ fn read_left(text: &[u8], line: u64) -> Result<Left<'_>, ReadFault>
 
 /// The symbol behind a number, where none stands before it.
 #[tactic(auto, using(crate::proofs::Texts::empty_utf8), unfolding(crate::specs::Amounts::right_at))]
-fn read_right(text: &[u8], has_symbol: bool) -> Right<'_>
+pub fn read_right(text: &[u8], has_symbol: bool) -> Right<'_>
     ensures value { spec.right_with result.symbol.now result.spaced result.is_good result.rest.now ≡ spec.right_at has_symbol text.now }
     ensures utf8 { is_utf8 text.now ≡ true → (is_utf8 result.symbol.now ≡ true) × (is_utf8 result.rest.now ≡ true) }
 {
@@ -96,7 +96,7 @@ fn read_right(text: &[u8], has_symbol: bool) -> Right<'_>
 }
 
 /// The number that digits and marks are.
-fn number_of(digits: &[u8], mark: Option<u8>, line: u64) -> Result<Number, ReadFault>
+pub fn number_of(digits: &[u8], mark: Option<u8>, line: u64) -> Result<Number, ReadFault>
     ensures { Gives (λ number. number) cause_in result (spec.number_or_fault line (reading digits.now mark)) }
 {
     match read_number(digits, mark) {
@@ -105,7 +105,8 @@ fn number_of(digits: &[u8], mark: Option<u8>, line: u64) -> Result<Number, ReadF
     }
 }
 
-fn signed(is_negative: bool, value: Dec) -> Dec
+/// A value, or its opposite.
+pub fn signed(is_negative: bool, value: Dec) -> Dec
     ensures { result ≡ spec.signed is_negative value }
 {
     if is_negative { value.negated() } else { value }
@@ -156,7 +157,7 @@ pub fn amount_at<'a>(
     }
     let spaced = if is_left { left.spaced } else { right.spaced };
     let amount = Amount {
-        symbol: text_of(alloc, context.symbol_of(written))?,
+        symbol: context.symbol_of(alloc, written)?,
         value: signed(left.is_negative, number.value),
         shape: shape_of(is_left, spaced, &number),
     };
@@ -218,9 +219,22 @@ pub fn cost_at<'a>(
     Ok((None, text))
 }
 
+/// The amount that a text begins with, where nothing follows it. Another line is no part of an amount.
+fn read_alone(alloc: Global, context: &Context, text: &[u8], is_line: bool) -> Result<Amount, ReadFault>
+    requires { is_utf8 text.now ≡ true }
+    ensures { Gives (λ amount. amount) cause_in result (spec.alone_of is_line (spec.amount_at context.now 1 text.now)) }
+{
+    let (amount, rest) = amount_at(alloc, context, text, 1)?;
+    if rest.is_empty() && is_line {
+        Ok(amount)
+    } else {
+        Err(fault_at(1, Cause::Form))
+    }
+}
+
 /// The amount that a whole text is, but for white space at its ends. The faults are in line 1: bytes that aren't UTF-8;
-/// more than one line; a symbol that doesn't stand in quotes as it must; two signs, and a number that is none or too large; and text after
-/// the amount. The first place in the text decides.
+/// a symbol that doesn't stand in quotes as it must; two signs, and a number that is none or too large; and text or a line
+/// end after the amount. The first place in the text decides.
 #[tactic(auto, unfolding(crate::specs::Amounts::amount_alone))]
 pub fn read_amount(alloc: Global, text: &[u8], context: &Context) -> Result<Amount, ReadFault>
     ensures { Gives (λ amount. amount) cause_in result
@@ -229,13 +243,5 @@ pub fn read_amount(alloc: Global, text: &[u8], context: &Context) -> Result<Amou
     if !is_utf8(text) {
         return Err(fault_at(1, Cause::Encoding));
     }
-    if has(text, b'\n') {
-        return Err(fault_at(1, Cause::Form));
-    }
-    let (amount, rest) = amount_at(alloc, context, trimmed(text), 1)?;
-    if rest.is_empty() {
-        Ok(amount)
-    } else {
-        Err(fault_at(1, Cause::Form))
-    }
+    read_alone(alloc, context, trimmed(before(text, b'\n')), !has(text, b'\n'))
 }

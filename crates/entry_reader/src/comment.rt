@@ -67,7 +67,7 @@ pub fn comment_lines(text: &[u8]) -> &[u8]
 }
 
 /// Puts bytes behind a text.
-fn append(text: &mut String, bytes: &[u8]) -> Result<(), Memory>
+pub fn append(text: &mut String, bytes: &[u8]) -> Result<(), Memory>
     requires { is_utf8 bytes.now ≡ true }
     ensures { OnOk result (string_bytes text.new ≡ string_bytes text.old ++ bytes.now) }
 {

@@ -1,58 +1,24 @@
 //! Reads the posting lines of an entry.
-ghost use Rattle.std.specs.Prelude.{◌≡◌, ◌==◌, ◌+◌, ◌<◌, ◌≤◌, ◌^◌, true, IfOk, length};
+ghost use Rattle.std.specs.Prelude.{◌≡◌, ◌==◌, ◌+◌, ◌<◌, ◌≤◌, ◌^◌, ◌∷◌, true, IfOk, length};
 ghost use Rattle.std.specs.List.{count_by};
 ghost use Rattle.std.specs.Str.{is_utf8};
 ghost use Rattle.hl_base.specs.Gives.{Gives};
 ghost use Rattle.entry_reader.specs.Causes.{cause_in};
+ghost use Rattle.entry_reader.specs.Comments.{comments_in};
 ghost use Rattle.entry_reader.specs.Lines.{contents_of};
 ghost use Rattle.entry_reader.specs.Postings as spec;
 
-use crate::account::{cut_account, has_parts, read_name};
-use crate::amount::{amount_at, cost_at};
+use crate::account::{cut_account, read_account_in};
 use crate::comment::{comment_lines, is_comment, read_comment, read_own_day, read_tags};
 use crate::context::Context;
 use crate::fault::{ReadFault, fault_at};
 use crate::head::read_mark;
-use crate::scan::{after_white, begins, begins_white, cut_line, past_first, text_of, trimmed};
-use crate::symbol::ends_amount;
-use book::{Amount, Boxed, Cause, Cost, Mark, Posting, Side};
+use crate::quantity::{Holder, Numbers, read_numbers};
+use crate::scan::{after_white, begins, begins_white, cut_line, past_first, trimmed};
+use book::{Cause, Mark, Posting, RulePosting, Side};
 use hl_base::{List, Text};
+use hl_time::Day;
 use std::alloc::Global;
-
-/// The amount and the cost of a posting, where they are written.
-#[derive(Drop)]
-struct Numbers {
-    amount: Option<Amount>,
-    cost: Option<Boxed<Cost>>,
-}
-
-/// The amount and the cost that a text begins with, if any, and what follows them.
-#[tactic(auto, unfolding(crate::specs::Postings::numbers_at))]
-fn read_numbers<'a>(
-    alloc: Global,
-    context: &Context,
-    text: &'a [u8],
-    line: u64,
-) -> Result<(Numbers, &'a [u8]), ReadFault>
-    requires { is_utf8 text.now ≡ true }
-    ensures value { Gives (λ x. ((x.0.amount, x.0.cost), x.1.now)) cause_in result (spec.numbers_at context.now line text.now) }
-    ensures utf8 { IfOk result (λ x. is_utf8 x.1.now ≡ true) }
-{
-    if ends_amount(text) {
-        let numbers = Numbers {
-            amount: None,
-            cost: None,
-        };
-        return Ok((numbers, text));
-    }
-    let (amount, rest) = amount_at(alloc, context, text, line)?;
-    let (cost, rest) = cost_at(alloc, context, rest, line)?;
-    let numbers = Numbers {
-        amount: Some(amount),
-        cost,
-    };
-    Ok((numbers, rest))
-}
 
 /// Whether a line has ended, or goes on with a comment.
 fn ends_line(text: &[u8]) -> bool
@@ -71,18 +37,15 @@ fn is_free(side: Side) -> bool
 }
 
 /// The comment with which a posting's line ends, empty where there is none.
-fn read_ending(text: &[u8], side: Side, has_amount: bool, line: u64) -> Result<&[u8], ReadFault>
+fn read_ending(text: &[u8], side: Side, says_much: bool, line: u64) -> Result<&[u8], ReadFault>
     requires { is_utf8 text.now ≡ true }
-    ensures value { Gives (λ x. x.now) cause_in result (spec.ending_of line side has_amount text.now) }
+    ensures value { Gives (λ x. x.now) cause_in result (spec.ending_of line side says_much text.now) }
     ensures utf8 { IfOk result (λ x. is_utf8 x.now ≡ true) }
 {
-    if begins(text, b'=') {
-        return Err(fault_at(line, Cause::NotBuilt));
-    }
     if !ends_line(text) {
         return Err(fault_at(line, Cause::Form));
     }
-    if is_free(side) && !has_amount {
+    if is_free(side) && !says_much {
         return Err(fault_at(line, Cause::Form));
     }
     Ok(own_comment(text))
@@ -102,35 +65,19 @@ fn own_comment(text: &[u8]) -> &[u8]
     }
 }
 
-/// The account that a text is, as the context has it.
-#[tactic(auto, using(crate::proofs::Bare::unchanged_account), unfolding(crate::specs::Postings::account_at))]
-fn read_account_in<'a>(
-    context: &Context,
-    text: &'a [u8],
-    line: u64,
-) -> Result<(Side, &'a [u8]), ReadFault>
-    requires { is_utf8 text.now ≡ true }
-    ensures value { Gives (λ x. (x.0, x.1.now)) cause_in result (spec.account_at context.now line text.now) }
-    ensures utf8 { IfOk result (λ x. is_utf8 x.1.now ≡ true) }
+/// Whether a posting has an amount, a factor or an assertion.
+fn says_much(numbers: &Numbers) -> bool
+    ensures { result ≡ spec.says_much (spec.numbers_of numbers.now.amount numbers.now.factor numbers.now.cost numbers.now.wanted) }
 {
-    let (side, written) = read_name(text, line)?;
-    if !context.changes_names() {
-        return Ok((side, written));
-    }
-    let name = context.account_named(written);
-    if has_parts(name) {
-        Ok((side, name))
-    } else {
-        Err(fault_at(line, Cause::Account))
-    }
+    numbers.amount.is_some() || numbers.factor.is_some() || numbers.wanted.is_some()
 }
 
-/// What an indented line's content says of a posting: its mark, its account, its amount and cost, and its comment.
+/// What an indented line's content says of a posting: its mark, its account, its numbers, and its comment.
 #[derive(Drop)]
 struct Line<'a> {
     mark: Mark,
     side: Side,
-    account: &'a [u8],
+    account: Text,
     numbers: Numbers,
     comment: &'a [u8],
 }
@@ -138,19 +85,20 @@ struct Line<'a> {
 #[tactic(auto, unfolding(crate::specs::Postings::posting_line))]
 fn read_line<'a>(
     alloc: Global,
+    holder: Holder,
     context: &Context,
     content: &'a [u8],
     line: u64,
 ) -> Result<Line<'a>, ReadFault>
     requires { is_utf8 content.now ≡ true }
-    ensures value { Gives (λ x. (spec.posting_from line x.mark (x.side, x.account.now) (x.numbers.amount, x.numbers.cost), x.comment.now)) cause_in result (spec.posting_line context.now line content.now) }
-    ensures utf8 { IfOk result (λ x. (is_utf8 x.account.now ≡ true) × (is_utf8 x.comment.now ≡ true)) }
+    ensures value { Gives (λ x. (spec.posting_from line x.mark (x.side, x.account) (spec.numbers_of x.numbers.amount x.numbers.factor x.numbers.cost x.numbers.wanted), x.comment.now)) cause_in result (spec.posting_line holder context.now line content.now) }
+    ensures utf8 { IfOk result (λ x. is_utf8 x.comment.now ≡ true) }
 {
     let (mark, rest) = read_mark(after_white(content), line)?;
     let (text, rest) = cut_account(rest);
-    let (side, account) = read_account_in(context, text, line)?;
-    let (numbers, rest) = read_numbers(alloc, context, after_white(rest), line)?;
-    let comment = read_ending(rest, side, numbers.amount.is_some(), line)?;
+    let (side, account) = read_account_in(alloc, context, text, line)?;
+    let (numbers, rest) = read_numbers(alloc, holder, context, after_white(rest), line)?;
+    let comment = read_ending(rest, side, says_much(&numbers), line)?;
     Ok(Line {
         mark,
         side,
@@ -160,12 +108,65 @@ fn read_line<'a>(
     })
 }
 
+/// The day of its own that a posting's comments say; in a rule none.
+fn read_day_in(holder: Holder, own: &[u8], after: &[u8], line: u64) -> Result<Option<Day>, ReadFault>
+    requires { line + 1 + length after.now < 2 ^ 64 }
+    ensures { Gives (λ day. day) cause_in result (spec.own_day holder line (own.now ∷ comments_in (contents_of after.now))) }
+{
+    match holder {
+        Holder::Entry(year) => read_own_day(own, after, year, line),
+        Holder::Periodic | Holder::Auto => Ok(None),
+    }
+}
+
 /// The posting of an indented line's content and of the comment lines at the front of what follows.
-#[tactic(auto, unfolding(crate::specs::Postings::posting_of))]
+#[tactic(auto, unfolding(crate::specs::Postings::rule_posting_of))]
+fn read_rule_posting(
+    alloc: Global,
+    holder: Holder,
+    context: &Context,
+    content: &[u8],
+    after: &[u8],
+    line: u64,
+) -> Result<RulePosting, ReadFault>
+    requires content { is_utf8 content.now ≡ true }
+    requires after { is_utf8 after.now ≡ true }
+    requires lines { line + 1 + length after.now < 2 ^ 64 }
+    ensures { Gives (λ posting. posting) cause_in result (spec.rule_posting_of holder context.now line content.now (contents_of after.now)) }
+{
+    if !begins_white(content) {
+        return Err(fault_at(line, Cause::Form));
+    }
+    let read = read_line(alloc, holder, context, content, line)?;
+    let more = comment_lines(after);
+    let day = read_day_in(holder, read.comment, more, line)?;
+    let comment = read_comment(alloc, read.comment, more)?;
+    let tags = read_tags(alloc, read.comment, more)?;
+    let posting = Posting {
+        line,
+        mark: read.mark,
+        side: read.side,
+        account: read.account,
+        amount: read.numbers.amount,
+        cost: read.numbers.cost,
+        wanted: read.numbers.wanted,
+        filled: false,
+        costed: false,
+        comment,
+        tags,
+        day,
+    };
+    Ok(RulePosting {
+        posting,
+        factor: read.numbers.factor,
+    })
+}
+
+/// The posting of an entry or of a rule of a period.
 fn read_posting(
     alloc: Global,
+    holder: Holder,
     context: &Context,
-    year: u16,
     content: &[u8],
     after: &[u8],
     line: u64,
@@ -173,30 +174,10 @@ fn read_posting(
     requires content { is_utf8 content.now ≡ true }
     requires after { is_utf8 after.now ≡ true }
     requires lines { line + 1 + length after.now < 2 ^ 64 }
-    ensures { Gives (λ posting. posting) cause_in result (spec.posting_of context.now year line content.now (contents_of after.now)) }
+    ensures { Gives (λ posting. posting) cause_in result (spec.posting_of holder context.now line content.now (contents_of after.now)) }
 {
-    if !begins_white(content) {
-        return Err(fault_at(line, Cause::Form));
-    }
-    let read = read_line(alloc, context, content, line)?;
-    let more = comment_lines(after);
-    let day = read_own_day(read.comment, more, year, line)?;
-    let comment = read_comment(alloc, read.comment, more)?;
-    let tags = read_tags(alloc, read.comment, more)?;
-    Ok(Posting {
-        line,
-        mark: read.mark,
-        side: read.side,
-        account: text_of(alloc, read.account)?,
-        amount: read.numbers.amount,
-        cost: read.numbers.cost,
-        wanted: None,
-        filled: false,
-        costed: false,
-        comment,
-        tags,
-        day,
-    })
+    let read = read_rule_posting(alloc, holder, context, content, after, line)?;
+    Ok(read.posting)
 }
 
 /// How many line ends a text has.
@@ -209,18 +190,18 @@ pub fn line_ends(text: &[u8]) -> usize
 /// How many postings most entries have.
 const USUAL_POSTINGS: usize = 2;
 
-/// The postings that the lines of a text are, of which the first is the `line`-th.
-#[tactic(auto, unfolding(crate::specs::Postings::postings_of))]
-pub fn read_postings(
+/// The postings that the lines of a text are in an entry or in a rule of a period.
+#[tactic(auto, unfolding(crate::specs::Postings::each_of))]
+fn read_each(
     alloc: Global,
+    holder: Holder,
     context: &Context,
-    year: u16,
     text: &[u8],
     line: u64,
 ) -> Result<List<Posting>, ReadFault>
     requires utf8 { is_utf8 text.now ≡ true }
     requires lines { line + length text.now < 2 ^ 64 }
-    ensures { Gives (λ postings. postings) cause_in result (spec.postings_of context.now year line (contents_of text.now)) }
+    ensures { Gives (λ postings. postings) cause_in result (spec.each_of (spec.posting_of holder context.now) line (contents_of text.now)) }
 {
     let mut postings = Vec::with_capacity(alloc, USUAL_POSTINGS)?;
     let mut rest = text;
@@ -232,7 +213,69 @@ pub fn read_postings(
             next += 1;
             continue;
         }
-        let posting = read_posting(alloc, context, year, content, after, next)?;
+        let posting = read_posting(alloc, holder, context, content, after, next)?;
+        postings.push(posting)?;
+        rest = after;
+        next += 1;
+    }
+    Ok(List::from_vec(postings))
+}
+
+/// The postings that the lines of a text are in an entry, of which the first is the `line`-th. Dates of their own that are
+/// written without a year are in the given one.
+pub fn read_postings(
+    alloc: Global,
+    context: &Context,
+    year: u16,
+    text: &[u8],
+    line: u64,
+) -> Result<List<Posting>, ReadFault>
+    requires utf8 { is_utf8 text.now ≡ true }
+    requires lines { line + length text.now < 2 ^ 64 }
+    ensures { Gives (λ postings. postings) cause_in result (spec.postings_of context.now year line (contents_of text.now)) }
+{
+    read_each(alloc, Holder::Entry(year), context, text, line)
+}
+
+/// The postings that the lines of a text are in a rule of a period, of which the first is the `line`-th. They have no
+/// assertions, and no days of their own.
+pub fn read_periodic_postings(
+    alloc: Global,
+    context: &Context,
+    text: &[u8],
+    line: u64,
+) -> Result<List<Posting>, ReadFault>
+    requires utf8 { is_utf8 text.now ≡ true }
+    requires lines { line + length text.now < 2 ^ 64 }
+    ensures { Gives (λ postings. postings) cause_in result (spec.periodic_postings_of context.now line (contents_of text.now)) }
+{
+    read_each(alloc, Holder::Periodic, context, text, line)
+}
+
+/// The postings that the lines of a text are in an automated rule, of which the first is the `line`-th. They have no
+/// assertions and no days of their own; a factor, `*` and a number and perhaps a symbol, may stand in the place of an amount.
+#[tactic(auto, unfolding(crate::specs::Postings::each_of))]
+pub fn read_rule_postings(
+    alloc: Global,
+    context: &Context,
+    text: &[u8],
+    line: u64,
+) -> Result<List<RulePosting>, ReadFault>
+    requires utf8 { is_utf8 text.now ≡ true }
+    requires lines { line + length text.now < 2 ^ 64 }
+    ensures { Gives (λ postings. postings) cause_in result (spec.rule_postings_of context.now line (contents_of text.now)) }
+{
+    let mut postings = Vec::new(alloc);
+    let mut rest = text;
+    let mut next = line;
+    while !rest.is_empty() {
+        let (content, after) = cut_line(rest);
+        if is_comment(content) {
+            rest = after;
+            next += 1;
+            continue;
+        }
+        let posting = read_rule_posting(alloc, Holder::Auto, context, content, after, next)?;
         postings.push(posting)?;
         rest = after;
         next += 1;

@@ -1,0 +1,17 @@
+use Rattle.std.proofs.Common.{◌≡◌, ◌+◌, ◌≤◌, true, length}
+use Rattle.std.specs.Str.{is_utf8}
+use Rattle.entry_reader.specs.Lines.{contents_of}
+use Rattle.entry_reader.specs.Postings.{each_of, rule_posting_of}
+use Rattle.entry_reader.specs.declared.quantity.Holder.TheVariants as holder
+use Rattle.entry_reader.proofs.Entries.{with_front}
+use Rattle.entry_reader.proofs.posting.read_rule_postings.Given as goal
+
+abbrev pub invariant-loop-rest : goal.invariant-loop-rest
+invariant-loop-rest l = record {
+  so_far : with_front l.postings.items (each_of (rule_posting_of holder.Auto l.context) l.next (contents_of l.rest)) ≡ each_of (rule_posting_of holder.Auto l.context) l.fn.line (contents_of l.text);
+  room : l.next + length l.rest ≤ l.fn.line + length l.text;
+  utf8 : is_utf8 l.rest ≡ true;
+}
+
+abbrev pub decreases-loop-rest : goal.decreases-loop-rest
+decreases-loop-rest l = length l.rest
