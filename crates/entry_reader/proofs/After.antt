@@ -30,4 +30,3 @@ pub after_items : (year : Option ℕ) (before : List Item) (i : Item) (old new :
 after_items year before i old new is made =
     let more : directives_in (before ++ i ∷ []) ≡ directives_in before ++ directive_in i = flat_map-append directive_in before (i ∷ []) ∙ ap (λ (ds : List Directive). directives_in before ++ ds) (append-nil (directive_in i)) in
     made ∙ ap (λ (c : Context). context_after c i) is ∙ from_append year (directives_in before) i ∙ sym (ap (context_from year) more)
-

@@ -150,7 +150,12 @@ pub fn read_name(text: &[u8], line: u64) -> Result<(Side, &[u8]), ReadFault>
 /// The account that a written name stands for in a context. The name has 1 to 64 parts, none of them empty, as it is
 /// written and as the context changes it.
 #[tactic(auto, using(crate::proofs::Named::unchanged_name))]
-pub fn read_name_in(alloc: Global, context: &Context, name: &[u8], line: u64) -> Result<Text, ReadFault>
+pub fn read_name_in(
+    alloc: Global,
+    context: &Context,
+    name: &[u8],
+    line: u64,
+) -> Result<Text, ReadFault>
     requires { is_utf8 name.now ≡ true }
     ensures { Gives (λ account. account) cause_in result (spec.name_in context.now line name.now) }
 {

@@ -220,7 +220,12 @@ pub fn cost_at<'a>(
 }
 
 /// The amount that a text begins with, where nothing follows it. Another line is no part of an amount.
-fn read_alone(alloc: Global, context: &Context, text: &[u8], is_line: bool) -> Result<Amount, ReadFault>
+fn read_alone(
+    alloc: Global,
+    context: &Context,
+    text: &[u8],
+    is_line: bool,
+) -> Result<Amount, ReadFault>
     requires { is_utf8 text.now ≡ true }
     ensures { Gives (λ amount. amount) cause_in result (spec.alone_of is_line (spec.amount_at context.now 1 text.now)) }
 {
@@ -243,5 +248,10 @@ pub fn read_amount(alloc: Global, text: &[u8], context: &Context) -> Result<Amou
     if !is_utf8(text) {
         return Err(fault_at(1, Cause::Encoding));
     }
-    read_alone(alloc, context, trimmed(before(text, b'\n')), !has(text, b'\n'))
+    read_alone(
+        alloc,
+        context,
+        trimmed(before(text, b'\n')),
+        !has(text, b'\n'),
+    )
 }

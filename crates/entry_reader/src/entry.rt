@@ -49,7 +49,12 @@ fn read_lines(
 }
 
 /// An entry of a head line and the lines after it.
-pub fn read_entry(alloc: Global, bytes: &[u8], context: &Context, line: u64) -> Result<Item, ReadFault>
+pub fn read_entry(
+    alloc: Global,
+    bytes: &[u8],
+    context: &Context,
+    line: u64,
+) -> Result<Item, ReadFault>
     requires utf8 { is_utf8 bytes.now ≡ true }
     requires lines { line + length bytes.now < 2 ^ 64 }
     ensures { Gives (λ item. item) cause_in result (spec.entry_of context.now line (contents_of bytes.now)) }

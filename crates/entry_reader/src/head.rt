@@ -114,11 +114,7 @@ fn cut_code(text: &[u8]) -> (&[u8], &[u8])
 
 /// The head that a line's content says.
 #[tactic(auto, unfolding(crate::specs::Heads::head_of))]
-pub fn read_head<'a>(
-    context: &Context,
-    content: &'a [u8],
-    line: u64,
-) -> Result<Head<'a>, ReadFault>
+pub fn read_head<'a>(context: &Context, content: &'a [u8], line: u64) -> Result<Head<'a>, ReadFault>
     requires { is_utf8 content.now ≡ true }
     ensures value { Gives (λ x. spec.head_with x.day.0 x.mark x.code.now x.description.now x.comment.now) cause_in result (spec.head_of context.now line content.now) }
     ensures day { IfOk result (λ x. IsDay x.day.0) }

@@ -65,11 +65,7 @@ fn renamed_by(alloc: Global, alias: &(Text, Text), name: Text) -> Result<Text, M
 }
 
 /// A name after each of some aliases, of which the last is tried first.
-pub fn renamed_by_each(
-    alloc: Global,
-    aliases: &[(Text, Text)],
-    name: Text,
-) -> Result<Text, Memory>
+pub fn renamed_by_each(alloc: Global, aliases: &[(Text, Text)], name: Text) -> Result<Text, Memory>
     ensures { IfOk result (λ account. account ≡ spec.renamed aliases.now name) }
 {
     let mut account = name;

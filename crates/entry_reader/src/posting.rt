@@ -109,7 +109,12 @@ fn read_line<'a>(
 }
 
 /// The day of its own that a posting's comments say; in a rule none.
-fn read_day_in(holder: Holder, own: &[u8], after: &[u8], line: u64) -> Result<Option<Day>, ReadFault>
+fn read_day_in(
+    holder: Holder,
+    own: &[u8],
+    after: &[u8],
+    line: u64,
+) -> Result<Option<Day>, ReadFault>
     requires { line + 1 + length after.now < 2 ^ 64 }
     ensures { Gives (λ day. day) cause_in result (spec.own_day holder line (own.now ∷ comments_in (contents_of after.now))) }
 {

@@ -7,8 +7,7 @@ ghost use Rattle.entry_reader.specs.Amounts as amounts;
 ghost use Rattle.entry_reader.specs.Lines.{begins};
 ghost use Rattle.entry_reader.specs.Postings as spec;
 
-use crate::amount::{amount_at, cost_at, number_of, read_right, signed};
-use crate::amount::{after_sign, Right};
+use crate::amount::{Right, after_sign, amount_at, cost_at, number_of, read_right, signed};
 use crate::context::Context;
 use crate::fault::{ReadFault, fault_at};
 use crate::scan::{after_white, begins, cut_number, past_first, text_of};
