@@ -124,29 +124,38 @@ in_force = refl
 plainly : ℕ → Amount
 plainly n = record { symbol = codes "E"; value = record { mantissa = pos n; places = 0 }; shape = record { left = false; spaced = false; mark = None; group = None; first = 3; rest = 3 } }
 
-claimed : numbers_at (holder.Entry 2024) (context_of None []) 7 (codes "5E==*7E@3E") ≡ Ok (record {
-  amount = Some (plainly 5);
-  factor = None;
-  cost = None;
-  wanted = Some (record { amount = plainly 7; only = true; below = true });
-}, [])
+claimed : numbers_at (holder.Entry 2024) (context_of None []) 7 (codes "5E==*7E@3E") ≡ Ok (
+  record {
+    amount = Some (plainly 5);
+    factor = None;
+    cost = None;
+    wanted = Some (record { amount = plainly 7; only = true; below = true });
+  },
+  [],
+)
 unfolding numbers_at quantity_at claim_at amount_at cost_at assertion_at left_at right_at number_with plainly
 claimed = refl
 
-assigned : numbers_at (holder.Entry 2024) (context_of None []) 7 (codes "=7E@3E") ≡ Ok (record {
-  amount = None;
-  factor = None;
-  cost = None;
-  wanted = Some (record { amount = plainly 7; only = false; below = false });
-}, codes "@3E")
+assigned : numbers_at (holder.Entry 2024) (context_of None []) 7 (codes "=7E@3E") ≡ Ok (
+  record {
+    amount = None;
+    factor = None;
+    cost = None;
+    wanted = Some (record { amount = plainly 7; only = false; below = false });
+  },
+  codes "@3E",
+)
 unfolding numbers_at quantity_at claim_at amount_at cost_at assertion_at left_at right_at number_with plainly
 assigned = refl
 
-multiplied : numbers_at holder.Auto (context_of None []) 7 (codes "*-1=5") ≡ Ok (record {
-  amount = None;
-  factor = Some (record { by = record { mantissa = negsuc 0; places = 0 }; symbol = None });
-  cost = None;
-  wanted = None;
-}, codes "=5")
+multiplied : numbers_at holder.Auto (context_of None []) 7 (codes "*-1=5") ≡ Ok (
+  record {
+    amount = None;
+    factor = Some (record { by = record { mantissa = negsuc 0; places = 0 }; symbol = None });
+    cost = None;
+    wanted = None;
+  },
+  codes "=5",
+)
 unfolding numbers_at quantity_at claim_at cost_at factor_at right_at number_with
 multiplied = refl

@@ -140,7 +140,9 @@ impl Context {
     #[tactic(auto, using(crate::proofs::After::after_items))]
     pub fn after(&mut self, alloc: Global, item: &Item) -> Result<(), Memory>
         ensures value { OnOk result (self.new ≡ context_after self.old item.now) }
-        ensures items { OnOk result ((year : Option ℕ) (before : List Item) → self.old ≡ spec.context_of year before → self.new ≡ spec.context_of year (before ++ item.now ∷ [])) }
+        ensures items { OnOk result ((year : Option ℕ) (before : List Item)
+            → self.old ≡ spec.context_of year before
+            → self.new ≡ spec.context_of year (before ++ item.now ∷ [])) }
         ensures err { OnErr result (self.new ≡ self.old) }
     {
         self.take_in(alloc, item)

@@ -7,6 +7,7 @@ ghost use Rattle.entry_reader.specs.Causes.{cause_in};
 ghost use Rattle.entry_reader.specs.Comments.{comments_in};
 ghost use Rattle.entry_reader.specs.Lines.{contents_of};
 ghost use Rattle.entry_reader.specs.Postings as spec;
+ghost use Rattle.entry_reader.specs.declared.quantity.Holder.TheVariants.{Auto};
 
 use crate::account::{cut_account, read_account_in};
 use crate::comment::{comment_lines, is_comment, read_comment, read_own_day, read_tags};
@@ -15,7 +16,7 @@ use crate::fault::{ReadFault, fault_at};
 use crate::head::read_mark;
 use crate::quantity::{Holder, Numbers, read_numbers};
 use crate::scan::{after_white, begins, begins_white, cut_line, past_first, trimmed};
-use book::{Cause, Mark, Posting, RulePosting, Side};
+use book::{Boxed, Cause, Factor, Mark, Posting, RulePosting, Side};
 use hl_base::{List, Text};
 use hl_time::Day;
 use std::alloc::Global;
@@ -91,7 +92,12 @@ fn read_line<'a>(
     line: u64,
 ) -> Result<Line<'a>, ReadFault>
     requires { is_utf8 content.now ≡ true }
-    ensures value { Gives (λ x. (spec.posting_from line x.mark (x.side, x.account) (spec.numbers_of x.numbers.amount x.numbers.factor x.numbers.cost x.numbers.wanted), x.comment.now)) cause_in result (spec.posting_line holder context.now line content.now) }
+    ensures value { Gives (λ x. (
+      spec.posting_from line x.mark (x.side, x.account)
+          (spec.numbers_of x.numbers.amount x.numbers.factor x.numbers.cost x.numbers.wanted),
+      x.comment.now,
+    ))
+        cause_in result (spec.posting_line holder context.now line content.now) }
     ensures utf8 { IfOk result (λ x. is_utf8 x.comment.now ≡ true) }
 {
     let (mark, rest) = read_mark(after_white(content), line)?;
@@ -124,20 +130,22 @@ fn read_day_in(
     }
 }
 
-/// The posting of an indented line's content and of the comment lines at the front of what follows.
+/// The posting of an indented line's content and of the comment lines at the front of what follows, and its factor.
 #[tactic(auto, unfolding(crate::specs::Postings::rule_posting_of))]
-fn read_rule_posting(
+#[inline]
+fn read_with_factor(
     alloc: Global,
     holder: Holder,
     context: &Context,
     content: &[u8],
     after: &[u8],
     line: u64,
-) -> Result<RulePosting, ReadFault>
+) -> Result<(Posting, Option<Boxed<Factor>>), ReadFault>
     requires content { is_utf8 content.now ≡ true }
     requires after { is_utf8 after.now ≡ true }
     requires lines { line + 1 + length after.now < 2 ^ 64 }
-    ensures { Gives (λ posting. posting) cause_in result (spec.rule_posting_of holder context.now line content.now (contents_of after.now)) }
+    ensures { Gives (λ x. spec.rule_posting_with x.0 x.1) cause_in result
+        (spec.rule_posting_of holder context.now line content.now (contents_of after.now)) }
 {
     if !begins_white(content) {
         return Err(fault_at(line, Cause::Form));
@@ -161,13 +169,11 @@ fn read_rule_posting(
         tags,
         day,
     };
-    Ok(RulePosting {
-        posting,
-        factor: read.numbers.factor,
-    })
+    Ok((posting, read.numbers.factor))
 }
 
 /// The posting of an entry or of a rule of a period.
+#[inline]
 fn read_posting(
     alloc: Global,
     holder: Holder,
@@ -179,10 +185,33 @@ fn read_posting(
     requires content { is_utf8 content.now ≡ true }
     requires after { is_utf8 after.now ≡ true }
     requires lines { line + 1 + length after.now < 2 ^ 64 }
-    ensures { Gives (λ posting. posting) cause_in result (spec.posting_of holder context.now line content.now (contents_of after.now)) }
+    ensures { Gives (λ posting. posting) cause_in result
+        (spec.posting_of holder context.now line content.now (contents_of after.now)) }
 {
-    let read = read_rule_posting(alloc, holder, context, content, after, line)?;
-    Ok(read.posting)
+    let (posting, _) = read_with_factor(alloc, holder, context, content, after, line)?;
+    Ok(posting)
+}
+
+/// The posting of an automated rule.
+fn read_rule_posting(
+    alloc: Global,
+    context: &Context,
+    content: &[u8],
+    after: &[u8],
+    line: u64,
+) -> Result<RulePosting, ReadFault>
+    requires content { is_utf8 content.now ≡ true }
+    requires after { is_utf8 after.now ≡ true }
+    requires lines { line + 1 + length after.now < 2 ^ 64 }
+    ensures { Gives (λ posting. posting) cause_in result
+        (spec.rule_posting_of Auto context.now line content.now (contents_of after.now)) }
+{
+    let (posting, factor) = read_with_factor(alloc, Holder::Auto, context, content, after, line)?;
+    let factor = match factor {
+        Some(factor) => Some(factor.into_inner()),
+        None => None,
+    };
+    Ok(RulePosting { posting, factor })
 }
 
 /// How many line ends a text has.
@@ -280,7 +309,7 @@ pub fn read_rule_postings(
             next += 1;
             continue;
         }
-        let posting = read_rule_posting(alloc, Holder::Auto, context, content, after, next)?;
+        let posting = read_rule_posting(alloc, context, content, after, next)?;
         postings.push(posting)?;
         rest = after;
         next += 1;

@@ -46,14 +46,14 @@ fn is_auto(holder: Holder) -> bool
 #[derive(Drop)]
 struct Quantity {
     amount: Option<Amount>,
-    factor: Option<Factor>,
+    factor: Option<Boxed<Factor>>,
 }
 
 /// What a posting says behind its account, where it is written. A factor stands in the place of the amount.
 #[derive(Drop)]
 pub struct Numbers {
     pub amount: Option<Amount>,
-    pub factor: Option<Factor>,
+    pub factor: Option<Boxed<Factor>>,
     pub cost: Option<Boxed<Cost>>,
     pub wanted: Option<Boxed<Assertion>>,
 }
@@ -133,7 +133,8 @@ fn read_quantity<'a>(
     line: u64,
 ) -> Result<(Quantity, &'a [u8]), ReadFault>
     requires { is_utf8 text.now ≡ true }
-    ensures value { Gives (λ x. ((x.0.amount, x.0.factor), x.1.now)) cause_in result (spec.quantity_at holder context.now line text.now) }
+    ensures value { Gives (λ x. ((x.0.amount, x.0.factor), x.1.now))
+        cause_in result (spec.quantity_at holder context.now line text.now) }
     ensures utf8 { IfOk result (λ x. is_utf8 x.1.now ≡ true) }
 {
     if ends_amount(text) {
@@ -147,7 +148,7 @@ fn read_quantity<'a>(
         let (factor, rest) = factor_at(alloc, context, after_white(past_first(text)), line)?;
         let quantity = Quantity {
             amount: None,
-            factor: Some(factor),
+            factor: Some(Boxed::new(alloc, factor)?),
         };
         return Ok((quantity, rest));
     }
@@ -261,7 +262,8 @@ pub fn read_numbers<'a>(
     line: u64,
 ) -> Result<(Numbers, &'a [u8]), ReadFault>
     requires { is_utf8 text.now ≡ true }
-    ensures value { Gives (λ x. (spec.numbers_of x.0.amount x.0.factor x.0.cost x.0.wanted, x.1.now)) cause_in result (spec.numbers_at holder context.now line text.now) }
+    ensures value { Gives (λ x. (spec.numbers_of x.0.amount x.0.factor x.0.cost x.0.wanted, x.1.now))
+        cause_in result (spec.numbers_at holder context.now line text.now) }
     ensures utf8 { IfOk result (λ x. is_utf8 x.1.now ≡ true) }
 {
     let (quantity, rest) = read_quantity(alloc, holder, context, text, line)?;
