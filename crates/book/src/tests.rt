@@ -1,16 +1,20 @@
 //! Amounts, sums and accounts with values worked out by hand.
+ghost use Rattle.std.specs.Prelude.{◌≡◌};
+
 use crate::amount::{Amount, Written};
 use crate::item::{Item, Placed};
 use crate::{
-    Cause, Directive, Fault, Mark, Mixed, Posting, Price, Side, Style, Styles, Txn,
+    Cause, DaySums, Directive, Fault, Mark, Mixed, Posting, Price, Side, Style, Styles, Sums, Txn,
     compare_accounts, print_amount, print_fault, print_plain,
 };
-use hl_base::{Kind, List, Piece, Text};
+use hl_base::{Kind, List, Piece, Steps, Text};
 use hl_num::Dec;
 use hl_time::Day;
 use std::alloc::Global;
 use std::cmp::Ordering;
+use std::marker::Brand;
 use std::process::Abort;
+use std::sync::ledger::{Blank, Ledger};
 use std::test::Fail;
 
 fn dec(rt: &impl Abort, mantissa: i128, places: u8) -> Dec {
@@ -227,5 +231,81 @@ fn tells_faults(rt: HostRuntime) -> Result<(), Fail> {
         let line = print_fault(alloc, &Fault { line: 6, cause })?;
         assert!(rt; line.as_slice() == want.as_bytes());
     }
+    Ok(())
+}
+
+/// Sums of a book without transactions.
+struct NoSums;
+
+impl DaySums for NoSums {
+    ghost use Rattle.std.specs.Prelude.{[]};
+
+    ghost txns = { λ _. [] };
+
+    fn cell<L: Ledger>(
+        &self,
+        _account: &Text,
+        _symbol: &Text,
+        _end: Day,
+        _below: bool,
+        _steps: &mut Steps<L>,
+    ) -> Dec {
+        Dec::zero()
+    }
+}
+
+impl Sums for NoSums {
+    ghost use Rattle.std.specs.Prelude.{[]};
+
+    ghost txns = { λ _. [] };
+
+    ghost place = { λ _. record { day = 1; txn = 0; posting = 0 } };
+
+    fn before<L: Ledger>(
+        &self,
+        _account: &Text,
+        _symbol: &Text,
+        _below: bool,
+        _steps: &mut Steps<L>,
+    ) -> Dec {
+        Dec::zero()
+    }
+
+    fn other<L: Ledger>(
+        &self,
+        _account: &Text,
+        _symbol: &Text,
+        _below: bool,
+        _steps: &mut Steps<L>,
+    ) -> Option<&Text> {
+        None
+    }
+}
+
+/// Asks for each sum of an account.
+fn ask_sums<L: Ledger, S: DaySums + Sums>(
+    blank: Blank,
+    sums: &S,
+    account: &Text,
+    symbol: &Text,
+) -> (Dec, Dec, bool)
+    requires name { blank.name ≡ L.name }
+    requires parts { blank.parts ≡ L.parts }
+    requires three { blank.parts ≡ 3 }
+{
+    let mut steps = Steps::<L>::start(blank);
+    let steps = &mut steps;
+    let cell = sums.cell(account, symbol, Day(2), true, steps);
+    let before = sums.before(account, symbol, true, steps);
+    let other = sums.other(account, symbol, true, steps).is_some();
+    (cell, before, other)
+}
+
+#[test]
+fn an_empty_book_has_no_sums(rt: HostRuntime) -> Result<(), Fail> {
+    let account = Text::copied(rt.alloc(), "a")?;
+    let symbol = Text::copied(rt.alloc(), "EUR")?;
+    let told = ask_sums::<Brand, NoSums>(Blank::new(3), &NoSums, &account, &symbol);
+    assert!(rt; told.0.is_zero() && told.1.is_zero() && !told.2);
     Ok(())
 }
