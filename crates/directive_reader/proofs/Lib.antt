@@ -1,0 +1,4 @@
+pub mod Keywords
+pub mod Prices
+pub mod QueryWords
+pub mod Rules

@@ -1,0 +1,9 @@
+pub mod AccountTypes
+pub mod Commodities
+pub mod Declarations
+pub mod Directives
+pub mod Endings
+pub mod Keywords
+pub mod Prices
+pub mod QueryWords
+pub mod Rules
