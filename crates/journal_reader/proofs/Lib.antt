@@ -1,5 +1,3 @@
-mod After
 mod Digits
-mod Laws
 mod LineEnds
 mod Whole

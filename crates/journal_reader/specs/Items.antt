@@ -16,6 +16,7 @@ use Rattle.entry_reader.specs.Causes.{fault_at, ◌>>=◌}
 use Rattle.entry_reader.specs.Contexts.{Context, context_of}
 use Rattle.entry_reader.specs.Lines.{contents_of}
 use Rattle.entry_reader.specs.Entries.{entry_of}
+use Rattle.directive_reader.specs.Directives.{head_item}
 
 -- the most bytes that an entry or a directive may have
 abbrev pub entry_limit : ℕ
@@ -24,12 +25,12 @@ entry_limit = 65536
 -- what a piece of a kind says, in UTF-8
 abbrev pub said_by : Kind → Context → ℕ → List ℕ → Result Item Fault
 said_by kinds.Gap context line bytes = Ok item.Gap
-said_by kinds.Block context line bytes = Err (fault_at line cause.NotBuilt)
+said_by kinds.Block context line bytes = Ok item.Block
 said_by kinds.Stray context line bytes = Err (fault_at line cause.Form)
 said_by kinds.Entry context line bytes =
     if nat_lt entry_limit (length bytes) then Err (fault_at line cause.TooLong) else entry_of context line (contents_of bytes)
 said_by kinds.Head context line bytes =
-    if nat_lt entry_limit (length bytes) then Err (fault_at line cause.TooLong) else Err (fault_at line cause.NotBuilt)
+    if nat_lt entry_limit (length bytes) then Err (fault_at line cause.TooLong) else head_item context line (contents_of bytes)
 
 -- the line of the first byte that isn't UTF-8
 abbrev pub broken_line : ℕ → List ℕ → ℕ

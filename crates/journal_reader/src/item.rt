@@ -1,5 +1,5 @@
-//! Reads an item: an entry or a gap.
-ghost use Rattle.std.specs.Prelude.{◌≡◌, ◌==◌, ◌+◌, ◌<◌, ◌^◌, true, false, length, OnOk, IfOk, IfErr, IsTrue};
+//! Reads an item.
+ghost use Rattle.std.specs.Prelude.{◌≡◌, ◌==◌, ◌+◌, ◌<◌, ◌^◌, true, false, length, OnOk, IfErr};
 ghost use Rattle.std.specs.List.{count_by};
 ghost use Rattle.std.specs.Str.{is_utf8};
 ghost use Rattle.hl_base.specs.Gives.{Gives};
@@ -7,13 +7,12 @@ ghost use Rattle.hl_base.specs.Lines.{first_line};
 ghost use Rattle.hl_base.specs.Items as items;
 ghost use Rattle.book.specs.declared.fault.Cause.TheVariants.{Encoding};
 ghost use Rattle.entry_reader.specs.declared.fault.ReadFault.TheVariants.{Read};
-ghost use Rattle.entry_reader.specs.After.{says_year_at_most};
 ghost use Rattle.entry_reader.specs.Causes as causes;
 ghost use Rattle.entry_reader.specs.Causes.{cause_in};
-ghost use Rattle.entry_reader.specs.Lines.{contents_of};
 ghost use Rattle.journal_reader.specs.Items as spec;
 
 use book::{Cause, Item};
+use directive_reader::read_head_item;
 use entry_reader::entry::read_entry;
 use entry_reader::fault::fault_at;
 use entry_reader::posting::line_ends;
@@ -67,7 +66,7 @@ fn read_piece(alloc: Global, bytes: &[u8], context: &Context, line: u64) -> Resu
 {
     match kind_at(bytes) {
         Kind::Gap => Ok(Item::Gap),
-        Kind::Block => Err(fault_at(line, Cause::NotBuilt)),
+        Kind::Block => Ok(Item::Block),
         Kind::Stray => Err(fault_at(line, Cause::Form)),
         Kind::Entry => {
             if bytes.len() > ENTRY_LIMIT {
@@ -80,16 +79,16 @@ fn read_piece(alloc: Global, bytes: &[u8], context: &Context, line: u64) -> Resu
             if bytes.len() > ENTRY_LIMIT {
                 Err(fault_at(line, Cause::TooLong))
             } else {
-                Err(fault_at(line, Cause::NotBuilt))
+                read_head_item(alloc, bytes, context, line)
             }
         }
     }
 }
 
 /// What a piece of a text says, by its bytes, of which the first is in the `line`-th line, in the context of the items
-/// before it: a transaction or a gap. Bytes that aren't UTF-8 are refused first, in the line of the first of them; then an
-/// entry or a directive of more than 65,536 bytes, in its first line; then the first place that isn't of its form. Blocks
-/// of comments, directives and assertions aren't built yet.
+/// before it. Bytes that aren't UTF-8 are refused first, in the line of the first of them; then an entry, a directive or
+/// a rule of more than 65,536 bytes, in its first line; then the first place that isn't of its form. Of gaps and blocks
+/// nothing more is asked.
 #[tactic(auto, unfolding(crate::specs::Items::reading))]
 pub fn read_item<L: Ledger>(
     alloc: Global,
@@ -100,7 +99,6 @@ pub fn read_item<L: Ledger>(
 ) -> Result<Item, ReadFault>
     requires { line + length bytes.now < 2 ^ 64 }
     ensures value { Gives (λ item. item) cause_in result (spec.reading context.now line bytes.now) }
-    ensures year { IfOk result (λ item. IsTrue (says_year_at_most item)) }
     ensures steps { steps.new ≡ record steps.old { bytes_read = steps.old.bytes_read + length bytes.now } }
 {
     steps.read_bytes(bytes.len() as u64);

@@ -1,8 +1,7 @@
 //! Reads the items of a text, piece by piece.
-ghost use Rattle.std.specs.Prelude.{◌≡◌, ◌+◌, ◌≤◌, ◌<◌, ◌^◌, [], IfOk, OnOk, length, take, drop};
+ghost use Rattle.std.specs.Prelude.{◌≡◌, ◌+◌, ◌≤◌, ◌<◌, ◌^◌, [], OnOk, length, take, drop};
 ghost use Rattle.hl_base.specs.Gives.{Gives};
 ghost use Rattle.hl_base.specs.Pieces.{bytes_in};
-ghost use Rattle.book.specs.Assertions.{HasNoAssertions};
 ghost use Rattle.entry_reader.specs.Causes.{cause_in};
 ghost use Rattle.journal_reader.specs.Items as spec;
 ghost use Rattle.journal_reader.specs.Whole.{AreWithin};
@@ -34,15 +33,16 @@ pub fn read_items<L: Ledger>(
 ) -> Result<Items, ReadFault>
     requires { AreWithin text.now pieces.now }
     ensures value { Gives (λ items. items) cause_in result (spec.reading_from year [] text.now pieces.now) }
-    ensures plain { IfOk result HasNoAssertions }
     ensures read { OnOk result (steps.new.bytes_read ≡ steps.old.bytes_read + bytes_in pieces.now) }
+    ensures bound { steps.new.bytes_read ≤ steps.old.bytes_read + bytes_in pieces.now }
     ensures others { steps.new ≡ record steps.old { bytes_read = steps.new.bytes_read } }
 {
-    let context = Context::start(year)?;
+    let mut context = Context::start(alloc, year)?;
     let mut items = Vec::with_capacity(alloc, pieces.len())?;
     for piece in pieces {
         let bytes = bytes_of(text, piece);
         let item = read_item(alloc, bytes, &context, piece.line, steps)?;
+        context.after(alloc, &item)?;
         items.push(Placed {
             piece: *piece,
             item,
@@ -62,8 +62,8 @@ pub fn read_journal<L: Ledger>(
 ) -> Result<Items, ReadFault>
     requires { length text.now + 1 < 2 ^ 64 }
     ensures value { Gives (λ items. items) cause_in result (spec.items_in year text.now) }
-    ensures plain { IfOk result HasNoAssertions }
     ensures read { OnOk result (steps.new.bytes_read ≡ steps.old.bytes_read + length text.now) }
+    ensures bound { steps.new.bytes_read ≤ steps.old.bytes_read + length text.now }
     ensures others { steps.new ≡ record steps.old { bytes_read = steps.new.bytes_read } }
 {
     let pieces = cut_items(alloc, text)?;

@@ -1,31 +1,39 @@
-use Rattle.std.proofs.Common.{[], Ok, arith, rules}
+use Rattle.std.proofs.Common.{[], rules, arith}
 use Rattle.std.proofs.lemmas.Grind.{common_steps}
 use Rattle.std.proofs.lemmas.Result.{err_from_is_err_and}
 use Rattle.hl_base.specs.declared.items.Kind.TheVariants.{Gap}
-use Rattle.book.specs.Assertions.{HasNoAssertions}
 use Rattle.journal_reader.specs.Items.{reading_from}
-use Rattle.journal_reader.proofs.Laws.{journal_plain}
-use Rattle.journal_reader.proofs.Whole.{given_ok, all_read, more_at, stops_at}
+use Rattle.journal_reader.proofs.Whole.{all_read, items_at, more_at, stops_at, still_bound}
 use Rattle.journal_reader.proofs.journal.read_items.Goals as goal
-
-pub returns-clause-plain : goal.returns-clause-plain
-returns-clause-plain g c =
-    given_ok HasNoAssertions (Ok c.from_vec.result) (reading_from c.args.year [] c.args.text.now c.args.pieces.now)
-    (all_read c.args.year c.args.text.now c.args.pieces.now c.loop-piece.piece-index c.loop-piece.items.items c.from_vec.result (reading_from c.args.year [] c.args.text.now c.args.pieces.now) c.loop-piece-test.false c.from_vec.ensures c.loop-piece.invariant.so_far)
-    (journal_plain c.args.year [] c.args.text.now c.args.pieces.now)
 
 pub loop-piece-preserved : goal.loop-piece-preserved
 loop-piece-preserved g c =
-    let next = more_at c.args.year c.args.text.now c.bytes_of-bytes.result.now c.in_ok-context.context c.args.pieces.now c.loop-piece.piece-index (record { at = 0; len = 0; line = 0; kind = Gap }) c.loop-piece.items.items c.push.new.self.items c.in_ok-item.item
-    (reading_from c.args.year [] c.args.text.now c.args.pieces.now) c.loop-piece-test.true c.in_ok-context.ensures c.bytes_of-bytes.ensures c.loop-piece.invariant.plain c.in_ok-item.ensures.value c.in_ok-push.ensures.items c.loop-piece.invariant.so_far in
-    record { so_far = next.0; plain = next.1; read = grind (arith, common_steps); others = search rules }
+    let next = more_at c.args.year c.args.text.now c.bytes_of-bytes.result.now c.loop-piece.context c.after.new.self c.args.pieces.now c.loop-piece.piece-index (record { at = 0; len = 0; line = 0; kind = Gap }) c.loop-piece.items.items c.push.new.self.items c.in_ok-item.item
+    (reading_from c.args.year [] c.args.text.now c.args.pieces.now) c.loop-piece-test.true c.loop-piece.invariant.context c.bytes_of-bytes.ensures c.in_ok-item.ensures.value c.in_ok-push.ensures.items
+    (c.in_ok-after.ensures.items c.args.year (items_at c.loop-piece.items.items) c.loop-piece.invariant.context) c.loop-piece.invariant.so_far in
+    record { so_far = next.0; context = next.1; read = grind (arith, common_steps); others = search rules }
 
 pub returns-in_err-item-clause-value : goal.returns-in_err-item-clause-value
 returns-in_err-item-clause-value g c =
     let p = err_from_is_err_and c.from_residual-in_err-item.result c.from_residual-in_err-item.ensures.1 in
     rw (p.1, p.2)
-    (stops_at c.in_err-item.field-0.0 c.args.year c.args.text.now c.bytes_of-bytes.result.now c.in_ok-context.context c.args.pieces.now c.loop-piece.piece-index (record { at = 0; len = 0; line = 0; kind = Gap }) c.loop-piece.items.items
-    (reading_from c.args.year [] c.args.text.now c.args.pieces.now) c.loop-piece-test.true c.in_ok-context.ensures c.bytes_of-bytes.ensures c.loop-piece.invariant.plain c.in_err-item.ensures.value c.loop-piece.invariant.so_far)
+    (stops_at c.in_err-item.field-0.0 c.args.year c.args.text.now c.bytes_of-bytes.result.now c.loop-piece.context c.args.pieces.now c.loop-piece.piece-index (record { at = 0; len = 0; line = 0; kind = Gap }) c.loop-piece.items.items
+    (reading_from c.args.year [] c.args.text.now c.args.pieces.now) c.loop-piece-test.true c.loop-piece.invariant.context c.bytes_of-bytes.ensures c.in_err-item.ensures.value c.loop-piece.invariant.so_far)
+
+pub returns-in_err-item-clause-bound : goal.returns-in_err-item-clause-bound
+returns-in_err-item-clause-bound g c =
+    rw c.in_err-item.ensures.steps
+    (still_bound c.args.pieces.now c.loop-piece.piece-index (record { at = 0; len = 0; line = 0; kind = Gap }) c.args.text.now c.bytes_of-bytes.result.now c.args.steps.now.bytes_read c.loop-piece.steps.bytes_read c.loop-piece-test.true c.bytes_of-bytes.ensures c.loop-piece.invariant.read)
+
+pub returns-in_err-after-clause-bound : goal.returns-in_err-after-clause-bound
+returns-in_err-after-clause-bound g c =
+    rw c.in_ok-item.ensures.steps
+    (still_bound c.args.pieces.now c.loop-piece.piece-index (record { at = 0; len = 0; line = 0; kind = Gap }) c.args.text.now c.bytes_of-bytes.result.now c.args.steps.now.bytes_read c.loop-piece.steps.bytes_read c.loop-piece-test.true c.bytes_of-bytes.ensures c.loop-piece.invariant.read)
+
+pub returns-in_err-push-clause-bound : goal.returns-in_err-push-clause-bound
+returns-in_err-push-clause-bound g c =
+    rw c.in_ok-item.ensures.steps
+    (still_bound c.args.pieces.now c.loop-piece.piece-index (record { at = 0; len = 0; line = 0; kind = Gap }) c.args.text.now c.bytes_of-bytes.result.now c.args.steps.now.bytes_read c.loop-piece.steps.bytes_read c.loop-piece-test.true c.bytes_of-bytes.ensures c.loop-piece.invariant.read)
 
 pub returns-clause-value : goal.returns-clause-value
 returns-clause-value g c =
