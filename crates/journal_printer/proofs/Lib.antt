@@ -1,0 +1,5 @@
+pub mod Named
+pub mod Ordered
+mod Rows
+pub mod Widest
+pub mod Written
