@@ -1,5 +1,6 @@
 pub mod Amounts
 pub mod Columns
+pub mod Entries
 pub mod Journal
 pub mod Layout
 pub mod Order

@@ -4,6 +4,7 @@
 mod amount;
 mod comment;
 pub mod detail;
+mod entry;
 mod fields;
 mod head;
 mod layout;
@@ -12,8 +13,11 @@ mod order;
 mod print;
 pub mod shapes;
 mod shown;
+#[cfg(test)]
+mod tests;
 mod widths;
 
 pub use detail::Detail;
+pub use entry::print_entry;
 pub use print::{print_book, print_txn};
 pub use shapes::Shapes;

@@ -95,7 +95,7 @@ fn push_spaced<S: Shapes>(
 }
 
 /// Puts the lines of a transaction.
-fn push_txn<S: Shapes>(
+pub fn push_txn<S: Shapes>(
     alloc: Global,
     out: &mut Vec<u8>,
     shapes: &S,
