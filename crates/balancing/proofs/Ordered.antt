@@ -10,7 +10,7 @@ use Rattle.std.proofs.lemmas.Bool.{false≢true}
 use Rattle.std.proofs.lemmas.Cmp.{tied_itself}
 use Rattle.book.specs.Order.{each_once}
 use Rattle.balancing.specs.Groups.{Group, group_cmp, is_rising, rises_from}
-use Rattle.balancing.proofs.Named.{left_true, right_true}
+use Rattle.entry_balance.proofs.Named.{left_true, right_true}
 
 less : (o : Ordering) → is_lt o ≡ true → o ≡ Less
 less Less h = refl

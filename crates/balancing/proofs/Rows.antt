@@ -12,7 +12,7 @@ use Rattle.book.specs.declared.fault.Fault.{Fault}
 use Rattle.book.specs.declared.fault.Cause.TheVariants as cause
 use Rattle.book.specs.declared.item.Book.{Book}
 use Rattle.book.specs.Postings.{plain_posting}
-use Rattle.balancing.specs.Entry.{plain_amount, solved, cause_alone}
+use Rattle.entry_balance.specs.Entry.{plain_amount, solved, cause_alone}
 use Rattle.balancing.specs.Load.{book_of}
 
 abbrev amount : ℤ → ℕ → List ℕ → Amount

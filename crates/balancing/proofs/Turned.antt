@@ -20,13 +20,14 @@ use Rattle.book.specs.Postings.{postings_of}
 use Rattle.book.specs.Sums.{share}
 use Rattle.book.specs.Bounds.{turnover, places_in, places_of, TurnoverFits}
 use Rattle.book.proofs.Order.{contains-each_once, is_equal}
-use Rattle.balancing.specs.Values.{Value, value_of, absolute, cost_values}
-use Rattle.balancing.specs.Tally.{numbers_of, no_sum, turnover_fits}
-use Rattle.balancing.specs.Entry.{from_amount, plain_amount, found_posting, found_values, costed_posting, recorded_cost, is_real_of, solved_posting, solved, moved_by, moved}
+use Rattle.entry_balance.specs.Values.{Value, value_of, absolute, cost_values}
+use Rattle.entry_balance.specs.Tally.{numbers_of, no_sum, turnover_fits}
+use Rattle.entry_balance.specs.Entry.{from_amount, plain_amount, found_posting, found_values, costed_posting, recorded_cost, is_real_of, solved_posting, solved, moved_by, moved}
 use Rattle.balancing.specs.Groups.{Group, group_cmp, groups_by, groups_from, groups_of, day_of}
-use Rattle.balancing.specs.Load.{settled, moved_when, moved_on, moved_of_group}
+use Rattle.balancing.specs.Load.{moved_when, moved_on, moved_of_group}
+use Rattle.entry_balance.specs.Entry.{settled}
 use Rattle.balancing.specs.Walk.{moved_before}
-use Rattle.balancing.proofs.Turnover.{AllAtMost, magnitude, exact-abs, sum_places-all, places_within, total_within}
+use Rattle.entry_balance.proofs.Turnover.{AllAtMost, magnitude, exact-abs, sum_places-all, places_within, total_within}
 use Rattle.balancing.proofs.Whole.{group_ties, has_group, has-left, has-right, has-first}
 
 -- ---- tests of numbers

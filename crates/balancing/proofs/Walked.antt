@@ -1,6 +1,7 @@
 -- The walk over groups, by transactions as they are written.
-use Rattle.std.proofs.Common.{◌≡◌, ℕ, zero, suc, ◌+◌, ◌<◌, ◌≤◌, Bool, true, false, List, [], ◌∷◌, ◌++◌, length, get_or, drop, Option, Some, None, is_some, refl, sym, ap, ◌∙◌, subst, arith, drop-cons, add-one}
-use Rattle.std.specs.List.{slice_get, AllByRecursion}
+use Rattle.std.proofs.Common.{◌≡◌, ℕ, zero, suc, ◌+◌, ◌==◌, ◌<◌, ◌≤◌, Bool, true, false, cond, filter, List, [], ◌∷◌, ◌++◌, length, get_or, drop, Option, Some, None, is_some, refl, sym, ap, ◌∙◌, subst, arith, drop-cons, add-one}
+use Rattle.std.specs.List.{slice_get, flat_map, AllByRecursion}
+use Rattle.std.proofs.lemmas.Grind.{flat_map-append}
 use Rattle.std.proofs.lemmas.Bool.{false≢true}
 use Rattle.std.proofs.lemmas.List.{append_assoc, append-nil}
 use Rattle.book.specs.declared.fault.Cause.{Cause}
@@ -9,17 +10,21 @@ use Rattle.book.specs.declared.fault.Fault.{Fault}
 use Rattle.book.specs.declared.transaction.Posting.{Posting}
 use Rattle.book.specs.declared.transaction.Txn.{Txn}
 use Rattle.book.specs.Order.{each_once}
-use Rattle.balancing.specs.Values.{Value}
-use Rattle.balancing.specs.Tally.{turnover_fits}
-use Rattle.balancing.specs.Turnover.{IsTurnover}
-use Rattle.balancing.specs.Entry.{cause_alone, has_two_missing, costs_fit}
-use Rattle.balancing.specs.Groups.{Group, group_cmp, groups_by, groups_from}
-use Rattle.balancing.specs.Load.{settled, moved_on, moved_of_group, group_cause, fault_at, fault_of_group, first_fault, or_else_fault}
-use Rattle.balancing.specs.Settled.{lacks_sums, IsSettled, AreSettled}
-use Rattle.balancing.specs.Walk.{IsRead, IsJudged, IsVisited, IsWalked, IsTold, moved_before}
-use Rattle.balancing.proofs.Adding.{turnover_none, turnover_within}
-use Rattle.balancing.proofs.Causes.{cause_two, cause_costs}
-use Rattle.balancing.proofs.Covers.{solved_costs_fit}
+use Rattle.entry_balance.specs.Values.{Value}
+use Rattle.entry_balance.specs.Tally.{turnover_fits}
+use Rattle.entry_balance.specs.Turnover.{IsTurnover}
+use Rattle.entry_balance.specs.Entry.{cause_alone, has_two_missing, costs_fit, moved_by, moved}
+use Rattle.balancing.specs.Groups.{Group, group_cmp, groups_by, groups_from, day_of}
+use Rattle.balancing.specs.Assertions.{or_else_fault, first_failure, postings_on}
+use Rattle.balancing.specs.Claims.{AreClaimed}
+use Rattle.balancing.specs.Kept.{Keeping, IsBalance}
+use Rattle.balancing.specs.Load.{moved_when, moved_on, moved_of_group, postings_of_group, group_cause, fault_at, fault_of_group, first_fault}
+use Rattle.entry_balance.specs.Entry.{settled}
+use Rattle.entry_balance.specs.Settled.{lacks_sums, IsSettled, AreSettled}
+use Rattle.balancing.specs.Walk.{IsRead, IsJudged, IsVisited, IsPassed, IsWalked, IsTold, moved_before, answer_of_group, group_in}
+use Rattle.entry_balance.proofs.Adding.{turnover_none, turnover_within}
+use Rattle.entry_balance.proofs.Causes.{cause_two, cause_costs}
+use Rattle.entry_balance.proofs.Covers.{solved_costs_fit}
 
 -- ---- settled transactions by their numbers
 
@@ -91,7 +96,7 @@ module _ (w t : Txn) (c : Option Cause) (h : IsSettled w t c) (before : List Val
   judged-same true lacks = lacks_alike c _ _ lacks
   judged-same false sums = ap (λ (x : Txn). group_cause (turnover_fits (before ++ moved_on day x)) c) (h.sums (ap lacks_sums (sym h.cause) ∙ sums))
 
-  sums-there : (line : ℕ) (a b : Bool) → lacks_sums c ≡ b → fault_at line (group_cause a c) ≡ None → t ≡ settled w
+  pub sums-there : (line : ℕ) (a b : Bool) → lacks_sums c ≡ b → fault_at line (group_cause a c) ≡ None → t ≡ settled w
   sums-there line a true lacks none = absurd (lacks_told line c a lacks none)
   sums-there line a false sums none = h.sums (ap lacks_sums (sym h.cause) ∙ sums)
 
@@ -113,37 +118,102 @@ visited_none written before g sums h turnover =
       more = λ e. subst (λ (vs : List Value). IsTurnover vs sums) (sym (append-nil before) ∙ ap (λ (o : Option Txn). before ++ moved_of_group g.0 o) (sym none)) turnover;
     }
 
+-- ---- the postings of groups
+
+pub moved_filter : (day : ℕ) (t : Txn) (ps : List Posting) → flat_map (moved_when day t) ps ≡ moved (filter (λ p. day_of t p == day) ps)
+moved_filter day t [] = refl
+moved_filter day t (p ∷ ps) =
+    elim (day_of t p == day) as (λ b. cond b (moved_by p) [] ++ flat_map (moved_when day t) ps ≡ moved (cond b (p ∷ filter (λ p. day_of t p == day) ps) (filter (λ p. day_of t p == day) ps))) [
+      | true ↦ ap (λ (vs : List Value). moved_by p ++ vs) (moved_filter day t ps)
+      | false ↦ moved_filter day t ps
+    ]
+
+pub moved_postings : (day : ℕ) (o : Option Txn) → moved_of_group day o ≡ moved (postings_of_group day o)
+moved_postings day None = refl
+moved_postings day (Some t) = moved_filter day (settled t) (settled t).postings
+
+-- the group of a settled transaction without a fault
+pub same_group_postings : (ws ts : List Txn) (cs : List (Option Cause)) (before : List Value) (day n : ℕ) → AreSettled ws ts cs → None ≡ fault_of_group before day (slice_get ws n) → group_in day (slice_get ts n) ≡ postings_of_group day (slice_get ws n)
+same_group_postings [] [] [] before day n h none = refl
+same_group_postings [] [] (c ∷ cs) before day n h none = absurd h
+same_group_postings [] (t ∷ ts) cs before day n h none = absurd h
+same_group_postings (w ∷ ws) [] cs before day n h none = absurd h
+same_group_postings (w ∷ ws) (t ∷ ts) [] before day n h none = absurd h
+same_group_postings (w ∷ ws) (t ∷ ts) (c ∷ cs) before day zero h none =
+    let fits = turnover_fits (before ++ moved_on day (settled w)) in
+    ap (postings_on day) (sums-there w t c h.0 before day w.line fits (lacks_sums c) refl (ap (λ (x : Option Cause). fault_at w.line (group_cause fits x)) h.0.cause ∙ sym none))
+same_group_postings (w ∷ ws) (t ∷ ts) (c ∷ cs) before day (suc n) h none = same_group_postings ws ts cs before day n h.1 none
+
+pub passed_fault : (written : List Txn) (before : List Value) (seen : List Posting) (g : Group) (sums : List Value) (own below : Keeping) (fault : Option Fault) → is_some fault ≡ true → IsVisited written before g sums fault → IsPassed written before seen g sums own below fault
+passed_fault written before seen g sums own below None some v = absurd (false≢true some)
+passed_fault written before seen g sums own below (Some f) some v = record {
+  is = ap (λ (o : Option Fault). or_else_fault o (first_failure seen (postings_of_group g.0 (slice_get written g.1)))) v.is;
+  more = λ none. absurd (let never : ⊥ = cc in never);
+  kept = λ none. absurd (let never : ⊥ = cc in never);
+}
+
+module _ (ws ts : List Txn) (cs : List (Option Cause)) (settled_all : AreSettled ws ts cs) (before : List Value) (seen : List Posting) (moves : before ≡ moved seen) (g : Group) (sums : List Value) (v : IsVisited ws before g sums None) where
+  same_here : group_in g.0 (slice_get ts g.1) ≡ postings_of_group g.0 (slice_get ws g.1)
+  same_here = same_group_postings ws ts cs before g.0 g.1 settled_all v.is
+
+  -- what the group moves fits
+  pub fits_here : turnover_fits (moved (seen ++ group_in g.0 (slice_get ts g.1))) ≡ true
+  fits_here =
+      ap turnover_fits (ap (λ (ps : List Posting). moved (seen ++ ps)) same_here ∙ flat_map-append moved_by seen (postings_of_group g.0 (slice_get ws g.1))
+      ∙ sym (λ i. moves i ++ moved_postings g.0 (slice_get ws g.1) i))
+      ∙ turnover_within _ sums (v.more refl)
+
+  pub passed_claims : (own below : Keeping) (fault : Option Fault) → AreClaimed seen (group_in g.0 (slice_get ts g.1)) own below fault → IsPassed ws before seen g sums own below fault
+  passed_claims own below fault a = record {
+    is = a.is ∙ ap (first_failure seen) same_here ∙ ap (λ (o : Option Fault). or_else_fault o (first_failure seen (postings_of_group g.0 (slice_get ws g.1)))) v.is;
+    more = λ none. v.more refl;
+    kept = λ none. subst (λ (ps : List Posting). IsBalance (seen ++ ps) own below) same_here (a.kept none);
+  }
+
 -- ---- one group after another
 
-pub walk_none : (written : List Txn) (groups : List Group) → IsWalked written groups groups [] []
-walk_none written groups = record { rest = refl; all = refl; turnover = turnover_none }
+pub walk_none : (written : List Txn) (groups : List Group) (own below : Keeping) → IsBalance [] own below → IsWalked written groups groups [] [] [] own below
+walk_none written groups own below h = record { rest = refl; all = refl; moves = refl; turnover = turnover_none; balance = h }
 
-module _ (written : List Txn) (groups : List Group) (before sums : List Value) (i : ℕ) (g : Group) (within : i < length groups) (is : g ≡ get_or groups i g)
-    (walked : IsWalked written groups (drop i groups) before sums) where
+or_else_both : (a b c : Option Fault) → or_else_fault a (or_else_fault b c) ≡ or_else_fault (or_else_fault a b) c
+or_else_both None b c = refl
+or_else_both (Some f) b c = refl
+
+module _ (written : List Txn) (groups : List Group) (before : List Value) (seen : List Posting) (sums : List Value) (own below : Keeping) (i : ℕ) (g : Group) (within : i < length groups) (is : g ≡ get_or groups i g)
+    (walked : IsWalked written groups (drop i groups) before seen sums own below) where
   left_here : drop i groups ≡ g ∷ drop (i + 1) groups
   left_here = let cut : drop i groups ≡ get_or groups i g ∷ drop (i + 1) groups = rw (add-one, drop-cons groups i g) refl in cut ∙ ap (λ (x : Group). x ∷ drop (i + 1) groups) (sym is)
 
   abbrev next : List Value
   next = before ++ moved_of_group g.0 (slice_get written g.1)
 
-  pub walk_more : (new : List Value) (fault : Option Fault) → IsVisited written before g new fault → fault ≡ None → IsWalked written groups (drop (i + 1) groups) next new
-  walk_more new fault v none = record {
-    rest = walked.rest ∙ ap (first_fault written before) left_here ∙ ap (λ (f : Option Fault). or_else_fault f (first_fault written next (drop (i + 1) groups))) (sym v.is ∙ none);
+  abbrev next_seen : List Posting
+  next_seen = seen ++ postings_of_group g.0 (slice_get written g.1)
+
+  rest_here : first_fault written [] [] groups ≡ or_else_fault (answer_of_group written before seen g) (first_fault written next next_seen (drop (i + 1) groups))
+  rest_here = walked.rest ∙ ap (first_fault written before seen) left_here ∙ or_else_both (fault_of_group before g.0 (slice_get written g.1)) (first_failure seen (postings_of_group g.0 (slice_get written g.1))) (first_fault written next next_seen (drop (i + 1) groups))
+
+  pub walk_more : (new : List Value) (own' below' : Keeping) (fault : Option Fault) → IsPassed written before seen g new own' below' fault → fault ≡ None → IsWalked written groups (drop (i + 1) groups) next next_seen new own' below'
+  walk_more new own' below' fault v none = record {
+    rest = rest_here ∙ ap (λ (f : Option Fault). or_else_fault f (first_fault written next next_seen (drop (i + 1) groups))) (sym v.is ∙ none);
     all = walked.all ∙ ap (moved_before written before) left_here;
+    moves = ap (λ (vs : List Value). vs ++ moved_of_group g.0 (slice_get written g.1)) walked.moves ∙ ap (λ (vs : List Value). moved seen ++ vs) (moved_postings g.0 (slice_get written g.1))
+        ∙ sym (flat_map-append moved_by seen (postings_of_group g.0 (slice_get written g.1)));
     turnover = v.more none;
+    balance = v.kept none;
   }
 
-  pub walk_stop : (new : List Value) (fault : Option Fault) → IsVisited written before g new fault → is_some fault ≡ true → IsTold written groups fault
-  walk_stop new None v some = absurd (false≢true some)
-  walk_stop new (Some f) v some = record {
-    is = sym (walked.rest ∙ ap (first_fault written before) left_here ∙ ap (λ (f : Option Fault). or_else_fault f (first_fault written next (drop (i + 1) groups))) (sym v.is));
+  pub walk_stop : (new : List Value) (own' below' : Keeping) (fault : Option Fault) → IsPassed written before seen g new own' below' fault → is_some fault ≡ true → IsTold written groups fault
+  walk_stop new own' below' None v some = absurd (false≢true some)
+  walk_stop new own' below' (Some f) v some = record {
+    is = sym (rest_here ∙ ap (λ (f : Option Fault). or_else_fault f (first_fault written next next_seen (drop (i + 1) groups))) (sym v.is));
     within = λ none. absurd (let never : ⊥ = cc in never);
     few = λ none. absurd (let never : ⊥ = cc in never);
   }
 
-pub walk_end : (written : List Txn) (groups left : List Group) (before sums : List Value) → left ≡ [] → IsWalked written groups left before sums → IsTold written groups None
-walk_end written groups left before sums empty walked = record {
-  is = sym (walked.rest ∙ ap (first_fault written before) empty);
+pub walk_end : (written : List Txn) (groups left : List Group) (before : List Value) (seen : List Posting) (sums : List Value) (own below : Keeping) → left ≡ [] → IsWalked written groups left before seen sums own below → IsTold written groups None
+walk_end written groups left before seen sums own below empty walked = record {
+  is = sym (walked.rest ∙ ap (first_fault written before seen) empty);
   within = λ none. ap turnover_fits (walked.all ∙ ap (moved_before written before) empty) ∙ turnover_within before sums walked.turnover;
   few = λ none. subst (AllByRecursion (λ v. v.1.places ≤ 36)) (sym (walked.all ∙ ap (moved_before written before) empty)) walked.turnover.few;
 }

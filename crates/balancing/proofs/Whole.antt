@@ -12,12 +12,14 @@ use Rattle.book.specs.declared.transaction.Posting.{Posting}
 use Rattle.book.specs.declared.transaction.Txn.{Txn}
 use Rattle.book.specs.Order.{each_once}
 use Rattle.book.proofs.Order.{contains-each_once, is_equal}
-use Rattle.balancing.specs.Values.{Value}
-use Rattle.balancing.specs.Tally.{turnover_fits}
-use Rattle.balancing.specs.Entry.{cause_alone}
+use Rattle.entry_balance.specs.Values.{Value}
+use Rattle.entry_balance.specs.Tally.{turnover_fits}
+use Rattle.entry_balance.specs.Entry.{cause_alone}
 use Rattle.balancing.specs.Groups.{Group, group_cmp, groups_by, groups_from, groups_of, day_of}
-use Rattle.balancing.specs.Load.{settled, moved_on, moved_of_group, group_cause, fault_at, fault_of_group, first_fault, or_else_fault, loaded, book_of}
-use Rattle.balancing.specs.Settled.{lacks_sums, AreSettled}
+use Rattle.balancing.specs.Load.{moved_on, moved_of_group, postings_of_group, group_cause, fault_at, fault_of_group, first_fault, loaded, book_of}
+use Rattle.balancing.specs.Assertions.{or_else_fault, first_failure}
+use Rattle.entry_balance.specs.Entry.{settled}
+use Rattle.entry_balance.specs.Settled.{lacks_sums, AreSettled}
 use Rattle.std.proofs.lemmas.List.{append-nil}
 use Rattle.balancing.specs.Walk.{IsRead, IsTold}
 use Rattle.balancing.proofs.Ordered.{same_group}
@@ -70,13 +72,13 @@ none_of None b h = (refl, h)
 none_of (Some f) b h = absurd (let never : ⊥ = cc in never)
 
 -- where no group has a fault, this one has none
-no_fault_of : (written : List Txn) (before : List Value) (gs : List Group) (g : Group) → first_fault written before gs ≡ None → has_group g gs ≡ true → (others : List Value) × (fault_of_group others g.0 (slice_get written g.1) ≡ None)
-no_fault_of written before [] g h has = absurd (false≢true has)
-no_fault_of written before (x ∷ gs) g h has =
+no_fault_of : (written : List Txn) (before : List Value) (seen : List Posting) (gs : List Group) (g : Group) → first_fault written before seen gs ≡ None → has_group g gs ≡ true → (others : List Value) × (fault_of_group others g.0 (slice_get written g.1) ≡ None)
+no_fault_of written before seen [] g h has = absurd (false≢true has)
+no_fault_of written before seen (x ∷ gs) g h has =
     let parts = none_of (fault_of_group before x.0 (slice_get written x.1)) _ h in
     elim (eq_by_cmp group_cmp g x) as (λ b. eq_by_cmp group_cmp g x ≡ b → (b || has_group g gs) ≡ true → (others : List Value) × (fault_of_group others g.0 (slice_get written g.1) ≡ None)) [
       | true ↦ λ e _. (before, subst (λ (y : Group). fault_of_group before y.0 (slice_get written y.1) ≡ None) (sym (group_ties g x (is_equal _ e))) parts.0)
-      | false ↦ λ e rest. no_fault_of written (before ++ moved_of_group x.0 (slice_get written x.1)) gs g parts.1 rest
+      | false ↦ λ e rest. no_fault_of written (before ++ moved_of_group x.0 (slice_get written x.1)) (seen ++ postings_of_group x.0 (slice_get written x.1)) gs g (none_of (first_failure seen (postings_of_group x.0 (slice_get written x.1))) _ parts.1).1 rest
     ] refl has
 
 has_sums : (c : Option Cause) (line : ℕ) (a b : Bool) → lacks_sums c ≡ b → fault_at line (group_cause a c) ≡ None → b ≡ false
@@ -84,11 +86,11 @@ has_sums c line a true e none = absurd (lacks_told line c a e none)
 has_sums c line a false e none = refl
 
 -- each transaction of a text without a fault has sums
-each_has_sums : (written : List Txn) → first_fault written [] (groups_of written) ≡ None → (k : ℕ) (w : Txn) → slice_get written k ≡ Some w → lacks_sums (cause_alone w.postings) ≡ false
+each_has_sums : (written : List Txn) → first_fault written [] [] (groups_of written) ≡ None → (k : ℕ) (w : Txn) → slice_get written k ≡ Some w → lacks_sums (cause_alone w.postings) ≡ false
 each_has_sums written h k w at =
     let group = group_at 0 written k w at in
     let there : has_group (group.0, 0 + k) (groups_of written) ≡ true = contains-each_once group_ties (groups_from 0 written) (group.0, 0 + k) ∙ group.1 in
-    let none = no_fault_of written [] (groups_of written) (group.0, 0 + k) h there in
+    let none = no_fault_of written [] [] (groups_of written) (group.0, 0 + k) h there in
     let number : 0 + k ≡ k = omega arith in
     let told : fault_of_group none.0 group.0 (Some w) ≡ None = ap (fault_of_group none.0 group.0) (sym (ap (slice_get written) number ∙ at)) ∙ none.1 in
     has_sums (cause_alone w.postings) w.line (turnover_fits (none.0 ++ moved_on group.0 (settled w))) _ refl told
@@ -105,13 +107,13 @@ all_settled (w ∷ ws) (t ∷ ts) (c ∷ cs) h sums =
     λ i. first i ∷ rest i
 
 -- the book of a text without a fault
-pub whole_book : (written ts : List Txn) (cs : List (Option Cause)) → AreSettled written ts cs → None ≡ first_fault written [] (groups_of written) → ts ≡ map settled written
+pub whole_book : (written ts : List Txn) (cs : List (Option Cause)) → AreSettled written ts cs → None ≡ first_fault written [] [] (groups_of written) → ts ≡ map settled written
 whole_book written ts cs h none = all_settled written ts cs h (each_has_sums written (sym none))
 
-pub book_ok : (written ts : List Txn) (cs : List (Option Cause)) → AreSettled written ts cs → None ≡ first_fault written [] (groups_of written) → book_of written ≡ Ok (record { txns = ts })
+pub book_ok : (written ts : List Txn) (cs : List (Option Cause)) → AreSettled written ts cs → None ≡ first_fault written [] [] (groups_of written) → book_of written ≡ Ok (record { txns = ts })
 book_ok written ts cs h none = ap (loaded written) (sym none) ∙ ap (λ (xs : List Txn). Ok (record { txns = xs })) (sym (whole_book written ts cs h none))
 
-pub book_fault : (written : List Txn) (fault : Fault) → Some fault ≡ first_fault written [] (groups_of written) → book_of written ≡ Err fault
+pub book_fault : (written : List Txn) (fault : Fault) → Some fault ≡ first_fault written [] [] (groups_of written) → book_of written ≡ Err fault
 book_fault written fault is = ap (loaded written) (sym is)
 
 -- what the walk over the groups of a text told

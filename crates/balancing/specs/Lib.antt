@@ -1,10 +1,7 @@
+pub mod Assertions
 pub mod Check
-pub mod Entry
-pub mod Fill
+pub mod Claims
 pub mod Groups
+pub mod Kept
 pub mod Load
-pub mod Settled
-pub mod Tally
-pub mod Turnover
-pub mod Values
 pub mod Walk

@@ -9,14 +9,11 @@ use Rattle.book.specs.declared.fault.Fault.{Fault}
 use Rattle.book.specs.declared.fault.Cause.{Cause}
 use Rattle.book.specs.declared.fault.Cause.TheVariants as cause
 use Rattle.book.specs.Postings.{txns_of}
-use Rattle.balancing.specs.Values.{Value}
-use Rattle.balancing.specs.Tally.{turnover_fits}
-use Rattle.balancing.specs.Entry.{solved, moved_by, cause_alone, with_postings}
+use Rattle.entry_balance.specs.Values.{Value}
+use Rattle.entry_balance.specs.Tally.{turnover_fits}
+use Rattle.entry_balance.specs.Entry.{settled, moved_by, cause_alone}
+use Rattle.balancing.specs.Assertions.{postings_on, first_failure, or_else_fault}
 use Rattle.balancing.specs.Groups.{Group, groups_of, day_of}
-
--- a transaction with what balancing finds
-abbrev pub settled : Txn → Txn
-settled t = with_postings t (solved t.postings)
 
 -- what a posting moves, if it is of that day
 abbrev pub moved_when : ℕ → Txn → Posting → List Value
@@ -41,10 +38,6 @@ fault_at line (Some fault) = Some (record { line = line; cause = fault })
 abbrev pub group_fault : List Value → ℕ → Txn → Option Fault
 group_fault before day t = fault_at t.line (group_cause (turnover_fits (before ++ moved_on day (settled t))) (cause_alone t.postings))
 
-abbrev pub or_else_fault : Option Fault → Option Fault → Option Fault
-or_else_fault None later = later
-or_else_fault (Some fault) later = Some fault
-
 abbrev pub fault_of_group : List Value → ℕ → Option Txn → Option Fault
 fault_of_group before day None = None
 fault_of_group before day (Some t) = group_fault before day t
@@ -53,12 +46,19 @@ abbrev pub moved_of_group : ℕ → Option Txn → List Value
 moved_of_group day None = []
 moved_of_group day (Some t) = moved_on day (settled t)
 
--- the fault of the first group that has one, after others that moved so much
-abbrev pub first_fault : List Txn → List Value → List Group → Option Fault
-first_fault txns before [] = None
-first_fault txns before (g ∷ gs) =
+abbrev pub postings_of_group : ℕ → Option Txn → List Posting
+postings_of_group day None = []
+postings_of_group day (Some t) = postings_on day (settled t)
+
+-- the fault of the first group that has one, after others that have these postings and moved so much. Assertions come
+-- last in a group
+abbrev pub first_fault : List Txn → List Value → List Posting → List Group → Option Fault
+first_fault txns before seen [] = None
+first_fault txns before seen (g ∷ gs) =
+    let moved = moved_of_group g.0 (slice_get txns g.1) in
+    let postings = postings_of_group g.0 (slice_get txns g.1) in
     or_else_fault (fault_of_group before g.0 (slice_get txns g.1))
-    (first_fault txns (before ++ moved_of_group g.0 (slice_get txns g.1)) gs)
+    (or_else_fault (first_failure seen postings) (first_fault txns (before ++ moved) (seen ++ postings) gs))
 
 abbrev pub loaded : List Txn → Option Fault → Result Book Fault
 loaded txns None = Ok (record { txns = map settled txns })
@@ -66,7 +66,7 @@ loaded txns (Some fault) = Err fault
 
 -- the book of some transactions, or their fault
 abbrev pub book_of : List Txn → Result Book Fault
-book_of txns = loaded txns (first_fault txns [] (groups_of txns))
+book_of txns = loaded txns (first_fault txns [] [] (groups_of txns))
 
 -- the book of the items of a text: its transactions in their order, with what balancing found; or the fault of the
 -- first group, by day and then by transaction, that has one

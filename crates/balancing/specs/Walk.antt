@@ -1,16 +1,20 @@
 -- What is known while groups are judged one after another.
-use Rattle.std.specs.Prelude.{◌≡◌, ◌≤◌, ℕ, true, List, [], ◌∷◌, ◌++◌, Option, None}
+use Rattle.std.specs.Prelude.{◌≡◌, ◌≤◌, ℕ, true, List, [], ◌∷◌, ◌++◌, Option, Some, None}
 use Rattle.std.specs.List.{slice_get, AllByRecursion}
 use Rattle.book.specs.declared.fault.Cause.{Cause}
 use Rattle.book.specs.declared.fault.Fault.{Fault}
 use Rattle.book.specs.declared.transaction.Txn.{Txn}
 use Rattle.book.specs.Order.{each_once}
-use Rattle.balancing.specs.Values.{Value}
-use Rattle.balancing.specs.Tally.{turnover_fits}
-use Rattle.balancing.specs.Turnover.{IsTurnover}
+use Rattle.entry_balance.specs.Values.{Value}
+use Rattle.entry_balance.specs.Tally.{turnover_fits}
+use Rattle.entry_balance.specs.Turnover.{IsTurnover}
 use Rattle.balancing.specs.Groups.{Group, groups_from, group_cmp}
-use Rattle.balancing.specs.Load.{moved_on, moved_of_group, group_cause, fault_at, fault_of_group, first_fault}
-use Rattle.balancing.specs.Settled.{AreSettled}
+use Rattle.book.specs.declared.transaction.Posting.{Posting}
+use Rattle.entry_balance.specs.Entry.{moved}
+use Rattle.balancing.specs.Assertions.{first_failure, postings_on, or_else_fault}
+use Rattle.balancing.specs.Kept.{Keeping, IsBalance}
+use Rattle.balancing.specs.Load.{moved_on, moved_of_group, postings_of_group, group_cause, fault_at, fault_of_group, first_fault}
+use Rattle.entry_balance.specs.Settled.{AreSettled}
 
 -- The transactions that were read are settled, and their groups were noted.
 pub record IsRead (written txns : List Txn) (causes : List (Option Cause)) (noted : List Group) : Type 0 where
@@ -32,14 +36,33 @@ abbrev pub moved_before : List Txn → List Value → List Group → List Value
 moved_before written before [] = before
 moved_before written before (g ∷ gs) = moved_before written (before ++ moved_of_group g.0 (slice_get written g.1)) gs
 
--- What is known after some groups without a fault: the first fault is one of the others, and the turnover is theirs.
-pub record IsWalked (written : List Txn) (groups left : List Group) (before : List Value) (sums : List Value) : Type 0 where
-  pub rest : first_fault written [] groups ≡ first_fault written before left
+-- the postings of a group of transactions that are settled
+abbrev pub group_in : ℕ → Option Txn → List Posting
+group_in day None = []
+group_in day (Some t) = postings_on day t
+
+-- What a group answers after others: its own fault, or that of its first assertion which fails.
+abbrev pub answer_of_group : List Txn → List Value → List Posting → Group → Option Fault
+answer_of_group written before seen g =
+    or_else_fault (fault_of_group before g.0 (slice_get written g.1)) (first_failure seen (postings_of_group g.0 (slice_get written g.1)))
+
+-- The answer of a group; without a fault it was added to the turnover and to the balances.
+pub record IsPassed (written : List Txn) (before : List Value) (seen : List Posting) (g : Group) (sums : List Value) (own below : Keeping) (fault : Option Fault) : Type 0 where
+  pub is : fault ≡ answer_of_group written before seen g
+  pub more : fault ≡ None → IsTurnover (before ++ moved_of_group g.0 (slice_get written g.1)) sums
+  pub kept : fault ≡ None → IsBalance (seen ++ postings_of_group g.0 (slice_get written g.1)) own below
+
+-- What is known after some groups without a fault: the first fault is one of the others, and the turnover and the
+-- balances are theirs.
+pub record IsWalked (written : List Txn) (groups left : List Group) (before : List Value) (seen : List Posting) (sums : List Value) (own below : Keeping) : Type 0 where
+  pub rest : first_fault written [] [] groups ≡ first_fault written before seen left
   pub all : moved_before written [] groups ≡ moved_before written before left
+  pub moves : before ≡ moved seen
   pub turnover : IsTurnover before sums
+  pub balance : IsBalance seen own below
 
 -- The fault of the first group that has one; without a fault all that is moved is within the bound.
 pub record IsTold (written : List Txn) (groups : List Group) (fault : Option Fault) : Type 0 where
-  pub is : fault ≡ first_fault written [] groups
+  pub is : fault ≡ first_fault written [] [] groups
   pub within : fault ≡ None → turnover_fits (moved_before written [] groups) ≡ true
   pub few : fault ≡ None → AllByRecursion (λ v. v.1.places ≤ 36) (moved_before written [] groups)

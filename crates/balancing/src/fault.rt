@@ -1,27 +1,9 @@
-//! Why a transaction has no balance, and a text no book.
+//! Why a text has no book.
 ghost use Rattle.std.specs.Prelude.{◌≡◌};
 
-use book::{Cause, Fault};
+use book::Fault;
 use hl_base::Memory;
 use std::alloc::AllocFailed;
-
-/// Why a transaction has no balance: two missing amounts, sums that aren't zero, or numbers out of range; or want of
-/// memory.
-#[derive(Debug, Drop)]
-pub enum BalanceFault {
-    Cause(Cause),
-    Memory,
-}
-
-impl From<Memory> for BalanceFault {
-    ghost use Rattle.balancing.specs.declared.fault.BalanceFault.TheVariants as balance_fault;
-
-    ghost from_gives = { λ _ e. e ≡ balance_fault.Memory };
-
-    fn from(_memory: Memory) -> BalanceFault {
-        BalanceFault::Memory
-    }
-}
 
 /// Why a text makes no book: a fault that it has, or want of memory.
 #[derive(Debug, Drop)]

@@ -1,19 +1,17 @@
 //! The fault of one group.
 ghost use Rattle.std.specs.Prelude.{◌≡◌, ◌++◌, List, true, false, None, OnOk, IfOk, IfErr};
 ghost use Rattle.book.specs.declared.transaction.Txn.{Txn};
-ghost use Rattle.balancing.specs.Entry.{costs_fit, amount_cost_fits};
+ghost use Rattle.entry_balance.specs.Entry.{costs_fit, amount_cost_fits};
 ghost use Rattle.balancing.specs.Load.{moved_on, moved_when, fault_at};
-ghost use Rattle.balancing.specs.Settled.{lacks_sums};
-ghost use Rattle.balancing.specs.Tally.{turnover_fits, IsRange};
-ghost use Rattle.balancing.specs.Turnover.{IsTurnover};
-ghost use Rattle.balancing.specs.Values.{Value};
+ghost use Rattle.entry_balance.specs.Settled.{lacks_sums};
+ghost use Rattle.entry_balance.specs.Tally.{turnover_fits, IsRange};
+ghost use Rattle.entry_balance.specs.Turnover.{IsTurnover};
+ghost use Rattle.entry_balance.specs.Values.{Value};
 ghost use Rattle.balancing.specs.Walk.{IsJudged};
 
 use crate::groups::day_of;
-use crate::sums::add_moved;
-use crate::tally::{Tally, TallyFault};
-use crate::value::costs_fit;
 use book::{Amount, Boxed, Cause, Fault, Posting, Txn};
+use entry_balance::{Tally, TallyFault, add_moved, costs_fit};
 use hl_base::{Memory, Text};
 use std::alloc::Global;
 
@@ -105,7 +103,7 @@ fn add_when<'a>(
     }
 }
 
-fn copied_amount(alloc: Global, amount: &Amount) -> Result<Amount, Memory>
+pub(crate) fn copied_amount(alloc: Global, amount: &Amount) -> Result<Amount, Memory>
     ensures { IfOk result (λ copy. copy ≡ amount.now) }
 {
     let symbol = Text::copied(alloc, amount.symbol.as_str())?;

@@ -1,20 +1,16 @@
 //! Balances transactions: finds missing amounts and costs, and makes the book of a text.
 #![tactic(auto)]
 
-mod entry;
+mod balances;
+mod claims;
 pub mod fault;
-mod fill;
 mod groups;
 mod judge;
-mod plan;
-mod rules;
-mod sums;
-mod tally;
+mod kept;
 #[cfg(test)]
 mod tests;
-mod value;
 mod walk;
 
-pub use entry::balance_txn;
-pub use fault::{BalanceFault, CheckFault};
+pub use entry_balance::{BalanceFault, balance_txn};
+pub use fault::CheckFault;
 pub use walk::check;

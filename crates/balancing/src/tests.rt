@@ -1,11 +1,11 @@
-//! Worked transactions and texts.
+//! Worked texts.
 ghost use Rattle.std.specs.Prelude.{◌≡◌, IfOk};
 ghost use Rattle.std.specs.List.{AllByRecursion};
 ghost use Rattle.book.specs.Assertions.{HasNoAssertion};
 ghost use Rattle.book.specs.Postings.{postings_of, txn_in};
 ghost use Rattle.book.specs.declared.item.Item.TheVariants as item;
 
-use crate::{BalanceFault, CheckFault, balance_txn, check};
+use crate::{CheckFault, check};
 use book::{Amount, Boxed, Cause, Cost, Item, Mark, Placed, Posting, Side, Txn, Written};
 use hl_base::{Kind, List, Memory, Piece, Text};
 use hl_num::Dec;
@@ -75,51 +75,6 @@ fn sum_in(cause: &Cause) -> Option<i128> {
         Cause::Unbalanced { symbol: _, sum } => Some(sum.mantissa),
         _ => None,
     }
-}
-
-#[test]
-fn judges_a_sum_at_its_precision(rt: HostRuntime) -> Result<(), Fail> {
-    let alloc = rt.alloc();
-    assert!(rt; balance_txn(alloc, shares(alloc, -333)?).is_ok());
-    match balance_txn(alloc, shares(alloc, -332)?) {
-        Err(BalanceFault::Cause(cause)) => assert_eq!(rt; sum_in(&cause), Some(15)),
-        Err(BalanceFault::Memory) => assert!(rt; false),
-        Ok(_txn) => assert!(rt; false),
-    }
-    Ok(())
-}
-
-/// `1 C`, `2 B` and a missing amount.
-fn missing(alloc: Global) -> Result<Txn, Memory>
-    ensures { IfOk result (λ t. AllByRecursion HasNoAssertion t.postings) }
-{
-    let first = posting(alloc, Side::Real, Some(amount(alloc, 1, 0, "C")?))?;
-    let second = posting(alloc, Side::Real, Some(amount(alloc, 2, 0, "B")?))?;
-    let third = posting(alloc, Side::Real, None)?;
-    let mut postings = Vec::new(alloc);
-    postings.push(first)?;
-    postings.push(second)?;
-    postings.push(third)?;
-    Ok(txn(alloc, 1, 10, postings))
-}
-
-#[test]
-fn fills_a_missing_amount(rt: HostRuntime) -> Result<(), Fail> {
-    let alloc = rt.alloc();
-    match balance_txn(alloc, missing(alloc)?) {
-        Ok(txn) => {
-            let postings = txn.postings.as_slice();
-            assert_eq!(rt; postings.len(), 4);
-            for (posting, symbol) in postings.iter().zip(["C", "B", "B", "C"]) {
-                match &posting.amount {
-                    Some(amount) => assert_eq!(rt; amount.symbol.as_str(), symbol),
-                    None => assert!(rt; false),
-                }
-            }
-        }
-        Err(_) => assert!(rt; false),
-    }
-    Ok(())
 }
 
 fn placed(txn: Txn) -> Placed

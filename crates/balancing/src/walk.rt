@@ -1,24 +1,31 @@
 //! The check of a text's items, which makes its book.
+ghost use Rattle.std.specs.List.{slice_get};
 ghost use Rattle.std.specs.Prelude.{◌≡◌, ◌++◌, ◌∷◌, [], List, ℕ, true, false, None, OnOk, IfOk, IfErr};
 ghost use Rattle.hl_base.specs.Gives.{Gives};
-ghost use Rattle.book.specs.Assertions.{HasNoAssertions};
 ghost use Rattle.book.specs.Bounds.{TurnoverFits};
 ghost use Rattle.book.specs.Postings.{postings_of, txns_of};
+ghost use Rattle.book.specs.declared.transaction.Posting.{Posting};
 ghost use Rattle.book.specs.declared.transaction.Txn.{Txn};
+ghost use Rattle.entry_balance.specs.Entry.{moved};
+ghost use Rattle.entry_balance.specs.Tally.{turnover_fits};
+ghost use Rattle.balancing.specs.Assertions.{HasNoAssignments};
 ghost use Rattle.balancing.specs.Check.{cause_in};
+ghost use Rattle.balancing.specs.Claims.{AreClaimed};
 ghost use Rattle.balancing.specs.Groups.{Group};
 ghost use Rattle.balancing.specs.Load.{load};
-ghost use Rattle.balancing.specs.Settled.{AreSettled};
-ghost use Rattle.balancing.specs.Walk.{IsRead, IsTold, IsVisited};
-ghost use Rattle.balancing.specs.Turnover.{IsTurnover};
-ghost use Rattle.balancing.specs.Values.{Value};
+ghost use Rattle.entry_balance.specs.Settled.{AreSettled};
+ghost use Rattle.balancing.specs.Kept.{IsBalance, are_asked};
+ghost use Rattle.balancing.specs.Walk.{IsRead, IsTold, IsVisited, IsPassed, group_in};
+ghost use Rattle.entry_balance.specs.Turnover.{IsTurnover};
+ghost use Rattle.entry_balance.specs.Values.{Value};
 
-use crate::entry::settle;
+use crate::balances::{Balances, asked};
+use crate::claims::claim_group;
 use crate::fault::CheckFault;
 use crate::groups::{Group, in_order, note_groups};
 use crate::judge::judge;
-use crate::tally::Tally;
 use book::{Book, Boxed, Cause, Fault, Item, Items, Placed, Txn};
+use entry_balance::{Tally, TallyFault, settle};
 use hl_base::{List, Memory};
 use std::alloc::Global;
 
@@ -27,7 +34,7 @@ use std::alloc::Global;
 /// amounts; a turnover through this group of 2^127 or more in some symbol; or sums that aren't zero. The line is that
 /// of the transaction's head.
 pub fn check(alloc: Global, items: Items) -> Result<Book, CheckFault>
-    requires { HasNoAssertions items }
+    requires { HasNoAssignments items }
     ensures answer { Gives (λ book. book) cause_in result (load items) }
     ensures fits { IfOk result (λ book. TurnoverFits (postings_of book.txns)) }
 {
@@ -103,13 +110,66 @@ fn first_fault(
         → IsTold written groups.now fault) }
 {
     let mut tally = Tally::new(alloc);
+    let mut balances = asked(alloc, txns)?;
     for group in groups {
-        let fault = visit(alloc, &mut tally, txns, causes, *group)?;
+        let fault = pass(alloc, &mut tally, &mut balances, txns, causes, *group)?;
         if fault.is_some() {
             return Ok(fault);
         }
     }
     Ok(None)
+}
+
+/// The fault of a group or of its first assertion that fails, else adds what it moves.
+fn pass<'a>(
+    alloc: Global,
+    tally: &mut Tally<'a>,
+    balances: &mut Balances<'a>,
+    txns: &'a [Txn],
+    causes: &[Option<Boxed<Cause>>],
+    group: Group,
+) -> Result<Option<Fault>, Memory>
+    ensures passed { IfOk result (λ fault. (written : List Txn) (before : List Value) (seen : List Posting)
+        → AreSettled written txns.now causes.now → IsTurnover before tally.old → before ≡ moved seen
+        → IsBalance seen balances.old.own balances.old.below → are_asked balances.old.own balances.old.below txns.now ≡ true
+        → IsPassed written before seen group tally.new balances.new.own balances.new.below fault) }
+    ensures own { IfOk result (λ fault. fault ≡ None → balances.new.own.1 ≡ balances.old.own.1) }
+    ensures below { IfOk result (λ fault. fault ≡ None → balances.new.below.1 ≡ balances.old.below.1) }
+{
+    match visit(alloc, tally, txns, causes, group) {
+        Ok(None) => claim_at(alloc, balances, txns, group),
+        Ok(Some(fault)) => Ok(Some(fault)),
+        Err(Memory) => Err(Memory),
+    }
+}
+
+/// The fault of the first assertion in a group that fails, else adds the group's postings to the balances.
+fn claim_at<'a>(
+    alloc: Global,
+    balances: &mut Balances<'a>,
+    txns: &'a [Txn],
+    group: Group,
+) -> Result<Option<Fault>, Memory>
+    ensures claimed { IfOk result (λ fault. (seen : List Posting) → IsBalance seen balances.old.own balances.old.below
+        → are_asked balances.old.own balances.old.below txns.now ≡ true
+        → turnover_fits (moved (seen ++ group_in group.0 (slice_get txns.now group.1))) ≡ true
+        → AreClaimed seen (group_in group.0 (slice_get txns.now group.1)) balances.new.own balances.new.below fault) }
+    ensures own { IfOk result (λ fault. fault ≡ None → balances.new.own.1 ≡ balances.old.own.1) }
+    ensures below { IfOk result (λ fault. fault ≡ None → balances.new.below.1 ≡ balances.old.below.1) }
+{
+    let (day, number) = group;
+    if balances.is_empty() || txns.len() <= number {
+        return Ok(None);
+    }
+    let txn = &txns[number];
+    match claim_group(alloc, balances, txn, day) {
+        Ok(fault) => Ok(fault),
+        Err(TallyFault::Range) => Ok(Some(Fault {
+            line: txn.line,
+            cause: Cause::Range,
+        })),
+        Err(TallyFault::Memory) => Err(Memory),
+    }
 }
 
 /// The fault of a group, else adds what it moves.

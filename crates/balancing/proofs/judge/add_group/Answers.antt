@@ -2,7 +2,7 @@ use Rattle.std.proofs.Common.{◌≡◌, ◌<◌, List, ◌++◌, length, get_or
 use Rattle.std.specs.List.{flat_map}
 use Rattle.book.specs.declared.transaction.Posting.{Posting}
 use Rattle.balancing.specs.Load.{moved_when}
-use Rattle.balancing.proofs.Adding.{group_range}
+use Rattle.entry_balance.proofs.Adding.{group_range}
 use Rattle.balancing.proofs.judge.add_group.Goals as goal
 
 pub returns-in-Err-clause-range : goal.returns-in-Err-clause-range

@@ -1,7 +1,7 @@
 use Rattle.std.proofs.Common.{List, ◌++◌, take}
 use Rattle.std.specs.List.{flat_map}
-use Rattle.balancing.specs.Values.{Value}
-use Rattle.balancing.specs.Turnover.{IsTurnover}
+use Rattle.entry_balance.specs.Values.{Value}
+use Rattle.entry_balance.specs.Turnover.{IsTurnover}
 use Rattle.balancing.specs.Load.{moved_when}
 use Rattle.balancing.proofs.judge.add_group.Given as goal
 

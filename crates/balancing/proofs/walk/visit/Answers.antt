@@ -1,8 +1,8 @@
 use Rattle.std.proofs.Common.{Option, sym, subst, arith}
 use Rattle.book.specs.declared.fault.Cause.{Cause}
 use Rattle.book.specs.declared.transaction.Txn.{Txn}
-use Rattle.balancing.specs.Settled.{IsSettled}
-use Rattle.balancing.proofs.Causes.{if_ok}
+use Rattle.entry_balance.specs.Settled.{IsSettled}
+use Rattle.entry_balance.proofs.Causes.{if_ok}
 use Rattle.balancing.proofs.Walked.{settled-lengths, settled-at, costs_known, visited, visited_none}
 use Rattle.balancing.proofs.walk.visit.Goals as goal
 use Rattle.balancing.proofs.walk.visit.Goals.{then-txns-number-via-then-txns-number, then-txns-number-via-else-txns-number+then-causes-number}

@@ -1,0 +1,276 @@
+-- Balances after one more posting, and what they ask for.
+use Rattle.std.proofs.Common.{◌≡◌, ℕ, zero, suc, ◌+◌, ◌<◌, ◌≤◌, ◌==◌, Bool, true, false, not, cond, ◌&&◌, List, [], ◌∷◌, ◌++◌, length, get_or, take, drop, filter, Option, Some, None, is_some, refl, sym, ap, ◌∙◌, subst, arith, add-one, drop-cons}
+use Rattle.std.specs.List.{flat_map, list_all, slice_get}
+use Rattle.std.proofs.lemmas.Bool.{false≢true}
+use Rattle.std.proofs.lemmas.Grind.{flat_map-append}
+use Rattle.std.proofs.lemmas.List.{append-nil, append_assoc, take_more}
+use Rattle.book.specs.Entries.{held}
+use Rattle.book.specs.declared.amount.Amount.{Amount}
+use Rattle.book.specs.declared.amount.Assertion.{Assertion}
+use Rattle.book.specs.declared.fault.Fault.{Fault}
+use Rattle.book.specs.declared.transaction.Posting.{Posting}
+use Rattle.book.specs.declared.transaction.Txn.{Txn}
+use Rattle.entry_balance.specs.Values.{Value, value_of, cost_values}
+use Rattle.entry_balance.specs.Tally.{turnover_fits}
+use Rattle.entry_balance.specs.Entry.{from_amount, moved, moved_by}
+use Rattle.entry_balance.proofs.Adding.{false-from, take_past}
+use Rattle.entry_balance.proofs.Covers.{Covers, covered-fits, covers_none, covers_left, covers_both}
+use Rattle.entry_balance.proofs.Turnover.{fits-first}
+use Rattle.entry_balance.proofs.Named.{both_true, left_true, right_true}
+use Rattle.balancing.specs.Assertions.{counts_for, held_by, held_in, failure_of, first_failure, or_else_fault}
+use Rattle.balancing.specs.Claims.{IsClaimed, AreClaimed, IsReached}
+use Rattle.balancing.specs.Kept.{Keeping, IsKept, IsBalance, Stays, and_at, and_under, keeps, is_asked, is_asked_by, are_asked}
+use Rattle.balancing.specs.Groups.{day_of}
+use Rattle.balancing.specs.Walk.{group_in}
+use Rattle.balancing.proofs.Keeping.{kept_same, kept_none}
+
+-- ---- one more posting
+
+held-more : (below : Bool) (root : List ℕ) (seen : List Posting) (p : Posting) → held_in below root (seen ++ p ∷ []) ≡ held_in below root seen ++ held_by below root p
+held-more below root seen p = flat_map-append (held_by below root) seen (p ∷ []) ∙ ap (λ (vs : List Value). held_in below root seen ++ vs) (append-nil (held_by below root p))
+
+held-some : (below : Bool) (root : List ℕ) (p : Posting) (a : Amount) → p.amount ≡ Some a → held_by below root p ≡ cond (counts_for below root p.account) (value_of a ∷ []) []
+held-some below root p a is = ap (λ (o : Option Amount). cond (counts_for below root p.account) (from_amount (λ a. value_of a ∷ []) o) []) is
+
+pub balance_more : (seen : List Posting) (p : Posting) (a : Amount) (own below : Keeping) → p.amount ≡ Some a → IsKept (and_at (λ r. held_in false r seen) p.account (value_of a)) own → IsKept (and_under (λ r. held_in true r seen) p.account (value_of a)) below → IsBalance (seen ++ p ∷ []) own below
+balance_more seen p a own below is alone under = record {
+  alone = kept_same _ _ own (λ r. sym (held-more false r seen p ∙ ap (λ (vs : List Value). held_in false r seen ++ vs) (held-some false r p a is))) alone;
+  under = kept_same _ _ below (λ r. sym (held-more true r seen p ∙ ap (λ (vs : List Value). held_in true r seen ++ vs) (held-some true r p a is))) under;
+}
+
+pub balance_none : (seen : List Posting) (p : Posting) (own below : Keeping) → p.amount ≡ None → IsBalance seen own below → IsBalance (seen ++ p ∷ []) own below
+balance_none seen p own below is h = record {
+  alone = kept_same _ _ own (λ r. sym (held-more false r seen p ∙ ap (λ (vs : List Value). held_in false r seen ++ vs) (nothing false r) ∙ append-nil (held_in false r seen))) h.alone;
+  under = kept_same _ _ below (λ r. sym (held-more true r seen p ∙ ap (λ (vs : List Value). held_in true r seen ++ vs) (nothing true r) ∙ append-nil (held_in true r seen))) h.under;
+}
+  where
+    none-of : (b : Bool) → cond {A = List Value} b [] [] ≡ []
+    none-of true = refl
+    none-of false = refl
+
+    nothing : (b : Bool) (r : List ℕ) → held_by b r p ≡ []
+    nothing b r = ap (λ (o : Option Amount). cond (counts_for b r p.account) (from_amount (λ a. value_of a ∷ []) o) []) is ∙ none-of (counts_for b r p.account)
+
+covers_held_by : (below : Bool) (root : List ℕ) (p : Posting) → Covers (moved_by p) (held_by below root p)
+covers_held_by below root p = by (counts_for below root p.account)
+  where
+    amount : (o : Option Amount) → Covers (from_amount (λ a. value_of a ∷ cost_values a p.cost) o) (from_amount (λ a. value_of a ∷ []) o)
+    amount None = covers_none []
+    amount (Some a) = covers_left (value_of a ∷ []) (cost_values a p.cost)
+
+    by : (b : Bool) → Covers (moved_by p) (cond b (from_amount (λ a. value_of a ∷ []) p.amount) [])
+    by true = amount p.amount
+    by false = covers_none _
+
+covers_held : (below : Bool) (root : List ℕ) (ps : List Posting) → Covers (moved ps) (held_in below root ps)
+covers_held below root [] = covers_none []
+covers_held below root (p ∷ ps) = covers_both (held_by below root p) (moved_by p) (held_in below root ps) (moved ps) (covers_held_by below root p) (covers_held below root ps)
+
+-- a sum of an account is out of range, so what is moved is
+pub balance_range : (below : Bool) (root : List ℕ) (seen : List Posting) (p : Posting) (a : Amount) → p.amount ≡ Some a → turnover_fits (held_in below root seen ++ value_of a ∷ []) ≡ false → turnover_fits (moved (seen ++ p ∷ [])) ≡ false
+balance_range below root seen p a is range = false-from _ (λ fits. false≢true (sym range ∙ covered-fits (moved (seen ++ p ∷ [])) (held_in below root seen ++ value_of a ∷ [])
+    (subst (λ (vs : List Value). Covers vs (held_in below root seen ++ value_of a ∷ [])) (sym (flat_map-append moved_by seen (p ∷ []) ∙ ap (λ (vs : List Value). moved seen ++ vs) (append-nil (moved_by p))))
+    (covers_both (held_in below root seen) (moved seen) (value_of a ∷ []) (moved_by p) (covers_held below root seen)
+    (subst (λ (o : Option Amount). Covers (from_amount (λ a. value_of a ∷ cost_values a p.cost) o) (value_of a ∷ [])) (sym is) (covers_left (value_of a ∷ []) (cost_values a p.cost))))) fits))
+
+-- ---- what is asked for
+
+pub stays_own : (own own' below : Keeping) → ((a : List ℕ) → keeps a own ≡ true → keeps a own' ≡ true) → Stays own below own' below
+stays_own own own' below more = record { asked = λ p h. by p.account p.wanted h }
+  where
+    each : (a : List ℕ) (b : Bool) → cond b (keeps a below) (keeps a own) ≡ true → cond b (keeps a below) (keeps a own') ≡ true
+    each a true h = h
+    each a false h = more a h
+
+    by : (a : List ℕ) (o : Option Assertion) → is_asked_by own below a o ≡ true → is_asked_by own' below a o ≡ true
+    by a None h = refl
+    by a (Some w) h = each a w.below h
+
+pub stays_below : (own below below' : Keeping) → ((a : List ℕ) → keeps a below ≡ true → keeps a below' ≡ true) → Stays own below own below'
+stays_below own below below' more = record { asked = λ p h. by p.account p.wanted h }
+  where
+    each : (a : List ℕ) (b : Bool) → cond b (keeps a below) (keeps a own) ≡ true → cond b (keeps a below') (keeps a own) ≡ true
+    each a true h = more a h
+    each a false h = h
+
+    by : (a : List ℕ) (o : Option Assertion) → is_asked_by own below a o ≡ true → is_asked_by own below' a o ≡ true
+    by a None h = refl
+    by a (Some w) h = each a w.below h
+
+pub stays_all : (own below own' below' own'' below'' : Keeping) → Stays own below own' below' → Stays own' below' own'' below'' → Stays own below own'' below''
+stays_all own below own' below' own'' below'' h k = record { asked = λ p e. k.asked p (h.asked p e) }
+
+pub stays_same : (own below : Keeping) → Stays own below own below
+stays_same own below = record { asked = λ p e. e }
+
+pub each-more : {X : Type 0} (f g : X → Bool) (xs : List X) (i : ℕ) (x : X) → i < length xs → x ≡ get_or xs i x → ((y : X) → f y ≡ true → g y ≡ true) → list_all f (take i xs) ≡ true → g x ≡ true → list_all g (take (i + 1) xs) ≡ true
+each-more {X = X} f g xs i x less is more h here =
+    ap (list_all g) (take_more xs i x less ∙ ap (λ y. take i xs ++ y ∷ []) (sym is)) ∙ joined (take i xs) (weaker (take i xs) h)
+  where
+    weaker : (ys : List X) → list_all f ys ≡ true → list_all g ys ≡ true
+    weaker [] e = refl
+    weaker (y ∷ ys) e = both_true _ _ (more y (left_true (f y) (list_all f ys) e)) (weaker ys (right_true (f y) (list_all f ys) e))
+
+    joined : (ys : List X) → list_all g ys ≡ true → list_all g (ys ++ x ∷ []) ≡ true
+    joined [] e = both_true _ _ here refl
+    joined (y ∷ ys) e = both_true _ _ (left_true (g y) (list_all g ys) e) (joined ys (right_true (g y) (list_all g ys) e))
+
+pub each-stays : (f g : Posting → Bool) (ps : List Posting) → ((p : Posting) → f p ≡ true → g p ≡ true) → list_all f ps ≡ true → list_all g ps ≡ true
+each-stays f g [] more h = refl
+each-stays f g (p ∷ ps) more h = both_true _ _ (more p (left_true (f p) (list_all f ps) h)) (each-stays f g ps more (right_true (f p) (list_all f ps) h))
+
+pub asked_same : (own below own' below' : Keeping) (p : Posting) → own'.1 ≡ own.1 → below'.1 ≡ below.1 → is_asked own' below' p ≡ is_asked own below p
+asked_same own below own' below' p same_own same_below = by p.account p.wanted
+  where
+    each : (a : List ℕ) (b : Bool) → cond b (keeps a below') (keeps a own') ≡ cond b (keeps a below) (keeps a own)
+    each a true = ap (λ (es : List (List ℕ × ℕ)). is_some (held a es)) same_below
+    each a false = ap (λ (es : List (List ℕ × ℕ)). is_some (held a es)) same_own
+
+    by : (a : List ℕ) (o : Option Assertion) → is_asked_by own' below' a o ≡ is_asked_by own below a o
+    by a None = refl
+    by a (Some w) = each a w.below
+
+pub are_asked_same : (own below own' below' : Keeping) (txns : List Txn) → own'.1 ≡ own.1 → below'.1 ≡ below.1 → are_asked own below txns ≡ true → are_asked own' below' txns ≡ true
+are_asked_same own below own' below' [] same_own same_below h = refl
+are_asked_same own below own' below' (t ∷ txns) same_own same_below h =
+    both_true _ _ (each-stays _ _ t.postings (λ p e. asked_same own below own' below' p same_own same_below ∙ e) (left_true (list_all (is_asked own below) t.postings) (are_asked own below txns) h))
+    (are_asked_same own below own' below' txns same_own same_below (right_true (list_all (is_asked own below) t.postings) (are_asked own below txns) h))
+
+-- ---- where nothing is asked for
+
+keeps_not : (values : List ℕ → List Value) (k : Keeping) (a : List ℕ) → IsKept values k → k.0 ≡ [] → keeps a k ≡ true → ⊥
+keeps_not values k a kept none h = by (held a k.1) refl h
+  where
+    by : (o : Option ℕ) → held a k.1 ≡ o → is_some o ≡ true → ⊥
+    by None e h = false≢true h
+    by (Some j) e h = let less = kept.within a j e in omega (arith, less, ap length none)
+
+unasked : (seen : List Posting) (own below : Keeping) → IsBalance seen own below → own.0 ≡ [] → below.0 ≡ [] → (a : List ℕ) (o : Option Assertion) → is_asked_by own below a o ≡ true → o ≡ None
+unasked seen own below h none_own none_below a None e = refl
+unasked seen own below h none_own none_below a (Some w) e = absurd (by w.below e)
+  where
+    by : (b : Bool) → cond b (keeps a below) (keeps a own) ≡ true → ⊥
+    by true e = keeps_not _ below a h.under none_below e
+    by false e = keeps_not _ own a h.alone none_own e
+
+pub none_fail : (f : Posting → Bool) (seen : List Posting) (own below : Keeping) → IsBalance seen own below → own.0 ≡ [] → below.0 ≡ [] → (ps before : List Posting) → list_all (is_asked own below) ps ≡ true → first_failure before (filter f ps) ≡ None
+none_fail f seen own below h none_own none_below [] before e = refl
+none_fail f seen own below h none_own none_below (p ∷ ps) before e =
+    let rest : (b : List Posting) → first_failure b (filter f ps) ≡ None = λ b. none_fail f seen own below h none_own none_below ps b (right_true (is_asked own below p) (list_all (is_asked own below) ps) e) in
+    let mine = unasked seen own below h none_own none_below p.account p.wanted (left_true (is_asked own below p) (list_all (is_asked own below) ps) e) in
+    elim (f p) as (λ b. first_failure before (cond b (p ∷ filter f ps) (filter f ps)) ≡ None) [
+      | true ↦ ap (λ (o : Option Assertion). or_else_fault (failure_of (before ++ p ∷ []) p o) (first_failure (before ++ p ∷ []) (filter f ps))) mine ∙ rest (before ++ p ∷ [])
+      | false ↦ rest before
+    ]
+
+pub balance_any : (seen seen' : List Posting) (own below : Keeping) → own.0 ≡ [] → below.0 ≡ [] → IsBalance seen own below → IsBalance seen' own below
+balance_any seen seen' own below none_own none_below h = record {
+  alone = kept_none _ _ own none_own h.alone;
+  under = kept_none _ _ below none_below h.under;
+}
+
+-- ---- one posting of a group after another
+
+filter-append : {X : Type 0} (f : X → Bool) (xs ys : List X) → filter f (xs ++ ys) ≡ filter f xs ++ filter f ys
+filter-append f [] ys = refl
+filter-append f (x ∷ xs) ys = elim (f x) as (λ b. cond b (x ∷ filter f (xs ++ ys)) (filter f (xs ++ ys)) ≡ cond b (x ∷ filter f xs) (filter f xs) ++ filter f ys) [
+  | true ↦ ap (λ zs. x ∷ zs) (filter-append f xs ys)
+  | false ↦ filter-append f xs ys
+]
+
+take_drop : {X : Type 0} (xs : List X) (i : ℕ) → take i xs ++ drop i xs ≡ xs
+take_drop xs zero = refl
+take_drop [] (suc i) = refl
+take_drop (x ∷ xs) (suc i) = ap (λ ys. x ∷ ys) (take_drop xs i)
+
+pub reached_none : (seen : List Posting) (f : Posting → Bool) (ps : List Posting) (own below : Keeping) → IsBalance seen own below → IsReached seen f ps 0 own below
+reached_none seen f ps own below h = record {
+  rest = ap (λ (s : List Posting). first_failure s (filter f ps)) (sym (append-nil seen));
+  kept = subst (λ (s : List Posting). IsBalance s own below) (sym (append-nil seen)) h;
+}
+
+module _ (seen : List Posting) (f : Posting → Bool) (ps : List Posting) (i : ℕ) (p : Posting) (less : i < length ps) (is : p ≡ get_or ps i p) where
+  abbrev so_far : List Posting
+  so_far = seen ++ filter f (take i ps)
+
+  abbrev later : List Posting
+  later = filter f (drop (i + 1) ps)
+
+  more_by : (b : Bool) → f p ≡ b → filter f (take (i + 1) ps) ≡ filter f (take i ps) ++ cond b (p ∷ []) []
+  more_by b e = ap (filter f) (take_more ps i p less ∙ ap (λ (y : Posting). take i ps ++ y ∷ []) (sym is)) ∙ filter-append f (take i ps) (p ∷ []) ∙ ap (λ (t : Bool). filter f (take i ps) ++ cond t (p ∷ []) []) e
+
+  left_by : (b : Bool) → f p ≡ b → filter f (drop i ps) ≡ cond b (p ∷ later) later
+  left_by b e =
+      let cut : drop i ps ≡ get_or ps i p ∷ drop (i + 1) ps = rw (add-one, drop-cons ps i p) refl in
+      ap (filter f) (cut ∙ ap (λ (y : Posting). y ∷ drop (i + 1) ps) (sym is)) ∙ ap (λ (t : Bool). cond t (p ∷ later) later) e
+
+  so_far_next : f p ≡ true → so_far ++ p ∷ [] ≡ seen ++ filter f (take (i + 1) ps)
+  so_far_next e = append_assoc seen (filter f (take i ps)) (p ∷ []) ∙ ap (λ (qs : List Posting). seen ++ qs) (sym (more_by true e))
+
+  pub reached_skip : (own below : Keeping) → f p ≡ false → IsReached seen f ps i own below → IsReached seen f ps (i + 1) own below
+  reached_skip own below e h =
+      let same : so_far ≡ seen ++ filter f (take (i + 1) ps) = ap (λ (qs : List Posting). seen ++ qs) (sym (append-nil (filter f (take i ps))) ∙ sym (more_by false e)) in
+      record {
+        rest = h.rest ∙ (λ j. first_failure (same j) (left_by false e j));
+        kept = subst (λ (s : List Posting). IsBalance s own below) same h.kept;
+      }
+
+  pub reached_more : (own below own' below' : Keeping) (fault : Option Fault) → f p ≡ true → IsReached seen f ps i own below → IsClaimed so_far p own' below' fault → fault ≡ None → IsReached seen f ps (i + 1) own' below'
+  reached_more own below own' below' fault e h claimed none = record {
+    rest = h.rest ∙ ap (first_failure so_far) (left_by true e) ∙ ap (λ (o : Option Fault). or_else_fault o (first_failure (so_far ++ p ∷ []) later)) (sym claimed.is ∙ none) ∙ ap (λ (s : List Posting). first_failure s later) (so_far_next e);
+    kept = subst (λ (s : List Posting). IsBalance s own' below') (so_far_next e) claimed.kept;
+  }
+
+  pub reached_stop : (own below own' below' : Keeping) (fault : Fault) → f p ≡ true → IsReached seen f ps i own below → IsClaimed so_far p own' below' (Some fault) → AreClaimed seen (filter f ps) own' below' (Some fault)
+  reached_stop own below own' below' fault e h claimed = record {
+    is = sym (h.rest ∙ ap (first_failure so_far) (left_by true e) ∙ ap (λ (o : Option Fault). or_else_fault o (first_failure (so_far ++ p ∷ []) later)) (sym claimed.is));
+    kept = λ none. absurd (let never : ⊥ = cc in never);
+  }
+
+  pub reached_range : f p ≡ true → turnover_fits (moved (so_far ++ p ∷ [])) ≡ false → turnover_fits (moved (seen ++ filter f ps)) ≡ false
+  reached_range e range = false-from _ (λ fits. false≢true (sym range ∙ fits-first (moved (so_far ++ p ∷ [])) (moved later)
+      (ap turnover_fits (sym (flat_map-append moved_by (so_far ++ p ∷ []) later)
+      ∙ ap moved (append_assoc so_far (p ∷ []) later ∙ append_assoc seen (filter f (take i ps)) (p ∷ later) ∙ ap (λ (qs : List Posting). seen ++ qs) (ap (λ (qs : List Posting). filter f (take i ps) ++ qs) (sym (left_by true e)) ∙ sym (filter-append f (take i ps) (drop i ps)) ∙ ap (filter f) (take_drop ps i)))) ∙ fits)))
+
+pub reached_end : (seen : List Posting) (f : Posting → Bool) (ps : List Posting) (i : ℕ) (own below : Keeping) → length ps ≤ i → IsReached seen f ps i own below → AreClaimed seen (filter f ps) own below None
+reached_end seen f ps i own below more h = record {
+  is = sym (h.rest ∙ ap (λ (qs : List Posting). first_failure (seen ++ filter f (take i ps)) (filter f qs)) (past ps i more));
+  kept = λ none. subst (λ (qs : List Posting). IsBalance (seen ++ filter f qs) own below) (take_past ps i more) h.kept;
+}
+  where
+    past : (qs : List Posting) (k : ℕ) → length qs ≤ k → drop k qs ≡ []
+    past [] zero m = refl
+    past [] (suc k) m = refl
+    past (q ∷ qs) zero m = absurd (omega arith)
+    past (q ∷ qs) (suc k) m = past qs k (omega arith)
+
+pub drop_past : {X : Type 0} (xs : List X) (i : ℕ) → length xs ≤ i → drop i xs ≡ []
+drop_past [] zero h = refl
+drop_past [] (suc i) h = refl
+drop_past (x ∷ xs) zero h = absurd (omega arith)
+drop_past (x ∷ xs) (suc i) h = drop_past xs i (omega arith)
+
+pub get-there : {X : Type 0} (xs : List X) (n : ℕ) (d : X) → n < length xs → d ≡ get_or xs n d → slice_get xs n ≡ Some d
+get-there [] n d h is = absurd (omega arith)
+get-there (x ∷ xs) zero d h is = ap Some (sym is)
+get-there (x ∷ xs) (suc n) d h is = get-there xs n d (omega arith) is
+
+get-past : {X : Type 0} (xs : List X) (n : ℕ) → length xs ≤ n → slice_get xs n ≡ None
+get-past [] n h = refl
+get-past (x ∷ xs) zero h = absurd (omega arith)
+get-past (x ∷ xs) (suc n) h = get-past xs n (omega arith)
+
+-- where nothing is asked for no assertion fails
+pub empty_claimed : (txns : List Txn) (day n : ℕ) (seen : List Posting) (own below : Keeping) → IsBalance seen own below → own.0 ≡ [] → below.0 ≡ [] → are_asked own below txns ≡ true → AreClaimed seen (group_in day (slice_get txns n)) own below None
+empty_claimed [] day n seen own below h none_own none_below asked = record { is = refl; kept = λ none. balance_any seen _ own below none_own none_below h }
+empty_claimed (t ∷ txns) day zero seen own below h none_own none_below asked = record {
+  is = sym (none_fail (λ p. day_of t p == day) seen own below h none_own none_below t.postings seen (left_true (list_all (is_asked own below) t.postings) (are_asked own below txns) asked));
+  kept = λ none. balance_any seen _ own below none_own none_below h;
+}
+empty_claimed (t ∷ txns) day (suc n) seen own below h none_own none_below asked =
+    empty_claimed txns day n seen own below h none_own none_below (right_true (list_all (is_asked own below) t.postings) (are_asked own below txns) asked)
+
+-- a group of no transaction
+pub past_claimed : (txns : List Txn) (day n : ℕ) (seen : List Posting) (own below : Keeping) → length txns ≤ n → IsBalance seen own below → AreClaimed seen (group_in day (slice_get txns n)) own below None
+past_claimed txns day n seen own below past h = subst (λ (o : Option Txn). AreClaimed seen (group_in day o) own below None) (sym (get-past txns n past))
+    (record { is = refl; kept = λ none. subst (λ (s : List Posting). IsBalance s own below) (sym (append-nil seen)) h })

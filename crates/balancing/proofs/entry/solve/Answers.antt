@@ -1,7 +1,0 @@
-use Rattle.std.proofs.Common.{ap, ◌∙◌}
-use Rattle.balancing.specs.Entry.{costs_fit}
-use Rattle.balancing.proofs.Covers.{solved_costs_fit}
-use Rattle.balancing.proofs.entry.solve.Goals as goal
-
-pub turnover_fits-requires : goal.turnover_fits-requires
-turnover_fits-requires c = ap costs_fit (c.as_slice.ensures ∙ c.in_ok-postings.ensures) ∙ solved_costs_fit c.args.txn.postings c.requires.costs

@@ -1,5 +1,0 @@
-use Rattle.std.proofs.Common.{◌≡◌, ◌++◌}
-use Rattle.balancing.proofs.tally.listed.Given as goal
-
-abbrev pub invariant-loop-symbol : goal.invariant-loop-symbol
-invariant-loop-symbol l = l.list.items ++ l.symbol-iterator ≡ l.sums.entries

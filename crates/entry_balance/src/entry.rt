@@ -1,0 +1,118 @@
+//! The balance of one transaction.
+ghost use Rattle.std.specs.Prelude.{◌≡◌, true, false, Some, IfOk, if◌then◌else◌};
+ghost use Rattle.std.specs.List.{AllByRecursion};
+ghost use Rattle.hl_base.specs.Gives.{Gives};
+ghost use Rattle.book.specs.Assertions.{HasNoAssertion};
+ghost use Rattle.book.specs.declared.fault.Cause.TheVariants as cause;
+ghost use Rattle.book.specs.declared.transaction.Side.TheVariants.{Real, Balanced, Free};
+ghost use Rattle.entry_balance.specs.Check.{cause_of};
+ghost use Rattle.entry_balance.specs.Entry.{balanced, costs_fit, misses, found_values, recorded_cost, unbalanced_by, unbalanced_sums, solved, moved};
+ghost use Rattle.entry_balance.specs.Entry.{settled};
+ghost use Rattle.entry_balance.specs.Settled.{IsSettled};
+ghost use Rattle.entry_balance.specs.Tally.{turnover_fits};
+
+use crate::fault::BalanceFault;
+use crate::fill::fill;
+use crate::plan::{Plan, make_plan};
+use crate::rules::has_two_missing;
+use crate::sums::turnover_fits;
+use crate::tally::TallyFault;
+use crate::value::costs_fit;
+use book::{Boxed, Cause, Txn};
+use hl_base::Memory;
+use std::alloc::Global;
+
+/// A transaction with its missing amounts and costs. Real postings sum to zero at cost in each symbol, and balanced
+/// virtual ones by themselves. One missing amount on each of these sides takes what the others leave, as one posting
+/// for each symbol. A sum counts as zero where it is zero when it is rounded to the most decimals of its symbol. Two
+/// symbols that stand against each other in the real postings are an exchange, whose cost is recorded.
+pub fn balance_txn(alloc: Global, txn: Txn) -> Result<Txn, BalanceFault>
+    requires { AllByRecursion HasNoAssertion txn.postings }
+    ensures { Gives (λ t. t) cause_of result (balanced txn) }
+{
+    match settle(alloc, txn) {
+        Ok(Settled { txn, cause }) => match cause {
+            None => Ok(txn),
+            Some(cause) => Err(BalanceFault::Cause(cause.into_inner())),
+        },
+        Err(Memory) => Err(BalanceFault::Memory),
+    }
+}
+
+/// A transaction with what balancing finds, and what is wrong with it.
+#[derive(Debug, Drop)]
+pub struct Settled {
+    pub txn: Txn,
+    pub cause: Option<Boxed<Cause>>,
+}
+
+/// Finds what is missing in a transaction, or what is wrong with it.
+pub fn settle(alloc: Global, txn: Txn) -> Result<Settled, Memory>
+    ensures { IfOk result (λ s. IsSettled txn s.txn s.cause) }
+{
+    let postings = txn.postings.as_slice();
+    if has_two_missing(postings) {
+        return faulty(alloc, txn, Cause::TwoMissing);
+    }
+    if !costs_fit(postings) {
+        return faulty(alloc, txn, Cause::Range);
+    }
+    match make_plan(alloc, postings) {
+        Ok(plan) => solve(alloc, txn, plan),
+        Err(TallyFault::Range) => faulty(alloc, txn, Cause::Range),
+        Err(TallyFault::Memory) => Err(Memory),
+    }
+}
+
+/// A transaction with what is wrong with it.
+fn faulty(alloc: Global, txn: Txn, cause: Cause) -> Result<Settled, Memory>
+    ensures { IfOk result (λ s. s ≡ record { txn = txn; cause = Some cause }) }
+{
+    let cause = Boxed::new(alloc, cause)?;
+    Ok(Settled {
+        txn,
+        cause: Some(cause),
+    })
+}
+
+/// Puts into a transaction what was found for it, and judges what it moves.
+fn solve(alloc: Global, txn: Txn, plan: Plan) -> Result<Settled, Memory>
+    requires costs { costs_fit txn.postings ≡ true }
+    requires real { misses Real txn.postings ≡ true → plan.real.items ≡ found_values Real txn.postings }
+    requires balanced { misses Balanced txn.postings ≡ true → plan.balanced.items ≡ found_values Balanced txn.postings }
+    requires free { misses Free txn.postings ≡ false }
+    requires recorded { plan.recorded ≡ recorded_cost txn.postings }
+    ensures txn { IfOk result (λ s. s.txn ≡ settled txn) }
+    ensures cause { IfOk result (λ s. s.cause
+        ≡ (if turnover_fits (moved (solved txn.postings)) then plan.cause else Some cause.Range)) }
+{
+    let Txn {
+        line,
+        day,
+        mark,
+        code,
+        description,
+        comment,
+        tags,
+        postings,
+    } = txn;
+    let postings = fill(alloc, postings, &plan)?;
+    let fits = turnover_fits(alloc, postings.as_slice())?;
+    let txn = Txn {
+        line,
+        day,
+        mark,
+        code,
+        description,
+        comment,
+        tags,
+        postings,
+    };
+    if !fits {
+        return faulty(alloc, txn, Cause::Range);
+    }
+    Ok(Settled {
+        txn,
+        cause: plan.cause,
+    })
+}
