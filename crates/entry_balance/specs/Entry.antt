@@ -1,6 +1,6 @@
 -- The balance of one transaction: what its missing amounts and costs are, or why it has none.
-use Rattle.std.specs.Prelude.{ℕ, pos, ◌==◌, nat_lt, count_by, Bool, true, false, not, ◌&&◌, ◌||◌, int_lt, unsigned_abs, max, List, [], ◌∷◌, ◌++◌, map, filter, Option, Some, None, is_some, is_none, Result, Ok, Err, if◌then◌else◌}
-use Rattle.std.specs.List.{flat_map, fold, list_all}
+use Rattle.std.specs.Prelude.{ℕ, pos, ◌==◌, nat_lt, count_by, Bool, true, false, not, ◌&&◌, ◌||◌, int_lt, unsigned_abs, max, List, [], ◌∷◌, ◌++◌, map, filter, Option, Some, None, is_some, is_none, Result, Ok, Err, codes, if◌then◌else◌}
+use Rattle.std.specs.List.{flat_map, fold, find, list_all, list_any}
 use Rattle.std.specs.Str.{bytes_eq}
 use Rattle.hl_num.specs.Decimal.{Decimal, negated}
 use Rattle.hl_num.specs.Rounding.{rounded}
@@ -9,6 +9,7 @@ use Rattle.book.specs.declared.amount.Cost.{Cost}
 use Rattle.book.specs.declared.amount.Cost.TheVariants.{Total}
 use Rattle.book.specs.declared.amount.Written.{Written}
 use Rattle.book.specs.declared.transaction.Posting.{Posting}
+use Rattle.book.specs.declared.transaction.Tag.{Tag}
 use Rattle.book.specs.declared.transaction.Txn.{Txn}
 use Rattle.book.specs.declared.transaction.Side.{Side}
 use Rattle.book.specs.declared.transaction.Side.TheVariants.{Real, Balanced, Free}
@@ -38,6 +39,38 @@ misses side ps = nat_lt 0 (missing_count side ps)
 -- more missing amounts than one real and one balanced virtual one
 abbrev pub has_two_missing : List Posting → Bool
 has_two_missing ps = nat_lt 1 (missing_count Real ps) || nat_lt 1 (missing_count Balanced ps) || misses Free ps
+
+-- ---- assignments
+
+-- a posting without an amount that has an assertion, which its amount is to make true
+abbrev pub is_assignment : Posting → Bool
+is_assignment p = is_none p.amount && is_some p.wanted
+
+abbrev pub has_assignment : List Posting → Bool
+has_assignment ps = list_any is_assignment ps
+
+-- a posting of a side with neither an amount nor an assertion
+abbrev pub is_absent : Side → Posting → Bool
+is_absent side p = is_missing side p && is_none p.wanted
+
+abbrev pub absent_count : Side → List Posting → ℕ
+absent_count side ps = count_by (is_absent side) ps
+
+-- beside assignments more amounts are missing than one real and one balanced virtual one
+abbrev pub lacks_two : List Posting → Bool
+lacks_two ps = nat_lt 1 (absent_count Real ps) || nat_lt 1 (absent_count Balanced ps) || nat_lt 0 (absent_count Free ps)
+
+-- a tag of a posting that is named date, whatever it says
+abbrev pub is_date_tag : Tag → Bool
+is_date_tag tag = bytes_eq tag.name (codes "date")
+
+abbrev pub has_date_tag : Posting → Bool
+has_date_tag p = list_any is_date_tag p.tags
+
+-- what is wrong with a transaction that has an assignment: two missing amounts, or a posting with a day of its own;
+-- other assignments aren't built yet
+abbrev pub assignment_cause : List Posting → Cause
+assignment_cause ps = if lacks_two ps then cause.TwoMissing else (if list_any has_date_tag ps then cause.NotAllowed else cause.NotBuilt)
 
 -- ---- sums
 
@@ -121,10 +154,17 @@ is_of symbol (Some a) = bytes_eq a.symbol symbol
 abbrev pub is_real_of : List ℕ → Posting → Bool
 is_real_of symbol p = same_side Real p.side && is_of symbol p.amount
 
--- among the real postings the second of two symbols stands before the first
+-- a real posting whose amount is of one of two symbols
+abbrev pub is_of_either : List ℕ → List ℕ → Posting → Bool
+is_of_either a b p = is_real_of a p || is_real_of b p
+
+abbrev pub is_not_of : List ℕ → Option Posting → Bool
+is_not_of a None = false
+is_not_of a (Some p) = not (is_real_of a p)
+
+-- the first real posting that has one of two symbols hasn't the first of them
 abbrev pub second_is_first : List ℕ → List ℕ → List Posting → Bool
-second_is_first a b [] = false
-second_is_first a b (p ∷ ps) = if is_real_of a p then false else (if is_real_of b p then true else second_is_first a b ps)
+second_is_first a b ps = is_not_of a (find (is_of_either a b) ps)
 
 -- a symbol, and the total cost that is recorded at the one real posting that has it
 abbrev pub recorded : List ℕ → Value → List Posting → Option (List ℕ × Value)
@@ -230,8 +270,9 @@ unbalanced_by (sum ∷ sums) = Some (cause.Unbalanced sum.0 sum.1)
 -- what is wrong with a transaction, were it alone
 abbrev pub cause_alone : List Posting → Option Cause
 cause_alone ps =
-    if has_two_missing ps then Some cause.TwoMissing
-    else (if fits_alone ps then unbalanced_by (unbalanced_sums ps) else Some cause.Range)
+    if has_assignment ps then Some (assignment_cause ps)
+    else (if has_two_missing ps then Some cause.TwoMissing
+    else (if fits_alone ps then unbalanced_by (unbalanced_sums ps) else Some cause.Range))
 
 abbrev pub with_postings : Txn → List Posting → Txn
 with_postings t ps = record {

@@ -9,6 +9,8 @@ use Rattle.entry_balance.specs.Entry.{settled}
 -- a transaction with this cause has no sums
 abbrev pub lacks_sums : Option Cause → Bool
 lacks_sums (Some cause.TwoMissing) = true
+lacks_sums (Some cause.NotAllowed) = true
+lacks_sums (Some cause.NotBuilt) = true
 lacks_sums (Some cause.Range) = true
 lacks_sums _ = false
 

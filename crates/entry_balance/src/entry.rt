@@ -14,7 +14,7 @@ ghost use Rattle.entry_balance.specs.Tally.{turnover_fits};
 use crate::fault::BalanceFault;
 use crate::fill::fill;
 use crate::plan::{Plan, make_plan};
-use crate::rules::has_two_missing;
+use crate::rules::{assignment_cause, has_assignment, has_two_missing};
 use crate::sums::turnover_fits;
 use crate::tally::TallyFault;
 use crate::value::costs_fit;
@@ -51,6 +51,10 @@ pub fn settle(alloc: Global, txn: Txn) -> Result<Settled, Memory>
     ensures { IfOk result (λ s. IsSettled txn s.txn s.cause) }
 {
     let postings = txn.postings.as_slice();
+    if has_assignment(postings) {
+        let cause = assignment_cause(postings);
+        return faulty(alloc, txn, cause);
+    }
     if has_two_missing(postings) {
         return faulty(alloc, txn, Cause::TwoMissing);
     }

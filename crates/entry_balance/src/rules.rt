@@ -1,15 +1,16 @@
 //! The rules by which sums count as zero, and by which one symbol is exchanged for another.
 ghost use Rattle.std.specs.Prelude.{◌≡◌, ◌++◌, ◌∷◌, [], ◌==◌, ℕ, List, true, false, not, filter, count_by, IfOk, Option, option_map};
+ghost use Rattle.std.specs.List.{list_any};
 ghost use Rattle.std.specs.Str.{bytes_eq};
 ghost use Rattle.entry_balance.specs.Values.{Value, value_of, amount_in};
 ghost use Rattle.entry_balance.specs.Tally.{named, numbers_of};
-ghost use Rattle.entry_balance.specs.Entry.{is_missing, misses, missing_count, has_two_missing, written_amounts, written_cost, written_costs, places_among, precision_of, is_nothing_at, are_opposite, is_positive, is_plain, are_plain, is_of, is_real_of, second_is_first, recorded, recorded_between};
+ghost use Rattle.entry_balance.specs.Entry.{is_assignment, has_assignment, is_absent, absent_count, lacks_two, is_date_tag, has_date_tag, assignment_cause, is_missing, misses, missing_count, has_two_missing, written_amounts, written_cost, written_costs, places_among, precision_of, is_nothing_at, are_opposite, is_positive, is_plain, are_plain, is_of, is_real_of, is_of_either, is_not_of, second_is_first, recorded, recorded_between};
 ghost use Rattle.book.specs.declared.transaction.Side.TheVariants.{Real};
 
 use crate::sums::same_side;
 use crate::tally::Sum;
 use crate::value::absolute;
-use book::{Amount, Cost, Posting, Side};
+use book::{Amount, Cause, Cost, Posting, Side, Tag};
 use hl_base::{Memory, Text};
 use hl_num::Dec;
 use std::alloc::Global;
@@ -45,6 +46,80 @@ pub(crate) fn has_two_missing(postings: &[Posting]) -> bool
     1 < missing(postings, Side::Real)
         || 1 < missing(postings, Side::Balanced)
         || misses(postings, Side::Free)
+}
+
+/// Whether a posting has no amount but an assertion.
+fn is_assignment(posting: &Posting) -> bool
+    ensures { result ≡ is_assignment posting.now }
+{
+    posting.amount.is_none() && posting.wanted.is_some()
+}
+
+/// Whether a posting is an assignment.
+pub(crate) fn has_assignment(postings: &[Posting]) -> bool
+    ensures { result ≡ has_assignment postings.now }
+{
+    postings.iter().any(is_assignment)
+}
+
+/// Whether a posting is of a side and has neither an amount nor an assertion.
+fn is_absent(side: Side, posting: &Posting) -> bool
+    ensures { result ≡ is_absent side posting.now }
+{
+    is_missing(side, posting) && posting.wanted.is_none()
+}
+
+/// How many postings of a side have neither an amount nor an assertion.
+fn absent(postings: &[Posting], side: Side) -> usize
+    ensures { result ≡ absent_count side postings.now }
+{
+    postings
+        .iter()
+        .filter(|posting| is_absent(side, posting))
+        .count()
+}
+
+/// Whether beside assignments more amounts are missing than one real and one balanced virtual one.
+fn lacks_two(postings: &[Posting]) -> bool
+    ensures { result ≡ lacks_two postings.now }
+{
+    1 < absent(postings, Side::Real)
+        || 1 < absent(postings, Side::Balanced)
+        || 0 < absent(postings, Side::Free)
+}
+
+/// Whether a tag is named `date`.
+fn is_date_tag(tag: &Tag) -> bool
+    ensures { result ≡ is_date_tag tag.now }
+{
+    tag.name.as_str() == "date"
+}
+
+/// Whether a posting has a tag named `date`.
+fn has_date_tag(posting: &Posting) -> bool
+    ensures { result ≡ has_date_tag posting.now }
+{
+    posting.tags.as_slice().iter().any(is_date_tag)
+}
+
+/// Whether a posting has a tag named `date`.
+fn has_date_tags(postings: &[Posting]) -> bool
+    ensures { result ≡ list_any has_date_tag postings.now }
+{
+    postings.iter().any(has_date_tag)
+}
+
+/// What is wrong with a transaction that has an assignment.
+pub(crate) fn assignment_cause(postings: &[Posting]) -> Cause
+    ensures { result ≡ assignment_cause postings.now }
+{
+    if lacks_two(postings) {
+        Cause::TwoMissing
+    } else if has_date_tags(postings) {
+        Cause::NotAllowed
+    } else {
+        Cause::NotBuilt
+    }
 }
 
 /// The sums that don't count as zero.
@@ -202,19 +277,23 @@ pub(crate) fn recorded_between(
     }
 }
 
-/// Whether among the real postings the second of two symbols stands before the first.
+/// Whether the first real posting that has one of two symbols hasn't the first of them.
 fn second_is_first(postings: &[Posting], a: &str, b: &str) -> bool
     ensures { result ≡ second_is_first a.now b.now postings.now }
 {
     for posting in postings {
-        if is_real_of(posting, a) {
-            return false;
-        }
-        if is_real_of(posting, b) {
-            return true;
+        if is_of_either(posting, a, b) {
+            return !is_real_of(posting, a);
         }
     }
     false
+}
+
+/// Whether a posting is real and its amount is of one of two symbols.
+fn is_of_either(posting: &Posting, a: &str, b: &str) -> bool
+    ensures { result ≡ is_of_either a.now b.now posting.now }
+{
+    is_real_of(posting, a) || is_real_of(posting, b)
 }
 
 /// Whether a posting is real and its amount is of a symbol.
