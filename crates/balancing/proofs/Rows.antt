@@ -1,5 +1,5 @@
 -- The definitions, run on small texts.
-use Rattle.std.proofs.Common.{◌≡◌, ℕ, ℤ, pos, negsuc, neg_ℤ, true, List, [], ◌∷◌, map, Option, Some, None, Result, Err, refl, codes}
+use Rattle.std.proofs.Common.{◌≡◌, ℕ, ℤ, pos, negsuc, neg_ℤ, Bool, true, false, List, [], ◌∷◌, map, Option, Some, None, Result, Err, refl, codes}
 use Rattle.book.specs.declared.amount.Amount.{Amount}
 use Rattle.book.specs.declared.amount.Cost.{Cost}
 use Rattle.book.specs.declared.amount.Cost.TheVariants.{Unit, Total}
@@ -13,7 +13,8 @@ use Rattle.book.specs.declared.fault.Cause.TheVariants as cause
 use Rattle.book.specs.declared.item.Book.{Book}
 use Rattle.book.specs.Postings.{plain_posting}
 use Rattle.entry_balance.specs.Entry.{plain_amount, solved, cause_alone}
-use Rattle.balancing.specs.Load.{book_of}
+use Rattle.balancing.specs.Groups.{groups_of}
+use Rattle.balancing.specs.Load.{book_of, first_fault}
 
 abbrev amount : ℤ → ℕ → List ℕ → Amount
 amount m places symbol = plain_amount (symbol, record { mantissa = m; places = places })
@@ -92,3 +93,59 @@ moving line day = txn line day (free (pos half) ∷ free (neg_ℤ (pos half)) �
 together : book_of (moving 1 10 ∷ moving 4 9 ∷ []) ≡ Err (record { line = 1; cause = cause.Range })
 unfolding moving
 together = refl
+
+-- ---- assertions
+
+abbrev asserted : Bool → Bool → Amount → Posting → Posting
+asserted only below a p = record p { wanted = Some (record { amount = a; only = only; below = below }) }
+
+abbrev euros : ℤ → Amount
+euros m = amount m 0 (codes "EUR")
+
+abbrev other_side : Posting
+other_side = with Real (codes "b") None None
+
+abbrev fault_of : List Txn → Option Fault
+fault_of txns = first_fault txns [] [] (groups_of txns)
+
+-- `a  1 EUR = 6 EUR` is written before, and happens after `a  5 EUR`
+later_day : fault_of (txn 1 20 (asserted false false (euros (pos 6)) (real (codes "a") (euros (pos 1))) ∷ other_side ∷ []) ∷ txn 3 10 (real (codes "a") (euros (pos 5)) ∷ other_side ∷ []) ∷ []) ≡ None
+later_day = refl
+
+-- `== 5 EUR` where there are 5 EUR and 0 USD, and where there is 1 USD, which `= 5 EUR` bears
+abbrev with_dollars : Bool → ℤ → List Txn
+with_dollars only m = txn 1 10 (with Free (codes "a") (Some (amount m 0 (codes "USD"))) None ∷ asserted only false (euros (pos 5)) (with Free (codes "a") (Some (euros (pos 5))) None) ∷ []) ∷ []
+
+no_dollars : fault_of (with_dollars true (pos 0)) ≡ None
+no_dollars = refl
+
+a_dollar : fault_of (with_dollars true (pos 1)) ≡ Some (record { line = 0; cause = cause.AssertionFailed (euros (pos 5)) (amount (pos 1) 0 (codes "USD")) })
+a_dollar = refl
+
+a_dollar_beside : fault_of (with_dollars false (pos 1)) ≡ None
+a_dollar_beside = refl
+
+-- `=*` counts the accounts below, and not those whose name only begins alike
+abbrev below_of : List ℕ → Bool → List Txn
+below_of account below = txn 1 10 (with Free account (Some (euros (pos 2))) None ∷ asserted false below (euros (pos 3)) (with Free (codes "a") (Some (euros (pos 1))) None) ∷ []) ∷ []
+
+below_it : fault_of (below_of (codes "a:b") true) ≡ None
+below_it = refl
+
+not_below_it : fault_of (below_of (codes "ab") true) ≡ Some (record { line = 0; cause = cause.AssertionFailed (euros (pos 3)) (euros (pos 1)) })
+not_below_it = refl
+
+it_alone : fault_of (below_of (codes "a:b") false) ≡ Some (record { line = 0; cause = cause.AssertionFailed (euros (pos 3)) (euros (pos 1)) })
+it_alone = refl
+
+-- ---- assignments
+
+abbrev assignment : Posting
+assignment = asserted false false (euros (pos 100)) (with Real (codes "a") None None)
+
+-- an assignment beside two missing amounts, and beside a posting that has a tag named date
+two_beside : cause_alone (assignment ∷ other_side ∷ other_side ∷ []) ≡ Some cause.TwoMissing
+two_beside = refl
+
+beside_a_date : cause_alone (assignment ∷ record other_side { tags = record { name = codes "date"; value = [] } ∷ [] } ∷ []) ≡ Some cause.NotAllowed
+beside_a_date = refl

@@ -13,7 +13,7 @@ use Rattle.book.specs.Order.{each_once}
 use Rattle.entry_balance.specs.Values.{Value}
 use Rattle.entry_balance.specs.Tally.{turnover_fits}
 use Rattle.entry_balance.specs.Turnover.{IsTurnover}
-use Rattle.entry_balance.specs.Entry.{cause_alone, has_two_missing, costs_fit, moved_by, moved}
+use Rattle.entry_balance.specs.Entry.{cause_alone, has_assignment, has_two_missing, costs_fit, moved_by, moved}
 use Rattle.balancing.specs.Groups.{Group, group_cmp, groups_by, groups_from, day_of}
 use Rattle.balancing.specs.Assertions.{or_else_fault, first_failure, postings_on}
 use Rattle.balancing.specs.Claims.{AreClaimed}
@@ -23,7 +23,7 @@ use Rattle.entry_balance.specs.Entry.{settled}
 use Rattle.entry_balance.specs.Settled.{lacks_sums, IsSettled, AreSettled}
 use Rattle.balancing.specs.Walk.{IsRead, IsJudged, IsVisited, IsPassed, IsWalked, IsTold, moved_before, answer_of_group, group_in}
 use Rattle.entry_balance.proofs.Adding.{turnover_none, turnover_within}
-use Rattle.entry_balance.proofs.Causes.{cause_two, cause_costs}
+use Rattle.entry_balance.proofs.Causes.{cause_assigned, assigned_lacks, cause_two, cause_costs}
 use Rattle.entry_balance.proofs.Covers.{solved_costs_fit}
 
 -- ---- settled transactions by their numbers
@@ -63,11 +63,14 @@ settled-push (z ∷ ws) (x ∷ ts) (y ∷ cs) w t c h k = (h.0, settled-push ws 
 -- a transaction that has sums has costs that can be told
 costs-from_sums : (ps : List Posting) → lacks_sums (cause_alone ps) ≡ false → costs_fit ps ≡ true
 costs-from_sums ps h =
-    elim (has_two_missing ps) as (λ a. has_two_missing ps ≡ a → costs_fit ps ≡ true) [
-      | true ↦ λ two. absurd (false≢true (sym h ∙ ap lacks_sums (cause_two ps two)))
-      | false ↦ λ two. elim (costs_fit ps) as (λ b. costs_fit ps ≡ b → b ≡ true) [
-        | true ↦ λ costs. refl
-        | false ↦ λ costs. absurd (false≢true (sym h ∙ ap lacks_sums (cause_costs ps two costs)))
+    elim (has_assignment ps) as (λ o. has_assignment ps ≡ o → costs_fit ps ≡ true) [
+      | true ↦ λ one. absurd (false≢true (sym h ∙ ap lacks_sums (cause_assigned ps one) ∙ assigned_lacks ps))
+      | false ↦ λ none. elim (has_two_missing ps) as (λ a. has_two_missing ps ≡ a → costs_fit ps ≡ true) [
+        | true ↦ λ two. absurd (false≢true (sym h ∙ ap lacks_sums (cause_two ps none two)))
+        | false ↦ λ two. elim (costs_fit ps) as (λ b. costs_fit ps ≡ b → b ≡ true) [
+          | true ↦ λ costs. refl
+          | false ↦ λ costs. absurd (false≢true (sym h ∙ ap lacks_sums (cause_costs ps none two costs)))
+        ] refl
       ] refl
     ] refl
 
@@ -79,6 +82,8 @@ costs_known w t c h sums =
 -- what a transaction without sums is told doesn't rest on turnover
 lacks_alike : (c : Option Cause) (a b : Bool) → lacks_sums c ≡ true → group_cause a c ≡ group_cause b c
 lacks_alike (Some cause.TwoMissing) a b h = refl
+lacks_alike (Some cause.NotAllowed) a b h = refl
+lacks_alike (Some cause.NotBuilt) a b h = refl
 lacks_alike (Some cause.Range) true true h = refl
 lacks_alike (Some cause.Range) true false h = refl
 lacks_alike (Some cause.Range) false true h = refl
@@ -87,6 +92,8 @@ lacks_alike _ a b h = absurd (false≢true h)
 
 pub lacks_told : (line : ℕ) (c : Option Cause) (a : Bool) → lacks_sums c ≡ true → fault_at line (group_cause a c) ≡ None → ⊥
 lacks_told line (Some cause.TwoMissing) a h e = let never : ⊥ = cc in never
+lacks_told line (Some cause.NotAllowed) a h e = let never : ⊥ = cc in never
+lacks_told line (Some cause.NotBuilt) a h e = let never : ⊥ = cc in never
 lacks_told line (Some cause.Range) true h e = let never : ⊥ = cc in never
 lacks_told line (Some cause.Range) false h e = let never : ⊥ = cc in never
 lacks_told line _ a h e = absurd (false≢true h)

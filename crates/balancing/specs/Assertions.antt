@@ -1,6 +1,6 @@
 -- Assertions: what accounts hold, and which assertion fails.
-use Rattle.std.specs.Prelude.{ℕ, ◌==◌, Bool, true, false, not, ◌&&◌, List, [], ◌∷◌, ◌++◌, filter, Option, Some, None, is_some, is_none, ◌≡◌, if◌then◌else◌}
-use Rattle.std.specs.List.{flat_map, list_all}
+use Rattle.std.specs.Prelude.{ℕ, ◌==◌, Bool, true, false, not, ◌&&◌, List, [], ◌∷◌, ◌++◌, filter, Option, Some, None, if◌then◌else◌}
+use Rattle.std.specs.List.{flat_map}
 use Rattle.std.specs.Str.{bytes_eq}
 use Rattle.std.specs.Ordering.{is_eq, int_cmp}
 use Rattle.hl_num.specs.Decimal.{Decimal, units_of}
@@ -8,8 +8,6 @@ use Rattle.book.specs.declared.amount.Amount.{Amount}
 use Rattle.book.specs.declared.amount.Assertion.{Assertion}
 use Rattle.book.specs.declared.transaction.Posting.{Posting}
 use Rattle.book.specs.declared.transaction.Txn.{Txn}
-use Rattle.book.specs.declared.item.Placed.{Placed}
-use Rattle.book.specs.Postings.{postings_of, txns_of}
 use Rattle.book.specs.declared.fault.Fault.{Fault}
 use Rattle.book.specs.declared.fault.Cause.TheVariants as cause
 use Rattle.entry_balance.specs.Values.{Value, value_of}
@@ -82,13 +80,3 @@ first_failure before (p ∷ ps) = or_else_fault (failure_of (before ++ p ∷ [])
 -- the postings of a transaction's group on a day
 abbrev pub postings_on : ℕ → Txn → List Posting
 postings_on day t = filter (λ p. day_of t p == day) t.postings
-
--- ---- assignments
-
--- a posting without an amount that has an assertion
-abbrev pub is_assignment : Posting → Bool
-is_assignment p = is_none p.amount && is_some p.wanted
-
--- No posting of some items is an assignment.
-abbrev pub HasNoAssignments : List Placed → Type 0
-HasNoAssignments items = list_all (λ p. not (is_assignment p)) (postings_of (txns_of items)) ≡ true

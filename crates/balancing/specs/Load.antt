@@ -23,10 +23,12 @@ moved_when day t p = if day_of t p == day then moved_by p else []
 abbrev pub moved_on : ℕ → Txn → List Value
 moved_on day t = flat_map (moved_when day t) t.postings
 
--- what is wrong with a group after others that moved so much: two missing amounts before all; then a turnover that
--- is out of range; then what is wrong with its transaction
+-- what is wrong with a group after others that moved so much: two missing amounts and assignments that can't be made
+-- before all; then a turnover that is out of range; then what is wrong with its transaction
 abbrev pub group_cause : Bool → Option Cause → Option Cause
 group_cause fits (Some cause.TwoMissing) = Some cause.TwoMissing
+group_cause fits (Some cause.NotAllowed) = Some cause.NotAllowed
+group_cause fits (Some cause.NotBuilt) = Some cause.NotBuilt
 group_cause true alone = alone
 group_cause false alone = Some cause.Range
 

@@ -44,7 +44,10 @@ fn lacks_sums(cause: &Option<Boxed<Cause>>) -> bool
     ensures { result ≡ lacks_sums cause.now }
 {
     match cause {
-        Some(cause) => matches!(cause.get(), Cause::TwoMissing | Cause::Range),
+        Some(cause) => matches!(
+            cause.get(),
+            Cause::TwoMissing | Cause::NotAllowed | Cause::NotBuilt | Cause::Range
+        ),
         None => false,
     }
 }

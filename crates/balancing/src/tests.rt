@@ -1,12 +1,8 @@
 //! Worked texts.
-ghost use Rattle.std.specs.Prelude.{◌≡◌, IfOk};
-ghost use Rattle.std.specs.List.{AllByRecursion};
-ghost use Rattle.book.specs.Assertions.{HasNoAssertion};
-ghost use Rattle.book.specs.Postings.{postings_of, txn_in};
-ghost use Rattle.book.specs.declared.item.Item.TheVariants as item;
-
 use crate::{CheckFault, check};
-use book::{Amount, Boxed, Cause, Cost, Item, Mark, Placed, Posting, Side, Txn, Written};
+use book::{
+    Amount, Assertion, Boxed, Cause, Cost, Item, Mark, Placed, Posting, Side, Txn, Written,
+};
 use hl_base::{Kind, List, Memory, Piece, Text};
 use hl_num::Dec;
 use hl_time::Day;
@@ -32,18 +28,14 @@ fn amount(alloc: Global, mantissa: i128, places: u8, symbol: &str) -> Result<Amo
     }
 }
 
-fn posting(alloc: Global, side: Side, amount: Option<Amount>) -> Result<Posting, Memory>
-    ensures { IfOk result HasNoAssertion }
-{
+fn posting(alloc: Global, side: Side, amount: Option<Amount>) -> Result<Posting, Memory> {
     let account = Text::copied(alloc, "a")?;
     let mut posting = Posting::plain(alloc, 1, side, account);
     posting.amount = amount;
     Ok(posting)
 }
 
-fn txn(alloc: Global, line: u64, day: u32, postings: Vec<Posting>) -> Txn
-    ensures { result.postings ≡ postings.items }
-{
+fn txn(alloc: Global, line: u64, day: u32, postings: Vec<Posting>) -> Txn {
     Txn {
         line,
         day: Day(day),
@@ -57,9 +49,7 @@ fn txn(alloc: Global, line: u64, day: u32, postings: Vec<Posting>) -> Txn
 }
 
 /// `10 A @ 0.3335 EUR` against an amount of cents.
-fn shares(alloc: Global, cents: i128) -> Result<Txn, Memory>
-    ensures { IfOk result (λ t. AllByRecursion HasNoAssertion t.postings) }
-{
+fn shares(alloc: Global, cents: i128) -> Result<Txn, Memory> {
     let mut first = posting(alloc, Side::Real, Some(amount(alloc, 10, 0, "A")?))?;
     first.cost = Some(Boxed::new(alloc, Cost::Unit(amount(alloc, 3335, 4, "EUR")?))?);
     let second = posting(alloc, Side::Real, Some(amount(alloc, cents, 2, "EUR")?))?;
@@ -77,9 +67,7 @@ fn sum_in(cause: &Cause) -> Option<i128> {
     }
 }
 
-fn placed(txn: Txn) -> Placed
-    ensures { result.item ≡ item.Txn txn }
-{
+fn placed(txn: Txn) -> Placed {
     Placed {
         piece: Piece {
             at: 0,
@@ -92,9 +80,7 @@ fn placed(txn: Txn) -> Placed
 }
 
 /// An entry of that line and day.
-fn entry(alloc: Global, line: u64, day: u32, cents: i128) -> Result<Placed, Memory>
-    ensures { IfOk result (λ p. AllByRecursion HasNoAssertion (postings_of (txn_in p.item))) }
-{
+fn entry(alloc: Global, line: u64, day: u32, cents: i128) -> Result<Placed, Memory> {
     let mut txn = shares(alloc, cents)?;
     txn.line = line;
     txn.day = Day(day);
@@ -115,5 +101,51 @@ fn names_the_first_fault_by_day(rt: HostRuntime) -> Result<(), Fail> {
         Err(CheckFault::Memory) => assert!(rt; false),
         Ok(_book) => assert!(rt; false),
     }
+    Ok(())
+}
+
+/// `(a)  1 USD` and then `(a)  5 EUR` with the assertion of 5 EUR, in one entry.
+fn dollar_and_euros(alloc: Global, only: bool) -> Result<Placed, Memory> {
+    let first = posting(alloc, Side::Free, Some(amount(alloc, 1, 0, "USD")?))?;
+    let mut second = posting(alloc, Side::Free, Some(amount(alloc, 5, 0, "EUR")?))?;
+    let wanted = Assertion {
+        amount: amount(alloc, 5, 0, "EUR")?,
+        only,
+        below: false,
+    };
+    second.wanted = Some(Boxed::new(alloc, wanted)?);
+    let mut postings = Vec::new(alloc);
+    postings.push(first)?;
+    postings.push(second)?;
+    Ok(placed(txn(alloc, 1, 10, postings)))
+}
+
+/// The symbol that is found in place of what an assertion wants.
+fn found_in(cause: &Cause) -> Option<&str> {
+    match cause {
+        Cause::AssertionFailed { wanted: _, found } => Some(found.symbol.as_str()),
+        _ => None,
+    }
+}
+
+#[test]
+fn tells_what_else_is_there(rt: HostRuntime) -> Result<(), Fail> {
+    let alloc = rt.alloc();
+    let mut items = Vec::new(alloc);
+    items.push(dollar_and_euros(alloc, true)?)?;
+    match check(alloc, List::from_vec(items)) {
+        Err(CheckFault::Journal(fault)) => assert_eq!(rt; found_in(&fault.cause), Some("USD")),
+        Err(CheckFault::Memory) => assert!(rt; false),
+        Ok(_book) => assert!(rt; false),
+    }
+    Ok(())
+}
+
+#[test]
+fn bears_what_else_is_there(rt: HostRuntime) -> Result<(), Fail> {
+    let alloc = rt.alloc();
+    let mut items = Vec::new(alloc);
+    items.push(dollar_and_euros(alloc, false)?)?;
+    assert!(rt; check(alloc, List::from_vec(items)).is_ok());
     Ok(())
 }

@@ -8,7 +8,6 @@ ghost use Rattle.book.specs.declared.transaction.Posting.{Posting};
 ghost use Rattle.book.specs.declared.transaction.Txn.{Txn};
 ghost use Rattle.entry_balance.specs.Entry.{moved};
 ghost use Rattle.entry_balance.specs.Tally.{turnover_fits};
-ghost use Rattle.balancing.specs.Assertions.{HasNoAssignments};
 ghost use Rattle.balancing.specs.Check.{cause_in};
 ghost use Rattle.balancing.specs.Claims.{AreClaimed};
 ghost use Rattle.balancing.specs.Groups.{Group};
@@ -31,10 +30,10 @@ use std::alloc::Global;
 
 /// The book of a text's items: its transactions in their order, each balanced. Else the fault of the first group, by
 /// day and then by transaction, that has one, a group being the postings of one transaction on one day: two missing
-/// amounts; a turnover through this group of 2^127 or more in some symbol; or sums that aren't zero. The line is that
-/// of the transaction's head.
+/// amounts, or an assignment that can't be made; a turnover through this group of 2^127 or more in some symbol; sums
+/// that aren't zero; or an assertion that fails just after its posting. The line is that of the posting for an
+/// assertion, and else that of the transaction's head.
 pub fn check(alloc: Global, items: Items) -> Result<Book, CheckFault>
-    requires { HasNoAssignments items }
     ensures answer { Gives (λ book. book) cause_in result (load items) }
     ensures fits { IfOk result (λ book. TurnoverFits (postings_of book.txns)) }
 {

@@ -33,10 +33,12 @@ returns-in-Err-clause-range c = λ is values h.
     let name = c.args.account.now in
     let v : Value = (c.args.symbol.now, c.args.value) in
     let n = c.loop-at.at in
-    let root = take n name in
-    (root, part-under name n c.loop-at-test.true c.if-account-at-eq58.true,
-    ap (λ (vs : List Value). turnover_fits (vs ++ v ∷ [])) (sym (above-past values name v root n (let cut = part-length name n c.loop-at-test.true in omega (arith, cut))))
-    ∙ c.in-Err.ensures.range is (and_above n values name v) (c.loop-at.invariant.kept values h))
+    let root = take n name in (
+      root,
+      part-under name n c.loop-at-test.true c.if-account-at-eq58.true,
+      ap (λ (vs : List Value). turnover_fits (vs ++ v ∷ [])) (sym (above-past values name v root n (let cut = part-length name n c.loop-at-test.true in omega (arith, cut))))
+          ∙ c.in-Err.ensures.range is (and_above n values name v) (c.loop-at.invariant.kept values h),
+    )
 
 pub returns-clause-ok : goal.returns-clause-ok
 returns-clause-ok c = on_ok c.add-2.result (λ ok values h.
@@ -50,8 +52,10 @@ pub returns-clause-range : goal.returns-clause-range
 returns-clause-range c = if_err _ _ c.add-2.result (λ e told is values h.
     let name = c.args.account.now in
     let v : Value = (c.args.symbol.now, c.args.value) in
-    let all : c.loop-at.at ≤ length name = omega arith in
-    (name, under-itself name,
-    ap (λ (vs : List Value). turnover_fits (vs ++ v ∷ [])) (sym (above-past values name v name c.loop-at.at all))
-    ∙ told is (and_above c.loop-at.at values name v) (c.loop-at.invariant.kept values h)))
+    let all : c.loop-at.at ≤ length name = omega arith in (
+      name,
+      under-itself name,
+      ap (λ (vs : List Value). turnover_fits (vs ++ v ∷ [])) (sym (above-past values name v name c.loop-at.at all))
+          ∙ told is (and_above c.loop-at.at values name v) (c.loop-at.invariant.kept values h),
+    ))
     c.add-2.ensures.range

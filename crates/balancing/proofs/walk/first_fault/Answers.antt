@@ -19,9 +19,12 @@ loop-group-preserved c =
     let none : c.in_ok-fault.fault ≡ None = none-from c.in_ok-fault.fault is_none in
     record {
       walked = λ written h.
-          let w = c.loop-group.invariant.walked written h in
-          (_, _, walk_more written c.args.groups.now w.0 w.1 _ _ _ c.loop-group.group-index _ c.loop-group-test.true (get_or_default c.args.groups.now c.loop-group.group-index _ _ c.loop-group-test.true) w.2 _ _ _ c.in_ok-fault.fault
-          (c.in_ok-fault.ensures.passed written w.0 w.1 h w.2.turnover w.2.moves w.2.balance c.loop-group.invariant.asked) none);
+          let w = c.loop-group.invariant.walked written h in (
+            _,
+            _,
+            walk_more written c.args.groups.now w.0 w.1 _ _ _ c.loop-group.group-index _ c.loop-group-test.true (get_or_default c.args.groups.now c.loop-group.group-index _ _ c.loop-group-test.true) w.2 _ _ _ c.in_ok-fault.fault
+                (c.in_ok-fault.ensures.passed written w.0 w.1 h w.2.turnover w.2.moves w.2.balance c.loop-group.invariant.asked) none,
+          );
       asked = are_asked_same c.loop-group.balances.own c.loop-group.balances.below c.pass.new.balances.own c.pass.new.balances.below c.args.txns.now (c.in_ok-fault.ensures.own none) (c.in_ok-fault.ensures.below none) c.loop-group.invariant.asked;
     }
 
