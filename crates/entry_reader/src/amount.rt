@@ -1,10 +1,11 @@
 //! Reads amounts and their costs.
-ghost use Rattle.std.specs.Prelude.{◌≡◌, true, if◌then◌else◌, Err, ◌<◌, ◌≤◌, nat_lt, length, IfOk, drop};
+ghost use Rattle.std.specs.Prelude.{◌≡◌, ◌==◌, ◌||◌, true, if◌then◌else◌, Err, ◌<◌, ◌≤◌, nat_lt, length, IfOk, drop};
 ghost use Rattle.std.specs.Str.{is_utf8};
 ghost use Rattle.hl_base.specs.Gives.{Gives};
 ghost use Rattle.hl_num.specs.Reading.{reading};
 ghost use Rattle.entry_reader.specs.Causes.{cause_in, fault_at};
 ghost use Rattle.entry_reader.specs.Amounts as spec;
+ghost use Rattle.entry_reader.specs.Lines.{first_is};
 ghost use Rattle.book.specs.declared.fault.Cause.TheVariants.{Encoding};
 
 use crate::context::Context;
@@ -192,6 +193,16 @@ fn unit_mark(text: &[u8]) -> usize
     }
 }
 
+/// Whether a text may begin with the mark of a cost.
+fn may_begin_cost(text: &[u8]) -> bool
+    ensures { result ≡ first_is (λ b. (b == 64) || (b == 40)) text.now }
+{
+    match text {
+        [] => false,
+        [first, ..] => *first == b'@' || *first == b'(',
+    }
+}
+
 /// The cost that a text begins with, if any, and what follows it and white space.
 #[tactic(auto, unfolding(crate::specs::Amounts::cost_at))]
 pub fn cost_at<'a>(
@@ -204,6 +215,9 @@ pub fn cost_at<'a>(
     ensures value { Gives (λ x. (x.0, x.1.now)) cause_in result (spec.cost_at context.now line text.now) }
     ensures utf8 { IfOk result (λ x. is_utf8 x.1.now ≡ true) }
 {
+    if !may_begin_cost(text) {
+        return Ok((None, text));
+    }
     let total = total_mark(text);
     if 0 < total {
         let (_, behind) = text.split_at(total);

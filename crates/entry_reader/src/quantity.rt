@@ -161,6 +161,7 @@ fn read_quantity<'a>(
 }
 
 /// The cost behind a quantity that is written, if any, and what follows it.
+#[inline(always)]
 fn read_cost<'a>(
     alloc: Global,
     is_written: bool,
