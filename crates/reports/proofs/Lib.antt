@@ -1,3 +1,4 @@
+pub mod AccountLists
 pub mod Final
 pub mod Holding
 pub mod Reading
