@@ -1,0 +1,2 @@
+pub mod AnyYear
+pub mod Styled
