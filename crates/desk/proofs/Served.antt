@@ -24,9 +24,9 @@ use Rattle.desk.specs.declared.request.Request.{Request}
 use Rattle.desk.specs.declared.request.Request.TheVariants as request
 use Rattle.desk.specs.declared.reply.Reply.{Reply}
 use Rattle.desk.specs.declared.reply.Reply.TheVariants as reply
-use Rattle.desk.specs.declared.reply.WordsFault.{WordsFault}
+use Rattle.report_commands.specs.declared.fault.WordsFault.{WordsFault}
 use Rattle.desk.specs.Desks.{Serves, state_of}
-use Rattle.desk.specs.Reports.{report_over}
+use Rattle.desk.specs.Reports.{words_over}
 use Rattle.desk.specs.States.{Answer, State, answer_to, as_reply, change_of, covers, edit_answer, edited_state, forbidden, image_of, is_due, journal_of, last_revision, no_room, or_done, record_size, report_reply, stays, unaccepted, unchanged}
 use Rattle.desk.specs.Steps.{edit_in, is_done}
 use Rattle.desk.proofs.Still.{still}
@@ -50,10 +50,10 @@ not_done revision (Ok bytes) = refl
 not_done revision (Err fault) = refl
 
 pub reported : {D : Type 0} {g : Ghosts D} (desk : Desk D g) (q : Request) (words : List (List ℕ)) (r : Reply) → q ≡ request.Report words
-    → (r ≡ reply.Memory) ⊎ (r ≡ report_reply desk.live.revision (report_over None desk.live.text words)) → Serves (answer_to (state_of desk) q) (edit_in q) desk r desk
+    → (r ≡ reply.Memory) ⊎ (r ≡ report_reply desk.live.revision (words_over None desk.live.text words)) → Serves (answer_to (state_of desk) q) (edit_in q) desk r desk
 unfolding answer_to
 reported desk q words r is h =
-    subst (λ (x : Request). Serves (answer_to (state_of desk) x) (edit_in x) desk r desk) (sym is) (either_reply None desk _ r (not_done desk.live.revision (report_over None desk.live.text words)) h)
+    subst (λ (x : Request). Serves (answer_to (state_of desk) x) (edit_in x) desk r desk) (sym is) (either_reply None desk _ r (not_done desk.live.revision (words_over None desk.live.text words)) h)
 
 pub downloaded : {D : Type 0} {g : Ghosts D} (desk : Desk D g) (q : Request) (r : Reply) → q ≡ request.Download
     → (r ≡ reply.Memory) ⊎ (r ≡ reply.Text desk.live.revision desk.live.text) → Serves (answer_to (state_of desk) q) (edit_in q) desk r desk

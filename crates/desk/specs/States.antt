@@ -21,8 +21,8 @@ use Rattle.desk.specs.declared.request.Request.{Request}
 use Rattle.desk.specs.declared.request.Request.TheVariants as request
 use Rattle.desk.specs.declared.reply.Reply.{Reply}
 use Rattle.desk.specs.declared.reply.Reply.TheVariants as reply
-use Rattle.desk.specs.declared.reply.WordsFault.{WordsFault}
-use Rattle.desk.specs.Reports.{report_over}
+use Rattle.report_commands.specs.declared.fault.WordsFault.{WordsFault}
+use Rattle.desk.specs.Reports.{words_over}
 
 -- the text, the states of its imports, its revision, what is allowed, and the size of the store and its limit
 pub record State : Type 0 where
@@ -145,7 +145,7 @@ report_reply revision (Err fault) = reply.Words fault
 
 -- What a request is answered, and the state after it.
 unfoldable pub answer_to : State → Request → Answer
-answer_to s (request.Report words) = stays s (report_reply s.revision (report_over None s.text words))
+answer_to s (request.Report words) = stays s (report_reply s.revision (words_over None s.text words))
 answer_to s request.Download = stays s (reply.Text s.revision s.text)
 answer_to s (request.Add entry) = edit_answer s allow.Add (edit.Add entry)
 answer_to s (request.Change base item entry) = edit_answer s allow.Edit (edit.Change base item entry)

@@ -15,6 +15,6 @@ mod tests;
 
 pub use desk::Desk;
 pub use fault::DeskFault;
-pub use reply::{Reply, WordsFault};
+pub use reply::Reply;
 pub use report::report_text;
 pub use request::{Allow, Request};

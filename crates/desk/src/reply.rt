@@ -1,30 +1,8 @@
 //! What the machine replies.
-ghost use Rattle.std.specs.Prelude.{◌≡◌};
-ghost use Rattle.desk.specs.declared.reply.WordsFault.TheVariants as words_fault;
-
 use crate::request::Allow;
 use book::Fault;
-use hl_base::{Bytes, Text};
-
-/// What is wrong with the words of a report. The faults of words that aren't built yet, as of query terms and of
-/// options with values, come with them.
-#[derive(Debug, Drop)]
-pub enum WordsFault {
-    /// The first word is no report; the empty text where there is no word.
-    NoCommand { word: Text },
-    /// A later word has no place.
-    BadOption { word: Text },
-    /// Memory ran out.
-    Memory,
-}
-
-impl From<hl_base::Memory> for WordsFault {
-    ghost from_gives = { λ _ e. e ≡ words_fault.Memory };
-
-    fn from(_memory: hl_base::Memory) -> WordsFault {
-        WordsFault::Memory
-    }
-}
+use hl_base::Bytes;
+use report_commands::WordsFault;
 
 /// What the machine replies. The reply to a faulty import comes with the import.
 #[derive(Debug, Drop)]

@@ -6,13 +6,14 @@ ghost use Rattle.desk.specs.Steps as spec;
 
 use crate::desk::Desk;
 use crate::keep::{Unkept, is_due, keep};
-use crate::reply::{Reply, WordsFault};
+use crate::reply::Reply;
 use crate::report::report_text;
 use crate::request::{Allow, Request};
 use crate::sizes::{change_of, record_size, whole_size};
 use hl_base::{Bytes, Disk, Memory, Steps, Text};
 use hl_time::Day;
 use live_journal::{Edit, EditFault, Plan};
+use report_commands::WordsFault;
 use std::alloc::Global;
 use std::sync::ledger::Ledger;
 use text_store::Change;
@@ -26,7 +27,7 @@ impl<D: Disk> Desk<D> {
     ghost use Rattle.live_journal.specs.Refusals.{planned};
     ghost use Rattle.desk.specs.Desks.{IsServed, Serves, counts_of, state_of};
     ghost use Rattle.desk.specs.Keeping.{room_size};
-    ghost use Rattle.desk.specs.Reports.{report_over};
+    ghost use Rattle.desk.specs.Reports.{words_over};
     ghost use Rattle.desk.specs.Steps.{counted};
 
     /// Answers a request that comes on a day. It is one step of the machine. An edit is refused by the first of these
@@ -98,7 +99,7 @@ impl<D: Disk> Desk<D> {
         day: Day,
         steps: &mut Steps<L>,
     ) -> Reply
-        ensures { (result ≡ Reply.Memory) ⊎ (result ≡ state.report_reply self.now.live.revision (report_over None self.now.live.text words.now)) }
+        ensures { (result ≡ Reply.Memory) ⊎ (result ≡ state.report_reply self.now.live.revision (words_over None self.now.live.text words.now)) }
     {
         match report_text(alloc, &self.live, words, day, steps) {
             Ok(bytes) => Reply::Text {

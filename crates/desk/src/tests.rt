@@ -1,10 +1,11 @@
 //! Requests to a machine over disks in memory, with the replies that they must have, worked out by hand.
 ghost use Rattle.std.specs.Prelude.{◌≡◌};
 
-use crate::{Allow, Desk, Reply, Request, WordsFault, report_text};
+use crate::{Allow, Desk, Reply, Request, report_text};
 use hl_base::{Bytes, List, MemDisk, Memory, Steps, Text};
 use hl_time::Day;
 use live_journal::Live;
+use report_commands::WordsFault;
 use std::alloc::Global;
 use std::marker::Brand;
 use std::sync::ledger::{Blank, Ledger};
