@@ -11,7 +11,8 @@ use Rattle.matchit.specs.Seek.{own, step, or_else, seek, first, param_step, has_
 use Rattle.matchit.specs.Router.{RouteOf}
 use Rattle.web_desk.specs.Paths.{resource_at, found_at, FindsEach, literal_route}
 use Rattle.web_desk.specs.declared.resource.Resource.{Resource}
-use Rattle.web_desk.specs.declared.resource.Resource.TheVariants.{Balance, Download, Add}
+use Rattle.web_desk.specs.declared.resource.Resource.TheVariants.{Report, Download, Add}
+use Rattle.report_commands.specs.declared.command.Command.TheVariants.{Balance, Print, Accounts}
 
 -- each route is made of bytes alone
 abbrev pub AreLiteral : {K : Type 0} → RowsOf K → Type 0
@@ -93,39 +94,43 @@ same_flip (x ∷ a) (y ∷ b) =
     rw (e, same_flip a b) refl
 
 -- the routes of a connection, in the order of the router
-abbrev pub three_routes : RowsOf (RouteOf Resource)
-three_routes =
-    (codes "/add", literal_route (codes "/add") Add)
-    ∷ (codes "/balance", literal_route (codes "/balance") Balance)
+abbrev pub all_routes : RowsOf (RouteOf Resource)
+all_routes =
+    (codes "/accounts", literal_route (codes "/accounts") (Report Accounts))
+    ∷ (codes "/add", literal_route (codes "/add") Add)
+    ∷ (codes "/balance", literal_route (codes "/balance") (Report Balance))
     ∷ (codes "/download", literal_route (codes "/download") Download)
+    ∷ (codes "/journal", literal_route (codes "/journal") (Report Print))
     ∷ []
 
--- this path finds among the three routes what it names
+-- this path finds among the routes what it names
 abbrev FindsAt : List ℕ → Type 0
-FindsAt path = found_at (lookup path three_routes) ≡ resource_at path
+FindsAt path = found_at (lookup path all_routes) ≡ resource_at path
+
+-- where a path is this text it finds what it names, else by what else holds
+by_text : (path text : List ℕ) → FindsAt text → (bytes_eq path text ≡ false → FindsAt path) → FindsAt path
+by_text path text here other = by (bytes_eq path text) refl
+  where
+    by : (v : Bool) → bytes_eq path text ≡ v → FindsAt path
+    by true e = subst FindsAt (sym ((bytes_eq-Decides path text).0 e)) here
+    by false e = other e
 
 lookup_finds : (path : List ℕ) → FindsAt path
-lookup_finds path = first_case (bytes_eq path (codes "/balance")) refl
-  where
-    last_case : (v : Bool) → bytes_eq path (codes "/add") ≡ v → bytes_eq path (codes "/balance") ≡ false → bytes_eq path (codes "/download") ≡ false → FindsAt path
-    last_case true e n m = subst FindsAt (sym ((bytes_eq-Decides path (codes "/add")).0 e)) refl
-    last_case false e n m = rw (same_flip (codes "/add") path, same_flip (codes "/balance") path, same_flip (codes "/download") path, e, n, m) refl
+lookup_finds path =
+    by_text path (codes "/balance") refl (λ no_balance.
+    by_text path (codes "/journal") refl (λ no_journal.
+    by_text path (codes "/accounts") refl (λ no_accounts.
+    by_text path (codes "/download") refl (λ no_download.
+    by_text path (codes "/add") refl (λ no_add.
+    rw (same_flip (codes "/accounts") path, same_flip (codes "/add") path, same_flip (codes "/balance") path, same_flip (codes "/download") path, same_flip (codes "/journal") path, no_balance, no_journal, no_accounts, no_download, no_add) refl)))))
 
-    next_case : (v : Bool) → bytes_eq path (codes "/download") ≡ v → bytes_eq path (codes "/balance") ≡ false → FindsAt path
-    next_case true e n = subst FindsAt (sym ((bytes_eq-Decides path (codes "/download")).0 e)) refl
-    next_case false e n = last_case (bytes_eq path (codes "/add")) refl n e
+-- none of them has a parameter
+all_literal : AreLiteral all_routes
+all_literal = search rules
 
-    first_case : (v : Bool) → bytes_eq path (codes "/balance") ≡ v → FindsAt path
-    first_case true e = subst FindsAt (sym ((bytes_eq-Decides path (codes "/balance")).0 e)) refl
-    first_case false e = next_case (bytes_eq path (codes "/download")) refl e
-
--- none of the three has a parameter
-three_literal : AreLiteral three_routes
-three_literal = search rules
-
--- Each path finds among the three routes what it names.
-pub three_find : FindsEach three_routes
-three_find path = ap found_at (first_literal three_routes path three_literal) ∙ lookup_finds path
+-- Each path finds among the routes what it names.
+pub each_found : FindsEach all_routes
+each_found path = ap found_at (first_literal all_routes path all_literal) ∙ lookup_finds path
 
 -- each byte is ASCII
 abbrev AreAscii : List ℕ → Type 0
@@ -141,7 +146,7 @@ ascii_at (b ∷ rest) h (suc i) = ascii_at rest h.1 i
 -- Bytes that are no text lead nowhere.
 pub no_text : (path : List ℕ) → (IsUtf8 path → ⊥) → None ≡ resource_at path
 no_text path h =
-    rw (differs (codes "/balance") (search rules), differs (codes "/download") (search rules), differs (codes "/add") (search rules)) refl
+    rw (differs (codes "/balance") (search rules), differs (codes "/journal") (search rules), differs (codes "/accounts") (search rules), differs (codes "/download") (search rules), differs (codes "/add") (search rules)) refl
   where
     differs : (text : List ℕ) → AreAscii text → bytes_eq path text ≡ false
     differs text ascii = by (bytes_eq path text) refl

@@ -6,8 +6,8 @@ use Rattle.http.specs.StatusCode.{reason_phrase}
 use Rattle.desk.specs.declared.request.Request.{Request}
 use Rattle.desk.specs.declared.reply.Reply.{Reply}
 use Rattle.desk.specs.declared.reply.Reply.TheVariants as reply
-use Rattle.desk.specs.declared.reply.WordsFault.{WordsFault}
-use Rattle.desk.specs.declared.reply.WordsFault.TheVariants as words
+use Rattle.report_commands.specs.declared.fault.WordsFault.{WordsFault}
+use Rattle.report_commands.specs.declared.fault.WordsFault.TheVariants as words
 use Rattle.web_desk.specs.declared.refusal.Refusal.{Refusal}
 use Rattle.web_desk.specs.declared.refusal.Refusal.TheVariants as refusal
 use Rattle.desk.specs.Entries.{Entry}

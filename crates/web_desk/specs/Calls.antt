@@ -5,6 +5,8 @@ use Rattle.std.specs.Str.{bytes_eq}
 use Rattle.httparse.specs.Grammar.{RequestHead}
 use Rattle.desk.specs.declared.request.Request.{Request}
 use Rattle.desk.specs.declared.request.Request.TheVariants.{Report, Download, Add}
+use Rattle.report_commands.specs.declared.command.Command.{Command}
+use Rattle.report_commands.specs.declared.command.Command.TheVariants as commands
 use Rattle.web_desk.specs.declared.form.Parameter.{Parameter}
 use Rattle.web_desk.specs.declared.refusal.Refusal.{Refusal}
 use Rattle.web_desk.specs.declared.refusal.Refusal.TheVariants as refusal
@@ -26,7 +28,9 @@ by_method method wanted found refused = if bytes_eq method wanted then found els
 -- where a method and a path lead
 abbrev pub route_of : List ℕ → List ℕ → Route
 route_of method path =
-    if bytes_eq path (codes "/balance") then by_method method (codes "GET") route.Balance refusal.GetOnly
+    if bytes_eq path (codes "/balance") then by_method method (codes "GET") (route.Report commands.Balance) refusal.GetOnly
+    else if bytes_eq path (codes "/journal") then by_method method (codes "GET") (route.Report commands.Print) refusal.GetOnly
+    else if bytes_eq path (codes "/accounts") then by_method method (codes "GET") (route.Report commands.Accounts) refusal.GetOnly
     else if bytes_eq path (codes "/download") then by_method method (codes "GET") route.Download refusal.GetOnly
     else if bytes_eq path (codes "/add") then by_method method (codes "POST") route.Add refusal.PostOnly
     else route.Refused refusal.Path
@@ -41,14 +45,21 @@ abbrev pub if_none : List Parameter → Result Request Refusal → Result Reques
 if_none [] call = call
 if_none (p ∷ ps) call = Err refusal.Form
 
--- the words of a report: its command and each value of q
-abbrev pub report_of : List (List ℕ) → Request
-report_of words = Report (codes "balance" ∷ words)
+-- the word of a report
+abbrev pub word_of : Command → List ℕ
+word_of commands.Balance = codes "balance"
+word_of commands.Print = codes "print"
+word_of commands.Accounts = codes "accounts"
+word_of commands.Check = codes "check"
 
--- What a message asks: GET /balance has the words in its parameters q, GET /download has no parameter, and POST /add
+-- the words of a report: its command and each value of q
+abbrev pub report_of : Command → List (List ℕ) → Request
+report_of command words = Report (word_of command ∷ words)
+
+-- What a message asks: GET of a report's path has the words after its command in its parameters q, GET /download has no parameter, and POST /add
 -- has the entry as the one parameter of its body.
 abbrev pub call_at : Route → List ℕ → List ℕ → Result Request Refusal
-call_at route.Balance query body = formed (all_values (codes "q") (parameters_of query)) report_of
+call_at (route.Report command) query body = formed (all_values (codes "q") (parameters_of query)) (report_of command)
 call_at route.Download query body = if_none (parameters_of query) (Ok Download)
 call_at route.Add query body = if_none (parameters_of query) (formed (only_value (codes "entry") (parameters_of body)) Add)
 call_at (route.Refused refused) query body = Err refused

@@ -6,8 +6,8 @@ use Rattle.desk.specs.declared.request.Allow.{Allow}
 use Rattle.desk.specs.declared.request.Allow.TheVariants as allow
 use Rattle.desk.specs.declared.reply.Reply.{Reply}
 use Rattle.desk.specs.declared.reply.Reply.TheVariants as reply
-use Rattle.desk.specs.declared.reply.WordsFault.{WordsFault}
-use Rattle.desk.specs.declared.reply.WordsFault.TheVariants as words
+use Rattle.report_commands.specs.declared.fault.WordsFault.{WordsFault}
+use Rattle.report_commands.specs.declared.fault.WordsFault.TheVariants as words
 
 abbrev pub ended : List ℕ → List ℕ
 ended line = line ++ (10 ∷ [])

@@ -6,9 +6,10 @@ ghost use Rattle.web_desk.specs.Answers.{message, phrase_of, status_line, openin
 use crate::lines::line_of;
 use crate::refusal::Refusal;
 use book::print_fault;
-use desk::{Reply, WordsFault};
+use desk::Reply;
 use hl_base::{Bytes, Memory};
 use http::StatusCode;
+use report_commands::WordsFault;
 use std::alloc::Global;
 use std::string::ToString;
 

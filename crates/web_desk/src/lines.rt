@@ -5,8 +5,9 @@ ghost use Rattle.web_desk.specs.Lines.{two_numbers, ended, allow_word, usage_lin
 ghost use Rattle.std.specs.Prelude.{codes, ◌++◌};
 ghost use Rattle.std.specs.Fmt.{decimal};
 
-use desk::{Allow, Reply, WordsFault};
+use desk::{Allow, Reply};
 use hl_base::{Memory, Text};
+use report_commands::WordsFault;
 use std::alloc::Global;
 use std::string::ToString;
 

@@ -8,6 +8,7 @@ ghost use Rattle.web_desk.specs.Paths.{resource_at, literal_scan, literal_route}
 use crate::resource::Resource;
 use hl_base::Memory;
 use matchit::{InsertError, Router};
+use report_commands::Command;
 use std::alloc::Global;
 use std::marker::Model;
 
@@ -44,7 +45,13 @@ impl Paths {
     /// All the paths that lead somewhere.
     pub fn new(alloc: Global) -> Result<Paths, Memory> {
         let mut router = Router::new(alloc);
-        add(&mut router, "/balance", Resource::Balance)?;
+        add(&mut router, "/balance", Resource::Report(Command::Balance))?;
+        add(&mut router, "/journal", Resource::Report(Command::Print))?;
+        add(
+            &mut router,
+            "/accounts",
+            Resource::Report(Command::Accounts),
+        )?;
         add(&mut router, "/download", Resource::Download)?;
         add(&mut router, "/add", Resource::Add)?;
         Ok(Paths { router })

@@ -1,10 +1,12 @@
 //! What a path names.
 
+use report_commands::Command;
+
 /// What a path names.
 #[derive(Clone, Copy, Debug, PartialEq, Eq)]
 pub enum Resource {
-    /// The report `balance`.
-    Balance,
+    /// A report.
+    Report(Command),
     /// The text of the journal.
     Download,
     /// The journal's end, where entries are added.

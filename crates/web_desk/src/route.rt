@@ -1,6 +1,6 @@
 //! What a message asks: where its method and its path lead, and what its parameters say.
 ghost use Rattle.std.specs.Prelude.{◌≡◌, IfOk, []};
-ghost use Rattle.web_desk.specs.Calls.{path_of, query_of, by_method, route_of, call_at};
+ghost use Rattle.web_desk.specs.Calls.{path_of, query_of, by_method, route_of, call_at, word_of};
 
 use crate::form::{all_named, parameters, take_only, take_values};
 use crate::paths::Paths;
@@ -8,13 +8,14 @@ use crate::refusal::Refusal;
 use crate::resource::Resource;
 use desk::Request;
 use hl_base::{Bytes, Memory, Text};
+use report_commands::Command;
 use std::alloc::Global;
 
 /// Where a method and a path lead.
 #[derive(Clone, Copy, Debug, PartialEq, Eq)]
 pub enum Route {
-    /// To the report `balance`.
-    Balance,
+    /// To a report.
+    Report(Command),
     /// To the text of the journal.
     Download,
     /// To an entry at the end of the journal.
@@ -50,7 +51,12 @@ pub fn find_route(paths: &Paths, method: &[u8], path: &[u8]) -> Route
     ensures { result ≡ route_of method.now path.now }
 {
     match paths.find(path) {
-        Some(Resource::Balance) => by_one_method(method, b"GET", Route::Balance, Refusal::GetOnly),
+        Some(Resource::Report(command)) => by_one_method(
+            method,
+            b"GET",
+            Route::Report(command),
+            Refusal::GetOnly,
+        ),
         Some(Resource::Download) => by_one_method(
             method,
             b"GET",
@@ -62,15 +68,27 @@ pub fn find_route(paths: &Paths, method: &[u8], path: &[u8]) -> Route
     }
 }
 
+/// The word of a report.
+fn command_word(command: Command) -> &'static str
+    ensures { result.now ≡ word_of command }
+{
+    match command {
+        Command::Balance => "balance",
+        Command::Print => "print",
+        Command::Accounts => "accounts",
+        Command::Check => "check",
+    }
+}
+
 /// The report that a query asks for.
-fn report(alloc: Global, query: &[u8]) -> Result<Result<Request, Refusal>, Memory>
-    ensures { IfOk result (λ call. call ≡ call_at Route.Balance query.now []) }
+fn report(alloc: Global, command: Command, query: &[u8]) -> Result<Result<Request, Refusal>, Memory>
+    ensures { IfOk result (λ call. call ≡ call_at (Route.Report command) query.now []) }
 {
     let all = parameters(alloc, query)?;
     if !all_named(all.as_slice(), b"q") {
         return Ok(Err(Refusal::Form));
     }
-    let words = take_values(alloc, Text::copied(alloc, "balance")?, all)?;
+    let words = take_values(alloc, Text::copied(alloc, command_word(command))?, all)?;
     Ok(Ok(Request::Report { words }))
 }
 
@@ -110,7 +128,7 @@ pub fn call(
     ensures { IfOk result (λ call. call ≡ call_at route query.now body.now) }
 {
     match route {
-        Route::Balance => report(alloc, query),
+        Route::Report(command) => report(alloc, command, query),
         Route::Download => download(alloc, query),
         Route::Add => addition(alloc, query, body),
         Route::Refused(refusal) => Ok(Err(refusal)),

@@ -1,6 +1,6 @@
 use Rattle.std.proofs.Common.{refl}
 use Rattle.matchit.proofs.OnLiterals.{matchit_on_literals}
-use Rattle.web_desk.proofs.PathLemmas.{three_find}
+use Rattle.web_desk.proofs.PathLemmas.{each_found}
 use Rattle.web_desk.proofs.paths.Paths.new.Goals as goal
 
 pub add-requires-clause-literal : goal.add-requires-clause-literal
@@ -15,5 +15,13 @@ pub add-requires-3-clause-literal : goal.add-requires-3-clause-literal
 unfolding matchit_on_literals
 add-requires-3-clause-literal c = refl
 
+pub add-requires-4-clause-literal : goal.add-requires-4-clause-literal
+unfolding matchit_on_literals
+add-requires-4-clause-literal c = refl
+
+pub add-requires-5-clause-literal : goal.add-requires-5-clause-literal
+unfolding matchit_on_literals
+add-requires-5-clause-literal c = refl
+
 pub invariant_of-result : goal.invariant_of-result
-invariant_of-result c = rw (c.in_ok-add-3.ensures, c.in_ok-add-2.ensures, c.in_ok-add.ensures, c.new-router.ensures) three_find
+invariant_of-result c = rw (c.in_ok-add-5.ensures, c.in_ok-add-4.ensures, c.in_ok-add-3.ensures, c.in_ok-add-2.ensures, c.in_ok-add.ensures, c.new-router.ensures) each_found
