@@ -24,7 +24,7 @@ kind refusal.Memory None k = inr (inr refl)
 kind refusal.Memory (Some told) k = inr (inr refl)
 
 -- a status of a refusal is 1, 2 or 7
-apart : (status n : ℕ) → IsRefusal status → status ≡ n → (n ≢ 1) → (n ≢ 2) → (n ≢ 7) → ⊥
+pub apart : (status n : ℕ) → IsRefusal status → status ≡ n → (n ≢ 1) → (n ≢ 2) → (n ≢ 7) → ⊥
 apart status n (inl h) e a b c = a (sym e ∙ h)
 apart status n (inr (inl h)) e a b c = b (sym e ∙ h)
 apart status n (inr (inr h)) e a b c = c (sym e ∙ h)

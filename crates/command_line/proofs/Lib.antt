@@ -1,5 +1,6 @@
 mod Endings
 mod Histories
+mod Running
 mod TalkEndings
 mod Talking
 mod Unmade

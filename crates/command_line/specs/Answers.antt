@@ -67,12 +67,6 @@ Says status own line old new faults_old faults_new =
 abbrev pub IsStatus : ℕ → Type 0
 IsStatus status = (status ≡ 0) ⊎ (IsRefusal status ⊎ ((status ≡ 3) ⊎ ((status ≡ 4) ⊎ (status ≡ 6))))
 
--- Status 2, with its line, comes where the words have no reading, but for want of memory and a line that can't be
--- written; and it comes nowhere else.
-abbrev pub IsUsage : Option (List ℕ) → ℕ → Option (List ℕ) → Option (List ℕ) → Type 0
-IsUsage None status old new = status ≢ 2
-IsUsage (Some line) status old new = ((status ≡ 2) × Wrote old new line) ⊎ ((status ≡ 4) ⊎ (status ≡ 6))
-
 -- the lines that a run may write to the error output while nothing of the outside fails
 abbrev pub IsErrorLine : List ℕ → Outcome → Type 0
 IsErrorLine line told = (line ≡ told.error) ⊎ ((line ≡ memory_line) ⊎ (line ≡ read_fault_line))

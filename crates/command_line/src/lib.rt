@@ -2,11 +2,14 @@
 #![tactic(auto)]
 
 mod errors;
+mod help;
 mod program;
 mod refusal;
 mod report;
 mod streams;
 mod talk;
+mod words;
 
 pub use program::{Status, run};
 pub use streams::Streams;
+pub use words::Asked;

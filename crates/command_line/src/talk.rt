@@ -7,6 +7,7 @@ ghost use Rattle.live_journal.specs.Loading.{open_cause};
 ghost use Rattle.text_store.specs.declared.fault.StoreFault.TheVariants as store_fault;
 ghost use Rattle.web_desk.specs.Counts.{Counted};
 ghost use Rattle.web_desk.specs.declared.conn_end.ConnEnd.{ConnEnd};
+ghost use Rattle.web_desk.specs.declared.conn_end.ConnEnd.TheVariants as conn;
 ghost use Rattle.command_line.specs.Answers.{IsStatus, Says};
 ghost use Rattle.command_line.specs.Talks.{IsWantOfMemory, NeverFails, Talks, TellsEnd, begun, room};
 
@@ -144,7 +145,7 @@ pub fn talk<J: Source, O: Sink, E: Sink, L: Ledger>(
     ensures read { result.0 ≢ 2 }
     ensures talked { IfSome (J.left streams.old.input) (λ bytes. IfSome (O.written streams.old.output) (λ before.
         (end : ConnEnd) × (text : List ℕ) × (O.written streams.new.output ≡ Some (before ++ text)) × Talks day.0 bytes end text
-        × TellsEnd end result.0 (E.written err.old) (E.written err.new) (E.faults err.old) (E.faults err.new))) }
+        × ((end ≢ conn.Spent) × TellsEnd end result.0 (E.written err.old) (E.written err.new) (E.faults err.old) (E.faults err.new)))) }
     ensures read_fault { result.0 ≡ 3 → Rose (J.faults streams.old.input) (J.faults streams.new.input) }
     ensures write_fault { result.0 ≡ 4 → Rose (O.faults streams.old.output) (O.faults streams.new.output) ⊎ Rose (E.faults err.old) (E.faults err.new) }
 {
