@@ -12,6 +12,8 @@ mod heads;
 #[cfg(test)]
 mod limits;
 #[cfg(test)]
+mod report_rows;
+#[cfg(test)]
 mod rows;
 pub mod served;
 #[cfg(test)]

@@ -7,7 +7,7 @@ use std::test::Fail;
 /// The 68 bytes of one entry.
 const BREAD: &[u8] = b"2024-01-05 bread\n    expenses:food  10 EUR\n    assets:cash  -10 EUR\n";
 
-fn told(alloc: Global, words: &[&str], text: &[u8]) -> Result<Seen, Fail> {
+pub fn told(alloc: Global, words: &[&str], text: &[u8]) -> Result<Seen, Fail> {
     Ok(answer(
         alloc,
         &Case {
@@ -20,7 +20,7 @@ fn told(alloc: Global, words: &[&str], text: &[u8]) -> Result<Seen, Fail> {
     )?)
 }
 
-fn expect(rt: &impl Abort, seen: &Seen, status: u8, output: &[u8], error: &[u8], what: &str) {
+pub fn expect(rt: &impl Abort, seen: &Seen, status: u8, output: &[u8], error: &[u8], what: &str) {
     assert_eq!(rt; seen.status, status, "status of {what}");
     assert_eq!(rt; seen.output.as_slice(), output, "output of {what}");
     assert_eq!(rt; seen.error.as_slice(), error, "error of {what}");
@@ -130,14 +130,14 @@ fn refuses_texts(rt: HostRuntime) -> Result<(), Fail> {
             b"error: line 3: date\n".as_slice(),
         ),
         (
-            "a form that isn't built",
-            b"2024-01-01 a\n    x  1 E\nP 2024-01-01 A 1 E\n".as_slice(),
-            b"error: line 3: not built\n".as_slice(),
+            "no directive",
+            b"2024-01-01 a\n    x  1 E\ninclude other.journal\n".as_slice(),
+            b"error: line 3: directive\n".as_slice(),
         ),
         (
-            "an assertion",
-            b"2024-01-01 a\n    x  0 E = 0 E\n".as_slice(),
-            b"error: line 2: not built\n".as_slice(),
+            "an assertion that fails",
+            b"2024-01-01 a\n    x  0 E = 1 E\n".as_slice(),
+            b"error: line 2: assertion: wanted 1 E, found 0 E\n".as_slice(),
         ),
         (
             "no such day",
