@@ -1,0 +1,14 @@
+pub mod Texts
+pub mod Both
+pub mod Choice
+pub mod Days
+pub mod Gcd
+pub mod Keys
+pub mod Latest
+pub mod Least
+pub mod Levels
+pub mod Pairs
+pub mod Parts
+pub mod Stable
+pub mod Told
+pub mod Ways

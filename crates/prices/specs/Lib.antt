@@ -1,0 +1,11 @@
+pub mod Answers
+pub mod Chains
+pub mod Fraction
+pub mod Fractions
+pub mod Index
+pub mod Order
+pub mod Quotes
+pub mod Search
+pub mod Step
+pub mod Tables
+pub mod Values
