@@ -10,7 +10,7 @@ use Rattle.book.specs.declared.transaction.Mark.TheVariants.{Unmarked}
 use Rattle.book.specs.declared.transaction.Side.TheVariants.{Real}
 use Rattle.book.specs.Postings.{plain_posting}
 use Rattle.book.specs.Style.{default_style}
-use Rattle.book.specs.SumsBefore.{Place, start_of, sum_before, other_before}
+use Rattle.book.specs.SumsBefore.{start_of, sum_before, other_before}
 
 abbrev whole : ℤ → Decimal
 whole mantissa = record { mantissa = mantissa; places = 0 }

@@ -1,6 +1,7 @@
 -- The line that says what is wrong with a text.
 use Rattle.std.specs.Prelude.{ℕ, List, [], ◌∷◌, ◌++◌, codes}
 use Rattle.std.specs.Fmt.{decimal}
+use Rattle.book.specs.declared.amount.Amount.{Amount}
 use Rattle.book.specs.declared.fault.Fault.{Fault}
 use Rattle.book.specs.declared.fault.Cause.{Cause}
 use Rattle.book.specs.declared.fault.Cause.TheVariants as cause
@@ -10,8 +11,12 @@ use Rattle.book.specs.Printed.{plain_amount}
 abbrev pub ended : List ℕ → List ℕ
 ended line = line ++ (10 ∷ [])
 
+-- what an assertion wants, and what is found
+abbrev pub assertion_text : Amount → Amount → List ℕ
+assertion_text wanted found =
+    codes "assertion: wanted " ++ plain_amount wanted.symbol wanted.value ++ codes ", found " ++ plain_amount found.symbol found.value
+
 abbrev pub cause_text : Cause → List ℕ
-cause_text cause.NotBuilt = codes "not built"
 cause_text cause.Form = codes "form"
 cause_text cause.Date = codes "date"
 cause_text cause.Number = codes "number"
@@ -24,8 +29,7 @@ cause_text cause.Encoding = codes "encoding"
 cause_text cause.TwoMissing = codes "two missing amounts"
 cause_text cause.NotAllowed = codes "not allowed"
 cause_text (cause.Unbalanced symbol sum) = codes "unbalanced " ++ plain_amount symbol sum
-cause_text (cause.AssertionFailed wanted found) =
-    codes "assertion: wanted " ++ plain_amount wanted.symbol wanted.value ++ codes ", found " ++ plain_amount found.symbol found.value
+cause_text (cause.AssertionFailed wanted found) = assertion_text wanted found
 cause_text cause.Range = codes "range"
 
 -- a fault of a text, with its line

@@ -1,9 +1,10 @@
 -- How the amounts of a symbol are printed.
-use Rattle.std.specs.Prelude.{ℕ, true, false, List, [], ◌∷◌, ◌++◌, map, Some, None, max}
+use Rattle.std.specs.Prelude.{ℕ, true, false, List, [], ◌∷◌, ◌++◌, map, Option, Some, None, max}
 use Rattle.std.specs.List.{filter, flat_map}
 use Rattle.std.specs.Option.{option_to_list}
 use Rattle.std.specs.Str.{bytes_eq}
 use Rattle.book.specs.declared.amount.Amount.{Amount}
+use Rattle.book.specs.declared.amount.Assertion.{Assertion}
 use Rattle.book.specs.declared.amount.Cost.{Cost}
 use Rattle.book.specs.declared.amount.Cost.TheVariants as cost
 use Rattle.book.specs.declared.directive.Directive.{Directive}
@@ -28,9 +29,16 @@ cost_amount (cost.Total a) = a
 abbrev pub amount_style : Posting → List (List ℕ × Style)
 amount_style p = map written_as (option_to_list p.amount)
 
+-- how the amounts of a cost and of an assertion are written
+abbrev pub cost_styles : Option Cost → List (List ℕ × Style)
+cost_styles cost = map (λ c. written_as (cost_amount c)) (option_to_list cost)
+
+abbrev pub wanted_styles : Option Assertion → List (List ℕ × Style)
+wanted_styles wanted = map (λ w. written_as w.amount) (option_to_list wanted)
+
 -- what its cost and its assertion say
 abbrev pub further_styles : Posting → List (List ℕ × Style)
-further_styles p = map (λ c. written_as (cost_amount c)) (option_to_list p.cost) ++ map (λ w. written_as w.amount) (option_to_list p.wanted)
+further_styles p = cost_styles p.cost ++ wanted_styles p.wanted
 
 -- what all amounts of a rule's posting say
 abbrev pub rule_styles : Posting → List (List ℕ × Style)

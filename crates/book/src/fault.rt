@@ -6,8 +6,6 @@ use hl_num::Dec;
 /// What is wrong.
 #[derive(Debug, Drop)]
 pub enum Cause {
-    /// A form that isn't built yet.
-    NotBuilt,
     /// Text that is of none of the forms.
     Form,
     /// A day that is none, or that doesn't exist.

@@ -1,8 +1,7 @@
 //! The line that says what is wrong with a text.
 ghost use Rattle.std.specs.Prelude.{◌≡◌, ◌++◌, IfOk, codes};
 ghost use Rattle.std.specs.String.{string_bytes};
-ghost use Rattle.book.specs.FaultLine.{cause_text, fault_line};
-ghost use Rattle.book.specs.Printed.{plain_amount};
+ghost use Rattle.book.specs.FaultLine.{assertion_text, cause_text, fault_line};
 
 use crate::amount::Amount;
 use crate::fault::{Cause, Fault};
@@ -28,7 +27,6 @@ fn cause_words(alloc: Global, cause: &Cause) -> Result<String, Memory>
     ensures { IfOk result (λ text. string_bytes text ≡ cause_text cause.now) }
 {
     match cause {
-        Cause::NotBuilt => Ok(String::from_str(alloc, "not built")?),
         Cause::Form => Ok(String::from_str(alloc, "form")?),
         Cause::Date => Ok(String::from_str(alloc, "date")?),
         Cause::Number => Ok(String::from_str(alloc, "number")?),
@@ -52,7 +50,7 @@ fn cause_words(alloc: Global, cause: &Cause) -> Result<String, Memory>
 
 /// The words for an assertion that doesn't hold.
 fn assertion_words(alloc: Global, wanted: &Amount, found: &Amount) -> Result<String, Memory>
-    ensures { IfOk result (λ text. string_bytes text ≡ codes "assertion: wanted " ++ plain_amount wanted.now.symbol wanted.now.value ++ codes ", found " ++ plain_amount found.now.symbol found.now.value) }
+    ensures { IfOk result (λ text. string_bytes text ≡ assertion_text wanted.now found.now) }
 {
     let mut text = String::from_str(alloc, "assertion: wanted ")?;
     text.push_str(print_plain(alloc, &wanted.symbol, wanted.value)?.as_str())?;

@@ -4,7 +4,7 @@ ghost use Rattle.std.specs.Prelude.{◌≡◌, OnOk, map};
 ghost use Rattle.std.specs.List.{flat_map};
 ghost use Rattle.std.specs.Option.{option_to_list};
 ghost use Rattle.book.specs.Standing.{noted, noted_all, IsSameBut};
-ghost use Rattle.book.specs.Style.{written_as, cost_amount, amount_style, further_styles, rule_styles};
+ghost use Rattle.book.specs.Style.{written_as, cost_amount, cost_styles, wanted_styles, amount_style, further_styles, rule_styles};
 
 use crate::amount::{Amount, Assertion, Cost};
 use crate::boxed::Boxed;
@@ -56,7 +56,7 @@ fn note_cost(
     number: u64,
     cost: &Option<Boxed<Cost>>,
 ) -> Result<(), Memory>
-    ensures ok { OnOk result (table.new ≡ noted_all number table.old (map (λ c. written_as (cost_amount c)) (option_to_list cost.now))) }
+    ensures ok { OnOk result (table.new ≡ noted_all number table.old (cost_styles cost.now)) }
     ensures others { IsSameBut number table.old table.new }
 {
     match cost {
@@ -85,7 +85,7 @@ fn note_wanted(
     number: u64,
     wanted: &Option<Boxed<Assertion>>,
 ) -> Result<(), Memory>
-    ensures ok { OnOk result (table.new ≡ noted_all number table.old (map (λ w. written_as w.amount) (option_to_list wanted.now))) }
+    ensures ok { OnOk result (table.new ≡ noted_all number table.old (wanted_styles wanted.now)) }
     ensures others { IsSameBut number table.old table.new }
 {
     match wanted {
