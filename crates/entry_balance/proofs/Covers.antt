@@ -22,7 +22,7 @@ pub record IsPart (xs ys : List Decimal) : Type 0 where
   pub less : (q : ℕ) → magnitude q xs ≤ magnitude q ys
   pub few : (q : ℕ) → AllAtMost q ys → AllAtMost q xs
 
-at_most-append : (q : ℕ) (xs ys : List Decimal) → AllAtMost q xs → AllAtMost q ys → AllAtMost q (xs ++ ys)
+pub at_most-append : (q : ℕ) (xs ys : List Decimal) → AllAtMost q xs → AllAtMost q ys → AllAtMost q (xs ++ ys)
 at_most-append q [] ys h k = k
 at_most-append q (x ∷ xs) ys h k = (h.0, at_most-append q xs ys h.1 k)
 

@@ -41,7 +41,7 @@ abbrev pub magnitude : ℕ → List Decimal → ℕ
 magnitude q [] = 0
 magnitude q (d ∷ ds) = unsigned_abs (mantissa_at d q) + magnitude q ds
 
-mantissa_at-plus : (a b : Decimal) (q : ℕ) → a.places ≤ q → b.places ≤ q → mantissa_at (plus a b) q ≡ mantissa_at a q +ℤ mantissa_at b q
+pub mantissa_at-plus : (a b : Decimal) (q : ℕ) → a.places ≤ q → b.places ≤ q → mantissa_at (plus a b) q ≡ mantissa_at a q +ℤ mantissa_at b q
 mantissa_at-plus a b q of_a of_b =
     let p = max a.places b.places in
     let split_a : q - a.places ≡ (p - a.places) + (q - p) = omega arith in
@@ -53,7 +53,7 @@ mantissa_at-plus a b q of_a of_b =
     mul-add (mantissa_at a p) (mantissa_at b p) (10 ^ (q - p)) ∙ ap (λ (x : ℤ). x +ℤ mantissa_at b p *ℤ pos (10 ^ (q - p))) more_a ∙ ap (λ (x : ℤ). mantissa_at a q +ℤ x) more_b
 
 -- a sum is no more than the magnitudes
-sum-within : (acc : Decimal) (ds : List Decimal) (q : ℕ) → acc.places ≤ q → AllAtMost q ds → unsigned_abs (mantissa_at (fold plus acc ds) q) ≤ unsigned_abs (mantissa_at acc q) + magnitude q ds
+pub sum-within : (acc : Decimal) (ds : List Decimal) (q : ℕ) → acc.places ≤ q → AllAtMost q ds → unsigned_abs (mantissa_at (fold plus acc ds) q) ≤ unsigned_abs (mantissa_at acc q) + magnitude q ds
 sum-within acc [] q few all = omega arith
 sum-within acc (d ∷ ds) q few all =
     let rest = sum-within (plus acc d) ds q (omega (arith, all.0)) all.1 in
@@ -107,7 +107,7 @@ pub places_within : (acc : Decimal) (q : ℕ) (ds : List Decimal) → acc.places
 places_within acc q [] few all = few
 places_within acc q (d ∷ ds) few all = places_within (plus acc d) q ds (omega (arith, all.0)) all.1
 
-nothing : (q : ℕ) → mantissa_at no_sum q ≡ pos 0
+pub nothing : (q : ℕ) → mantissa_at no_sum q ≡ pos 0
 nothing q = omega (arith, ints)
 
 -- the exact sum of absolute values
@@ -213,7 +213,7 @@ fits-first xs ys h = fits-from_each xs (λ q.
     first_within (numbers_of q xs) (numbers_of q ys)
     (ap (λ (ds : List Decimal). is_within (fold plus no_sum (map absolute ds))) (sym (numbers-append q xs ys)) ∙ total_within q (xs ++ ys) h))
 
-numbers-here : (s : List ℕ) (v : Decimal) (ys : List Value) → numbers_of s ((s, v) ∷ ys) ≡ v ∷ numbers_of s ys
+pub numbers-here : (s : List ℕ) (v : Decimal) (ys : List Value) → numbers_of s ((s, v) ∷ ys) ≡ v ∷ numbers_of s ys
 numbers-here s v ys = ap (λ (b : Bool). map (λ (v : Value). v.1) (cond b ((s, v) ∷ filter (λ (v : Value). bytes_eq v.0 s) ys) (filter (λ (v : Value). bytes_eq v.0 s) ys))) (bytes_eq-itself s)
 
 numbers-other : (q s : List ℕ) (v : Decimal) (ys : List Value) → bytes_eq s q ≡ false → numbers_of q ((s, v) ∷ ys) ≡ numbers_of q ys
@@ -233,7 +233,7 @@ can_add_at before s v after h =
 
 -- ---- one more value
 
-plus_none : (v : Decimal) → plus no_sum v ≡ v
+pub plus_none : (v : Decimal) → plus no_sum v ≡ v
 plus_none v =
     let e : max 0 v.places - v.places ≡ 0 = omega arith in
     let p : max 0 v.places ≡ v.places = omega arith in

@@ -64,13 +64,18 @@ lacks_two ps = nat_lt 1 (absent_count Real ps) || nat_lt 1 (absent_count Balance
 abbrev pub is_date_tag : Tag → Bool
 is_date_tag tag = bytes_eq tag.name (codes "date")
 
-abbrev pub has_date_tag : Posting → Bool
-has_date_tag p = list_any is_date_tag p.tags
+-- a posting with a tag that is named date, or with a day of its own
+abbrev pub is_dated : Posting → Bool
+is_dated p = is_some p.day || list_any is_date_tag p.tags
 
--- what is wrong with a transaction that has an assignment: two missing amounts, or a posting with a day of its own;
--- other assignments aren't built yet
-abbrev pub assignment_cause : List Posting → Cause
-assignment_cause ps = if lacks_two ps then cause.TwoMissing else (if list_any has_date_tag ps then cause.NotAllowed else cause.NotBuilt)
+-- what is wrong with a transaction that has an assignment, before any amount is known: two missing amounts, or a
+-- posting with a day of its own
+abbrev pub assignment_fault : List Posting → Option Cause
+assignment_fault ps = if lacks_two ps then Some cause.TwoMissing else (if list_any is_dated ps then Some cause.NotAllowed else None)
+
+-- its assignments can be made
+abbrev pub is_assignable : List Posting → Bool
+is_assignable ps = has_assignment ps && is_none (assignment_fault ps)
 
 -- ---- sums
 
@@ -86,9 +91,13 @@ share_of side p = if same_side side p.side then from_amount (λ a. at_cost a p.c
 abbrev pub side_values : Side → List Posting → List Value
 side_values side ps = flat_map (share_of side) ps
 
--- the amounts and costs as they are written
+-- the amounts and costs as they are written; an assigned amount isn't
+abbrev pub written_amount : Bool → Option Amount → List Value
+written_amount true amount = []
+written_amount false amount = from_amount (λ a. value_of a ∷ []) amount
+
 abbrev pub written_amounts : List Posting → List Value
-written_amounts ps = flat_map (λ p. from_amount (λ a. value_of a ∷ []) p.amount) ps
+written_amounts ps = flat_map (λ p. written_amount p.filled p.amount) ps
 
 abbrev pub written_cost : Option Cost → List Value
 written_cost None = []
@@ -270,7 +279,7 @@ unbalanced_by (sum ∷ sums) = Some (cause.Unbalanced sum.0 sum.1)
 -- what is wrong with a transaction, were it alone
 abbrev pub cause_alone : List Posting → Option Cause
 cause_alone ps =
-    if has_assignment ps then Some (assignment_cause ps)
+    if has_assignment ps then assignment_fault ps
     else (if has_two_missing ps then Some cause.TwoMissing
     else (if fits_alone ps then unbalanced_by (unbalanced_sums ps) else Some cause.Range))
 

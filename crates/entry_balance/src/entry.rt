@@ -7,14 +7,15 @@ ghost use Rattle.book.specs.declared.fault.Cause.TheVariants as cause;
 ghost use Rattle.book.specs.declared.transaction.Side.TheVariants.{Real, Balanced, Free};
 ghost use Rattle.entry_balance.specs.Check.{cause_of};
 ghost use Rattle.entry_balance.specs.Entry.{balanced, costs_fit, misses, found_values, recorded_cost, unbalanced_by, unbalanced_sums, solved, moved};
-ghost use Rattle.entry_balance.specs.Entry.{settled};
+ghost use Rattle.entry_balance.specs.Entry.{settled, has_assignment, assignment_fault};
+ghost use Rattle.book.specs.declared.transaction.Txn.{Txn};
 ghost use Rattle.entry_balance.specs.Settled.{IsSettled};
 ghost use Rattle.entry_balance.specs.Tally.{turnover_fits};
 
 use crate::fault::BalanceFault;
 use crate::fill::fill;
 use crate::plan::{Plan, make_plan};
-use crate::rules::{assignment_cause, has_assignment, has_two_missing};
+use crate::rules::{assignment_fault, has_assignment, has_two_missing};
 use crate::sums::turnover_fits;
 use crate::tally::TallyFault;
 use crate::value::costs_fit;
@@ -31,11 +32,20 @@ pub fn balance_txn(alloc: Global, txn: Txn) -> Result<Txn, BalanceFault>
     ensures { Gives (λ t. t) cause_of result (balanced txn) }
 {
     match settle(alloc, txn) {
-        Ok(Settled { txn, cause }) => match cause {
-            None => Ok(txn),
-            Some(cause) => Err(BalanceFault::Cause(cause.into_inner())),
-        },
+        Ok(settled) => told(settled),
         Err(Memory) => Err(BalanceFault::Memory),
+    }
+}
+
+/// A transaction that was settled, or what is wrong with it.
+fn told(settled: Settled) -> Result<Txn, BalanceFault>
+    ensures { (written : Txn) → has_assignment written.postings ≡ false → IsSettled written settled.txn settled.cause
+        → Gives (λ t. t) cause_of result (balanced written) }
+{
+    let Settled { txn, cause } = settled;
+    match cause {
+        None => Ok(txn),
+        Some(cause) => Err(BalanceFault::Cause(cause.into_inner())),
     }
 }
 
@@ -46,14 +56,15 @@ pub struct Settled {
     pub cause: Option<Boxed<Cause>>,
 }
 
-/// Finds what is missing in a transaction, or what is wrong with it.
+/// Finds what is missing in a transaction, or what is wrong with it. One with assignments stays as it is: their amounts
+/// rest on what the accounts hold.
 pub fn settle(alloc: Global, txn: Txn) -> Result<Settled, Memory>
     ensures { IfOk result (λ s. IsSettled txn s.txn s.cause) }
 {
     let postings = txn.postings.as_slice();
     if has_assignment(postings) {
-        let cause = assignment_cause(postings);
-        return faulty(alloc, txn, cause);
+        let cause = assignment_fault(postings);
+        return unsettled(alloc, txn, cause);
     }
     if has_two_missing(postings) {
         return faulty(alloc, txn, Cause::TwoMissing);
@@ -65,6 +76,16 @@ pub fn settle(alloc: Global, txn: Txn) -> Result<Settled, Memory>
         Ok(plan) => solve(alloc, txn, plan),
         Err(TallyFault::Range) => faulty(alloc, txn, Cause::Range),
         Err(TallyFault::Memory) => Err(Memory),
+    }
+}
+
+/// A transaction as it is, with what is wrong with it, if anything is.
+fn unsettled(alloc: Global, txn: Txn, cause: Option<Cause>) -> Result<Settled, Memory>
+    ensures { IfOk result (λ s. s ≡ record { txn = txn; cause = cause }) }
+{
+    match cause {
+        Some(cause) => faulty(alloc, txn, cause),
+        None => Ok(Settled { txn, cause: None }),
     }
 }
 

@@ -4,7 +4,7 @@ ghost use Rattle.std.specs.List.{list_any};
 ghost use Rattle.std.specs.Str.{bytes_eq};
 ghost use Rattle.entry_balance.specs.Values.{Value, value_of, amount_in};
 ghost use Rattle.entry_balance.specs.Tally.{named, numbers_of};
-ghost use Rattle.entry_balance.specs.Entry.{is_assignment, has_assignment, is_absent, absent_count, lacks_two, is_date_tag, has_date_tag, assignment_cause, is_missing, misses, missing_count, has_two_missing, written_amounts, written_cost, written_costs, places_among, precision_of, is_nothing_at, are_opposite, is_positive, is_plain, are_plain, is_of, is_real_of, is_of_either, is_not_of, second_is_first, recorded, recorded_between};
+ghost use Rattle.entry_balance.specs.Entry.{is_assignment, has_assignment, is_absent, absent_count, lacks_two, is_date_tag, is_dated, assignment_fault, is_assignable, is_missing, misses, missing_count, has_two_missing, written_amount, written_amounts, written_cost, written_costs, places_among, precision_of, is_nothing_at, are_opposite, is_positive, is_plain, are_plain, is_of, is_real_of, is_of_either, is_not_of, second_is_first, recorded, recorded_between};
 ghost use Rattle.book.specs.declared.transaction.Side.TheVariants.{Real};
 
 use crate::sums::same_side;
@@ -97,29 +97,43 @@ fn is_date_tag(tag: &Tag) -> bool
 
 /// Whether a posting has a tag named `date`.
 fn has_date_tag(posting: &Posting) -> bool
-    ensures { result ≡ has_date_tag posting.now }
+    ensures { result ≡ list_any is_date_tag posting.now.tags }
 {
     posting.tags.as_slice().iter().any(is_date_tag)
 }
 
-/// Whether a posting has a tag named `date`.
-fn has_date_tags(postings: &[Posting]) -> bool
-    ensures { result ≡ list_any has_date_tag postings.now }
+/// Whether a posting has a tag named `date`, or a day of its own.
+fn is_dated(posting: &Posting) -> bool
+    ensures { result ≡ is_dated posting.now }
 {
-    postings.iter().any(has_date_tag)
+    posting.day.is_some() || has_date_tag(posting)
 }
 
-/// What is wrong with a transaction that has an assignment.
-pub(crate) fn assignment_cause(postings: &[Posting]) -> Cause
-    ensures { result ≡ assignment_cause postings.now }
+/// Whether a posting is dated.
+fn has_dated(postings: &[Posting]) -> bool
+    ensures { result ≡ list_any is_dated postings.now }
+{
+    postings.iter().any(is_dated)
+}
+
+/// What is wrong with a transaction that has an assignment, before any amount is known.
+pub(crate) fn assignment_fault(postings: &[Posting]) -> Option<Cause>
+    ensures { result ≡ assignment_fault postings.now }
 {
     if lacks_two(postings) {
-        Cause::TwoMissing
-    } else if has_date_tags(postings) {
-        Cause::NotAllowed
+        Some(Cause::TwoMissing)
+    } else if has_dated(postings) {
+        Some(Cause::NotAllowed)
     } else {
-        Cause::NotBuilt
+        None
     }
+}
+
+/// Whether a transaction has assignments, and they can be made.
+pub fn is_assignable(postings: &[Posting]) -> bool
+    ensures { result ≡ is_assignable postings.now }
+{
+    has_assignment(postings) && assignment_fault(postings).is_none()
 }
 
 /// The sums that don't count as zero.
@@ -173,8 +187,8 @@ fn amount_places(postings: &[Posting], symbol: &str) -> Option<u8>
     let mut most = None;
     for posting in postings {
         most = match &posting.amount {
-            Some(amount) => wider(most, symbol, amount),
-            None => most,
+            Some(amount) if !posting.filled => wider(most, symbol, amount),
+            _ => most,
         };
     }
     most

@@ -83,7 +83,7 @@ pub(crate) fn turnover_fits(alloc: Global, postings: &[Posting]) -> Result<bool,
 }
 
 /// Adds what a posting moves.
-pub fn add_moved<'a>(tally: &mut Tally<'a>, posting: &'a Posting) -> Result<(), TallyFault>
+fn add_moved<'a>(tally: &mut Tally<'a>, posting: &'a Posting) -> Result<(), TallyFault>
     requires { amount_cost_fits posting.now.amount posting.now.cost ≡ true }
     ensures ok { OnOk result ((before : List Value) → IsTurnover before tally.old
         → IsTurnover (before ++ moved_by posting.now) tally.new) }

@@ -20,7 +20,7 @@ pub type Sum<'a> = (&'a str, Dec);
 /// The sum of each symbol that was added. Contracts see the symbols with their sums, in the order of the symbols.
 /// A sum that is the only one stands by itself, so that most tallies take no memory.
 #[derive(Drop)]
-pub struct Tally<'a> {
+pub(crate) struct Tally<'a> {
     only: Option<Sum<'a>>,
     sums: BTreeMap<&'a str, Dec>,
 }
@@ -193,7 +193,7 @@ fn listed<'a>(alloc: Global, sums: &BTreeMap<&'a str, Dec>) -> Result<Vec<Sum<'a
 }
 
 /// A number with the sum that is there already.
-fn sum_with(old: Option<Dec>, value: Dec) -> Result<Dec, TallyFault>
+pub fn sum_with(old: Option<Dec>, value: Dec) -> Result<Dec, TallyFault>
     ensures value { IfOk result (λ sum. sum ≡ sum_with old value) }
     ensures within { IfOk result (λ sum. is_within sum ≡ true) }
     ensures fault { IfErr result (λ e. fits_with old value ≡ false) }
@@ -205,7 +205,7 @@ fn sum_with(old: Option<Dec>, value: Dec) -> Result<Dec, TallyFault>
 }
 
 /// The exact sum, with the greater number of places.
-fn checked_sum(a: Dec, b: Dec) -> Result<Dec, TallyFault>
+pub fn checked_sum(a: Dec, b: Dec) -> Result<Dec, TallyFault>
     ensures value { IfOk result (λ sum. sum ≡ plus a b) }
     ensures within { IfOk result (λ sum. is_within sum ≡ true) }
     ensures fault { IfErr result (λ e. fits_with (Some a) b ≡ false) }

@@ -9,7 +9,7 @@ use book::{Amount, Boxed, Cost, Posting};
 use hl_num::Dec;
 
 /// A number without its sign.
-pub(crate) fn absolute(number: Dec) -> Dec
+pub fn absolute(number: Dec) -> Dec
     ensures { result ≡ absolute number }
 {
     Dec {
@@ -31,7 +31,7 @@ pub(crate) fn at_cost<'a>(amount: &'a Amount, cost: &'a Option<Boxed<Cost>>) -> 
 }
 
 /// What a quantity costs.
-pub(crate) fn cost_of(quantity: Dec, cost: &Cost) -> Sum<'_>
+pub fn cost_of(quantity: Dec, cost: &Cost) -> Sum<'_>
     requires { cost_fits quantity cost.now ≡ true }
     ensures symbol { result.0.now ≡ (cost_of quantity cost.now).0 }
     ensures number { result.1 ≡ (cost_of quantity cost.now).1 }

@@ -1,9 +1,8 @@
 use Rattle.std.proofs.Common.{◌≡◌, [], List, length, sym, ap, ◌∙◌}
 use Rattle.std.proofs.lemmas.Bool.{false≢true}
-use Rattle.hl_num.specs.Decimal.{Decimal}
 use Rattle.book.specs.Entries.{held}
 use Rattle.entry_balance.specs.Values.{Value}
-use Rattle.entry_balance.proofs.Named.{Entry, held-named}
+use Rattle.entry_balance.proofs.Named.{held-named}
 use Rattle.entry_balance.proofs.Only.{all-named}
 use Rattle.entry_balance.proofs.tally.Tally.held.Goals as goal
 
