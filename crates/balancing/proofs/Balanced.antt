@@ -1,6 +1,10 @@
 -- Balances after one more posting, and what they ask for.
-use Rattle.std.proofs.Common.{◌≡◌, ℕ, zero, suc, ◌+◌, ◌<◌, ◌≤◌, ◌==◌, Bool, true, false, not, cond, ◌&&◌, List, [], ◌∷◌, ◌++◌, length, get_or, take, drop, filter, Option, Some, None, is_some, refl, sym, ap, ◌∙◌, subst, arith, add-one, drop-cons}
-use Rattle.std.specs.List.{flat_map, list_all, slice_get}
+use Rattle.std.proofs.Common.{◌≡◌, ℕ, zero, suc, ◌+◌, ◌<◌, ◌≤◌, Bool, true, false, cond, List, [], ◌∷◌, ◌++◌, length, get_or, take, drop, filter, Option, Some, None, is_some, refl, sym, ap, ◌∙◌, subst, arith, add-one, drop-cons}
+use Rattle.std.specs.List.{list_all, list_any, slice_get}
+use Rattle.book.specs.SumsBefore.{is_assigned}
+use Rattle.balancing.specs.declared.groups.Part.{Part}
+use Rattle.balancing.specs.declared.groups.Part.TheVariants as part
+use Rattle.balancing.proofs.Parts.{failure-append}
 use Rattle.std.proofs.lemmas.Bool.{false≢true}
 use Rattle.std.proofs.lemmas.Grind.{flat_map-append}
 use Rattle.std.proofs.lemmas.List.{append-nil, append_assoc, take_more}
@@ -17,10 +21,9 @@ use Rattle.entry_balance.proofs.Adding.{false-from, take_past}
 use Rattle.entry_balance.proofs.Covers.{Covers, covered-fits, covers_none, covers_left, covers_both}
 use Rattle.entry_balance.proofs.Turnover.{fits-first}
 use Rattle.entry_balance.proofs.Named.{both_true, left_true, right_true}
-use Rattle.balancing.specs.Assertions.{counts_for, held_by, held_in, failure_of, first_failure, or_else_fault}
+use Rattle.balancing.specs.Assertions.{counts_for, held_by, held_in, failure_of, first_failure, is_chosen, part_on, or_else_fault}
 use Rattle.balancing.specs.Claims.{IsClaimed, AreClaimed, IsReached}
 use Rattle.balancing.specs.Kept.{Keeping, IsKept, IsBalance, Stays, and_at, and_under, keeps, is_asked, is_asked_by, are_asked}
-use Rattle.balancing.specs.Groups.{day_of}
 use Rattle.balancing.specs.Walk.{group_in}
 use Rattle.balancing.proofs.Keeping.{kept_same, kept_none}
 
@@ -62,7 +65,7 @@ covers_held_by below root p = by (counts_for below root p.account)
     by true = amount p.amount
     by false = covers_none _
 
-covers_held : (below : Bool) (root : List ℕ) (ps : List Posting) → Covers (moved ps) (held_in below root ps)
+pub covers_held : (below : Bool) (root : List ℕ) (ps : List Posting) → Covers (moved ps) (held_in below root ps)
 covers_held below root [] = covers_none []
 covers_held below root (p ∷ ps) = covers_both (held_by below root p) (moved_by p) (held_in below root ps) (moved ps) (covers_held_by below root p) (covers_held below root ps)
 
@@ -264,9 +267,16 @@ get-past (x ∷ xs) (suc n) h = get-past xs n (omega arith)
 pub empty_claimed : (txns : List Txn) (day n : ℕ) (seen : List Posting) (own below : Keeping) → IsBalance seen own below → own.0 ≡ [] → below.0 ≡ [] → are_asked own below txns ≡ true → AreClaimed seen (group_in day (slice_get txns n)) own below None
 empty_claimed [] day n seen own below h none_own none_below asked = record { is = refl; kept = λ none. balance_any seen _ own below none_own none_below h }
 empty_claimed (t ∷ txns) day zero seen own below h none_own none_below asked = record {
-  is = sym (none_fail (λ p. day_of t p == day) seen own below h none_own none_below t.postings seen (left_true (list_all (is_asked own below) t.postings) (are_asked own below txns) asked));
+  is = sym (by (list_any is_assigned t.postings));
   kept = λ none. balance_any seen _ own below none_own none_below h;
 }
+  where
+    none : (part : Part) (before : List Posting) → first_failure before (part_on part day t) ≡ None
+    none part before = none_fail (is_chosen part day t) seen own below h none_own none_below t.postings before (left_true (list_all (is_asked own below) t.postings) (are_asked own below txns) asked)
+
+    by : (b : Bool) → first_failure seen (cond b (part_on part.ButFound day t ++ part_on part.Found day t) (part_on part.All day t)) ≡ None
+    by true = failure-append seen (part_on part.ButFound day t) (part_on part.Found day t) ∙ ap (λ (o : Option Fault). or_else_fault o (first_failure (seen ++ part_on part.ButFound day t) (part_on part.Found day t))) (none part.ButFound seen) ∙ none part.Found (seen ++ part_on part.ButFound day t)
+    by false = none part.All seen
 empty_claimed (t ∷ txns) day (suc n) seen own below h none_own none_below asked =
     empty_claimed txns day n seen own below h none_own none_below (right_true (list_all (is_asked own below) t.postings) (are_asked own below txns) asked)
 

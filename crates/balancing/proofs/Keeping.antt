@@ -1,24 +1,23 @@
 -- Sums that are kept for accounts: one more account, and one more value.
-use Rattle.std.proofs.Common.{◌≡◌, ℕ, zero, suc, ◌+◌, ◌<◌, ◌≤◌, Bool, true, false, cond, List, [], ◌∷◌, ◌++◌, map, length, get_or, set, Option, Some, None, is_some, ◌⊎◌, inl, inr, refl, sym, ap, ◌∙◌, subst, arith}
+use Rattle.std.proofs.Common.{◌≡◌, ℕ, zero, suc, ◌+◌, ◌<◌, Bool, true, false, cond, List, [], ◌∷◌, ◌++◌, map, length, get_or, set, Option, Some, None, is_some, inl, inr, refl, sym, ap, ◌∙◌, arith}
 use Rattle.std.specs.Str.{bytes_eq}
-use denote.Ref.{Bor}
+use Rattle.std.specs.Prelude.{Vec}
+use Rattle.std.specs.Global.{Global}
 use Rattle.std.specs.declared.cmp.Ordering.TheVariants.{Less, Equal, Greater}
 use Rattle.std.specs.Map.{lookup}
 use Rattle.std.specs.BTreeMap.{insert_entry, is_at}
-use Rattle.std.specs.Ordering.{nat_cmp, eq_by_cmp, is_eq, match_ordering}
+use Rattle.std.specs.Ordering.{nat_cmp, is_eq, match_ordering}
 use Rattle.std.specs.Cmp.Lexicographic.{slice_cmp, nat_list_cmp_total}
 use Rattle.std.specs.FinMap.Entries.{by_order, find-put, put}
-use Rattle.std.proofs.lemmas.Bool.{false≢true, cases_lt}
-use Rattle.std.proofs.lemmas.Slice.Eq.{bytes_eq-Decides}
+use Rattle.std.proofs.lemmas.Bool.{cases_lt}
 use Rattle.hl_num.specs.Decimal.{Decimal}
 use Rattle.book.specs.Entries.{held}
-use Rattle.book.specs.Mixed.{fits_with}
 use Rattle.book.proofs.Entries.{tie-bytes_eq}
 use Rattle.entry_balance.specs.Values.{Value}
-use Rattle.entry_balance.specs.Tally.{sums_of, added_to, turnover_fits}
-use Rattle.entry_balance.proofs.Adding.{false-from}
+use Rattle.entry_balance.specs.Tally.{sums_of, added_to}
 use Rattle.entry_balance.proofs.Turnover.{sums-push, bytes_eq-itself, alike}
-use Rattle.balancing.specs.Kept.{Keeping, IsKept, no_values, and_at, keeps, names_in, places_in}
+use Rattle.balancing.specs.Kept.{Keeping, IsKept, no_values, and_at, keeps}
+use Rattle.balancing.specs.Texts.{names_in, places_in}
 
 -- ---- lists by their places
 
@@ -83,24 +82,24 @@ some-not o x h k = let no : ⊥ = cc in no
 some-one : {X : Type 0} (o : Option X) (x y : X) → o ≡ Some x → o ≡ Some y → x ≡ y
 some-one o x y h k = let e : x ≡ y = cc in e
 
-pub held-places : (es : List (Bor (List ℕ) × ℕ)) (q : List ℕ) → lookup (is_at (λ (k : Bor (List ℕ)). slice_cmp nat_cmp q k.now)) es ≡ held q (places_in es)
+pub held-places : (es : List (Vec ℕ Global × ℕ)) (q : List ℕ) → lookup (is_at (λ (k : Vec ℕ Global). slice_cmp nat_cmp q k.items)) es ≡ held q (places_in es)
 held-places [] q = refl
-held-places (e ∷ es) q = ap (λ (o : Option ℕ). cond (is_eq (slice_cmp nat_cmp q e.0.now)) (Some e.1) o) (held-places es q)
+held-places (e ∷ es) q = ap (λ (o : Option ℕ). cond (is_eq (slice_cmp nat_cmp q e.0.items)) (Some e.1) o) (held-places es q)
 
-pub places-insert : (es : List (Bor (List ℕ) × ℕ)) (k : Bor (List ℕ)) (v : ℕ) → places_in (insert_entry (λ (x y : Bor (List ℕ)). slice_cmp nat_cmp x.now y.now) es k v) ≡ put (slice_cmp nat_cmp) k.now v (places_in es)
+pub places-insert : (es : List (Vec ℕ Global × ℕ)) (k : Vec ℕ Global) (v : ℕ) → places_in (insert_entry (λ (x y : Vec ℕ Global). slice_cmp nat_cmp x.items y.items) es k v) ≡ put (slice_cmp nat_cmp) k.items v (places_in es)
 places-insert [] k v = refl
 places-insert (e ∷ es) k v =
-    elim (slice_cmp nat_cmp k.now e.0.now) as (λ o. places_in (match_ordering o ((k, v) ∷ e ∷ es) ((e.0, v) ∷ es) (e ∷ insert_entry (λ (x y : Bor (List ℕ)). slice_cmp nat_cmp x.now y.now) es k v)) ≡ by_order o ((k.now, v) ∷ places_in (e ∷ es)) ((e.0.now, v) ∷ places_in es) ((e.0.now, e.1) ∷ put (slice_cmp nat_cmp) k.now v (places_in es))) [
+    elim (slice_cmp nat_cmp k.items e.0.items) as (λ o. places_in (match_ordering o ((k, v) ∷ e ∷ es) ((e.0, v) ∷ es) (e ∷ insert_entry (λ (x y : Vec ℕ Global). slice_cmp nat_cmp x.items y.items) es k v)) ≡ by_order o ((k.items, v) ∷ places_in (e ∷ es)) ((e.0.items, v) ∷ places_in es) ((e.0.items, e.1) ∷ put (slice_cmp nat_cmp) k.items v (places_in es))) [
       | Less ↦ refl
       | Equal ↦ refl
-      | Greater ↦ ap (λ t. (e.0.now, e.1) ∷ t) (places-insert es k v)
+      | Greater ↦ ap (λ t. (e.0.items, e.1) ∷ t) (places-insert es k v)
     ]
 
-pub names-more : (ns : List (Bor (List ℕ))) (n : Bor (List ℕ)) → names_in (ns ++ n ∷ []) ≡ names_in ns ++ n.now ∷ []
-names-more ns n = map-more (λ (m : Bor (List ℕ)). m.now) ns n
+pub names-more : (ns : List (Vec ℕ Global)) (n : Vec ℕ Global) → names_in (ns ++ n ∷ []) ≡ names_in ns ++ n.items ∷ []
+names-more ns n = map-more (λ (m : Vec ℕ Global). m.items) ns n
 
-pub names-length : (ns : List (Bor (List ℕ))) → length (names_in ns) ≡ length ns
-names-length ns = length-map (λ (m : Bor (List ℕ)). m.now) ns
+pub names-length : (ns : List (Vec ℕ Global)) → length (names_in ns) ≡ length ns
+names-length ns = length-map (λ (m : Vec ℕ Global). m.items) ns
 
 -- ---- one more account
 

@@ -1,4 +1,7 @@
 mod Rows
+pub mod Texts
+pub mod Parts
+pub mod Adding
 pub mod Keeping
 pub mod Under
 pub mod Ordered
@@ -6,3 +9,24 @@ pub mod Turned
 pub mod Walked
 pub mod Whole
 pub mod Balanced
+pub mod Giving
+pub mod Given
+pub mod Ranged
+pub mod Making
+pub mod Passing
+pub mod Told
+pub mod SolvingOrders
+pub mod SolvingSums
+pub mod SolvingPlaces
+pub mod SolvingGroups
+pub mod SolvingWalk
+pub mod SolvingRising
+pub mod SolvingSeen
+pub mod SolvingMade
+pub mod SolvingTxn
+pub mod SolvingFixed
+pub mod SolvingLists
+pub mod SolvingBook
+pub mod Solving
+pub mod SolvingRows
+pub mod SolvingUnits

@@ -1,6 +1,6 @@
 -- Where the turnover of all groups fits, that of the book in the order of its text does.
-use Rattle.std.proofs.Common.{◌≡◌, ℕ, suc, pos, ◌+◌, ◌-◌, ◌*◌, ◌^◌, ◌==◌, ◌<◌, ◌≤◌, unsigned_abs, Bool, true, false, ◌||◌, ◌&&◌, cond, filter, is_none, ltb, leb, List, [], ◌∷◌, ◌++◌, map, Option, Some, None, ◌⊎◌, inl, inr, refl, sym, ap, ◌∙◌, arith, lit<}
-use Rattle.std.specs.List.{flat_map, fold, slice_get, AllByRecursion}
+use Rattle.std.proofs.Common.{◌≡◌, ℕ, suc, pos, ◌+◌, ◌-◌, ◌*◌, ◌^◌, ◌==◌, ◌<◌, ◌≤◌, unsigned_abs, Bool, true, false, ◌||◌, ◌&&◌, not, cond, filter, is_none, ltb, leb, List, [], ◌∷◌, ◌++◌, map, Option, Some, None, ◌⊎◌, inl, inr, refl, sym, ap, ◌∙◌, arith, lit<}
+use Rattle.std.specs.List.{flat_map, fold, list_any, slice_get, AllByRecursion}
 use Rattle.std.specs.Str.{bytes_eq}
 use Rattle.std.specs.Ordering.{eq_by_cmp}
 use Rattle.std.proofs.lemmas.Bool.{false≢true, ne_eqb, cases_lt}
@@ -24,7 +24,10 @@ use Rattle.entry_balance.specs.Values.{Value, value_of, absolute, cost_values}
 use Rattle.entry_balance.specs.Tally.{numbers_of, no_sum, turnover_fits}
 use Rattle.entry_balance.specs.Entry.{from_amount, plain_amount, found_posting, found_values, costed_posting, recorded_cost, is_real_of, solved_posting, solved, moved_by, moved}
 use Rattle.balancing.specs.Groups.{Group, group_cmp, groups_by, groups_from, groups_of, day_of}
-use Rattle.balancing.specs.Load.{moved_when, moved_on, moved_of_group}
+use Rattle.balancing.specs.Load.{moved_on, moved_of_group}
+use Rattle.book.specs.SumsBefore.{is_assigned}
+use Rattle.balancing.specs.Assertions.{is_chosen, is_found, part_on}
+use Rattle.balancing.specs.declared.groups.Part.TheVariants as taken
 use Rattle.entry_balance.specs.Entry.{settled}
 use Rattle.balancing.specs.Walk.{moved_before}
 use Rattle.entry_balance.proofs.Turnover.{AllAtMost, magnitude, exact-abs, sum_places-all, places_within, total_within}
@@ -106,6 +109,10 @@ total-both : {X : Type 0} (f g : X → ℕ) (xs : List X) → total (λ x. f x +
 total-both f g [] = omega arith
 total-both f g (x ∷ xs) = omega (arith, total-both f g xs)
 
+-- what a posting moves, if it is of a day
+abbrev moved_day : ℕ → Txn → Posting → List Value
+moved_day day t p = cond (day_of t p == day) (moved_by p) []
+
 module _ (m : Value → ℕ) where
   abbrev pub measure : List Value → ℕ
   measure [] = 0
@@ -121,16 +128,48 @@ module _ (m : Value → ℕ) where
   measure-before written before (g ∷ gs) =
       omega (arith, measure-before written (before ++ moved_of_group g.0 (slice_get written g.1)) gs, measure-append before (moved_of_group g.0 (slice_get written g.1)))
 
+  module _ (day : ℕ) (t : Txn) where
+    whole_part : (ps : List Posting) → measure (moved (filter (is_chosen taken.All day t) ps)) ≡ measure (flat_map (moved_day day t) ps)
+    whole_part [] = refl
+    whole_part (p ∷ ps) =
+        elim (day_of t p == day) as (λ b. measure (moved (cond (b && true) (p ∷ filter (is_chosen taken.All day t) ps) (filter (is_chosen taken.All day t) ps))) ≡ measure (cond b (moved_by p) [] ++ flat_map (moved_day day t) ps)) [
+          | true ↦ omega (arith, measure-append (moved_by p) (moved (filter (is_chosen taken.All day t) ps)), measure-append (moved_by p) (flat_map (moved_day day t) ps), whole_part ps)
+          | false ↦ whole_part ps
+        ]
+
+    two_parts : (ps : List Posting) → measure (moved (filter (is_chosen taken.ButFound day t) ps)) + measure (moved (filter (is_chosen taken.Found day t) ps)) ≡ measure (flat_map (moved_day day t) ps)
+    two_parts [] = refl
+    two_parts (p ∷ ps) =
+        let rest = two_parts ps in
+        let one = measure-append (moved_by p) (moved (filter (is_chosen taken.ButFound day t) ps)) in
+        let two = measure-append (moved_by p) (moved (filter (is_chosen taken.Found day t) ps)) in
+        let all = measure-append (moved_by p) (flat_map (moved_day day t) ps) in
+        elim (day_of t p == day) as (λ b. measure (moved (cond (b && not (is_found p)) (p ∷ filter (is_chosen taken.ButFound day t) ps) (filter (is_chosen taken.ButFound day t) ps))) + measure (moved (cond (b && is_found p) (p ∷ filter (is_chosen taken.Found day t) ps) (filter (is_chosen taken.Found day t) ps))) ≡ measure (cond b (moved_by p) [] ++ flat_map (moved_day day t) ps)) [
+          | true ↦ elim (is_found p) as (λ f. measure (moved (cond (not f) (p ∷ filter (is_chosen taken.ButFound day t) ps) (filter (is_chosen taken.ButFound day t) ps))) + measure (moved (cond f (p ∷ filter (is_chosen taken.Found day t) ps) (filter (is_chosen taken.Found day t) ps))) ≡ measure (moved_by p ++ flat_map (moved_day day t) ps)) [
+            | true ↦ omega (arith, rest, two, all)
+            | false ↦ omega (arith, rest, one, all)
+          ]
+          | false ↦ rest
+        ]
+
+    -- the order of a group's postings doesn't change how much they move
+    measure-on : measure (moved_on day t) ≡ measure (flat_map (moved_day day t) t.postings)
+    measure-on =
+        elim (list_any is_assigned t.postings) as (λ b. measure (moved (cond b (part_on taken.ButFound day t ++ part_on taken.Found day t) (part_on taken.All day t))) ≡ measure (flat_map (moved_day day t) t.postings)) [
+          | true ↦ ap measure (flat_map-append moved_by (part_on taken.ButFound day t) (part_on taken.Found day t)) ∙ measure-append (moved (part_on taken.ButFound day t)) (moved (part_on taken.Found day t)) ∙ two_parts t.postings
+          | false ↦ whole_part t.postings
+        ]
+
   module _ (t : Txn) (n : ℕ) where
     abbrev one : Posting → Group → ℕ
-    one p g = cond (g.1 == n) (measure (moved_when g.0 t p)) 0
+    one p g = cond (g.1 == n) (measure (moved_day g.0 t p)) 0
 
     abbrev part : List Posting → Group → ℕ
-    part ps g = cond (g.1 == n) (measure (flat_map (moved_when g.0 t) ps)) 0
+    part ps g = cond (g.1 == n) (measure (flat_map (moved_day g.0 t) ps)) 0
 
     one-here : (p : Posting) → one p (day_of t p, n) ≡ measure (moved_by p)
     one-here p =
-        ap (λ (b : Bool). cond b (measure (moved_when (day_of t p) t p)) 0) (eqb-same n)
+        ap (λ (b : Bool). cond b (measure (moved_day (day_of t p) t p)) 0) (eqb-same n)
         ∙ ap (λ (b : Bool). measure (cond b (moved_by p) [])) (eqb-same (day_of t p))
 
     one-counts : (p : Posting) (gs : List Group) → has_group (day_of t p, n) gs ≡ true → measure (moved_by p) ≤ total (one p) gs
@@ -144,8 +183,8 @@ module _ (m : Value → ℕ) where
 
     part-more : (p : Posting) (ps : List Posting) (g : Group) → part (p ∷ ps) g ≡ one p g + part ps g
     part-more p ps g =
-        elim (g.1 == n) as (λ b. cond b (measure (moved_when g.0 t p ++ flat_map (moved_when g.0 t) ps)) 0 ≡ cond b (measure (moved_when g.0 t p)) 0 + cond b (measure (flat_map (moved_when g.0 t) ps)) 0) [
-          | true ↦ measure-append (moved_when g.0 t p) (flat_map (moved_when g.0 t) ps)
+        elim (g.1 == n) as (λ b. cond b (measure (moved_day g.0 t p ++ flat_map (moved_day g.0 t) ps)) 0 ≡ cond b (measure (moved_day g.0 t p)) 0 + cond b (measure (flat_map (moved_day g.0 t) ps)) 0) [
+          | true ↦ measure-append (moved_day g.0 t p) (flat_map (moved_day g.0 t) ps)
           | false ↦ omega arith
         ]
 
@@ -165,20 +204,21 @@ module _ (m : Value → ℕ) where
       by : (g.1 < n) ⊎ ((g.1 ≡ n) ⊎ (n < g.1)) → later n (w ∷ ws) g ≡ part (settled w) n (settled w).postings g + later (n + 1) ws g
       by (inl less) =
           ap (λ (b : Bool). cond b (measure (moved_of_group g.0 (slice_get (w ∷ ws) (g.1 - n)))) 0) (leb-no n g.1 less)
-          ∙ sym (ap (λ (b : Bool). cond b (measure (moved_on g.0 (settled w))) 0 + later (n + 1) ws g) (eqb-no g.1 n (λ e. omega (arith, e)))
+          ∙ sym (ap (λ (b : Bool). cond b (measure (flat_map (moved_day g.0 (settled w)) (settled w).postings)) 0 + later (n + 1) ws g) (eqb-no g.1 n (λ e. omega (arith, e)))
           ∙ ap (λ (b : Bool). 0 + cond b (measure (moved_of_group g.0 (slice_get ws (g.1 - (n + 1))))) 0) (leb-no (n + 1) g.1 (omega arith)))
       by (inr (inl same)) =
           let at : g.1 - n ≡ 0 = omega (arith, same) in
           ap (λ (b : Bool). cond b (measure (moved_of_group g.0 (slice_get (w ∷ ws) (g.1 - n)))) 0) (leb-yes n g.1 (omega (arith, same)))
           ∙ ap (λ k. measure (moved_of_group g.0 (slice_get (w ∷ ws) k))) at
-          ∙ sym (ap (λ (b : Bool). cond b (measure (moved_on g.0 (settled w))) 0 + later (n + 1) ws g) (ap (λ k. k == n) same ∙ eqb-same n)
-          ∙ ap (λ (b : Bool). measure (moved_on g.0 (settled w)) + cond b (measure (moved_of_group g.0 (slice_get ws (g.1 - (n + 1))))) 0) (leb-no (n + 1) g.1 (omega (arith, same)))
+          ∙ measure-on g.0 (settled w)
+          ∙ sym (ap (λ (b : Bool). cond b (measure (flat_map (moved_day g.0 (settled w)) (settled w).postings)) 0 + later (n + 1) ws g) (ap (λ k. k == n) same ∙ eqb-same n)
+          ∙ ap (λ (b : Bool). measure (flat_map (moved_day g.0 (settled w)) (settled w).postings) + cond b (measure (moved_of_group g.0 (slice_get ws (g.1 - (n + 1))))) 0) (leb-no (n + 1) g.1 (omega (arith, same)))
           ∙ omega arith)
       by (inr (inr more)) =
           let at : g.1 - n ≡ suc (g.1 - (n + 1)) = omega arith in
           ap (λ (b : Bool). cond b (measure (moved_of_group g.0 (slice_get (w ∷ ws) (g.1 - n)))) 0) (leb-yes n g.1 (omega arith))
           ∙ ap (λ k. measure (moved_of_group g.0 (slice_get (w ∷ ws) k))) at
-          ∙ sym (ap (λ (b : Bool). cond b (measure (moved_on g.0 (settled w))) 0 + later (n + 1) ws g) (eqb-no g.1 n (λ e. omega (arith, e)))
+          ∙ sym (ap (λ (b : Bool). cond b (measure (flat_map (moved_day g.0 (settled w)) (settled w).postings)) 0 + later (n + 1) ws g) (eqb-no g.1 n (λ e. omega (arith, e)))
           ∙ ap (λ (b : Bool). 0 + cond b (measure (moved_of_group g.0 (slice_get ws (g.1 - (n + 1))))) 0) (leb-yes (n + 1) g.1 (omega arith))
           ∙ omega arith)
 

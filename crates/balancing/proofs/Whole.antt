@@ -14,16 +14,17 @@ use Rattle.book.specs.Order.{each_once}
 use Rattle.book.proofs.Order.{contains-each_once, is_equal}
 use Rattle.entry_balance.specs.Values.{Value}
 use Rattle.entry_balance.specs.Tally.{turnover_fits}
-use Rattle.entry_balance.specs.Entry.{cause_alone}
+use Rattle.entry_balance.specs.Entry.{cause_alone, is_assignable}
 use Rattle.balancing.specs.Groups.{Group, group_cmp, groups_by, groups_from, groups_of, day_of}
-use Rattle.balancing.specs.Load.{moved_on, moved_of_group, postings_of_group, group_cause, fault_at, fault_of_group, first_fault, loaded, book_of}
-use Rattle.balancing.specs.Assertions.{or_else_fault, first_failure}
+use Rattle.balancing.specs.Load.{moved_on, moved_of_group, group_cause, fault_at, fault_of_group, first_fault, loaded, book_of}
+use Rattle.balancing.specs.Assertions.{or_else_fault, first_failure, postings_of_group}
+use Rattle.balancing.specs.Assigned.{is_ready}
 use Rattle.entry_balance.specs.Entry.{settled}
 use Rattle.entry_balance.specs.Settled.{lacks_sums, AreSettled}
 use Rattle.std.proofs.lemmas.List.{append-nil}
-use Rattle.balancing.specs.Walk.{IsRead, IsTold}
+use Rattle.balancing.specs.Walk.{IsRead}
 use Rattle.balancing.proofs.Ordered.{same_group}
-use Rattle.balancing.proofs.Walked.{lacks_told}
+use Rattle.balancing.proofs.Walked.{lacks_told, not_true, solved_here}
 
 then_equal : (a b : Ordering) → ordering_then a b ≡ Equal → (a ≡ Equal) × (b ≡ Equal)
 then_equal Less b h = absurd (let never : ⊥ = cc in never)
@@ -95,32 +96,29 @@ each_has_sums written h k w at =
     let told : fault_of_group none.0 group.0 (Some w) ≡ None = ap (fault_of_group none.0 group.0) (sym (ap (slice_get written) number ∙ at)) ∙ none.1 in
     has_sums (cause_alone w.postings) w.line (turnover_fits (none.0 ++ moved_on group.0 (settled w))) _ refl told
 
-all_settled : (ws ts : List Txn) (cs : List (Option Cause)) → AreSettled ws ts cs → ((k : ℕ) (w : Txn) → slice_get ws k ≡ Some w → lacks_sums (cause_alone w.postings) ≡ false) → ts ≡ map settled ws
+all_settled : (ws ts : List Txn) (cs : List (Option Cause)) → AreSettled ws ts cs → ((k : ℕ) (w : Txn) → slice_get ws k ≡ Some w → (is_assignable w.postings ≡ false) × (lacks_sums (cause_alone w.postings) ≡ false)) → ts ≡ map settled ws
 all_settled [] [] [] h sums = refl
 all_settled [] [] (c ∷ cs) h sums = absurd h
 all_settled [] (t ∷ ts) cs h sums = absurd h
 all_settled (w ∷ ws) [] cs h sums = absurd h
 all_settled (w ∷ ws) (t ∷ ts) [] h sums = absurd h
 all_settled (w ∷ ws) (t ∷ ts) (c ∷ cs) h sums =
-    let first : t ≡ settled w = h.0.sums (sums 0 w refl) in
+    let here = sums 0 w refl in
+    let first : t ≡ settled w = solved_here w t c here.0 h.0 (ap lacks_sums h.0.cause ∙ here.1) in
     let rest = all_settled ws ts cs h.1 (λ k v e. sums (suc k) v e) in
     λ i. first i ∷ rest i
 
--- the book of a text without a fault
-pub whole_book : (written ts : List Txn) (cs : List (Option Cause)) → AreSettled written ts cs → None ≡ first_fault written [] [] (groups_of written) → ts ≡ map settled written
-whole_book written ts cs h none = all_settled written ts cs h (each_has_sums written (sym none))
+-- the book of a text without a fault, whose assignments are made
+pub whole_book : (all ts : List Txn) (cs : List (Option Cause)) → ((k : ℕ) → is_ready (slice_get all k) ≡ true) → AreSettled all ts cs → None ≡ first_fault all [] [] (groups_of all) → ts ≡ map settled all
+whole_book all ts cs ready h none = all_settled all ts cs h (λ k w at. (not_true (is_assignable w.postings) (ap is_ready (sym at) ∙ ready k), each_has_sums all (sym none) k w at))
 
-pub book_ok : (written ts : List Txn) (cs : List (Option Cause)) → AreSettled written ts cs → None ≡ first_fault written [] [] (groups_of written) → book_of written ≡ Ok (record { txns = ts })
-book_ok written ts cs h none = ap (loaded written) (sym none) ∙ ap (λ (xs : List Txn). Ok (record { txns = xs })) (sym (whole_book written ts cs h none))
+pub book_ok : (all ts : List Txn) (cs : List (Option Cause)) → ((k : ℕ) → is_ready (slice_get all k) ≡ true) → AreSettled all ts cs → None ≡ first_fault all [] [] (groups_of all) → book_of all ≡ Ok (record { txns = ts })
+book_ok all ts cs ready h none = ap (loaded all) (sym none) ∙ ap (λ (xs : List Txn). Ok (record { txns = xs })) (sym (whole_book all ts cs ready h none))
 
-pub book_fault : (written : List Txn) (fault : Fault) → Some fault ≡ first_fault written [] [] (groups_of written) → book_of written ≡ Err fault
-book_fault written fault is = ap (loaded written) (sym is)
+pub book_fault : (all : List Txn) (fault : Fault) → Some fault ≡ first_fault all [] [] (groups_of all) → book_of all ≡ Err fault
+book_fault all fault is = ap (loaded all) (sym is)
 
--- what the walk over the groups of a text told
-pub told_of : (written ts : List Txn) (cs : List (Option Cause)) (noted ordered : List Group) (ts' : List Txn) (cs' : List (Option Cause)) (gs' : List Group) (fault : Option Fault)
-    → IsRead written ts cs noted → ordered ≡ each_once group_cmp noted → ts' ≡ ts → cs' ≡ cs → gs' ≡ ordered
-    → ((w : List Txn) → AreSettled w ts' cs' → IsTold w gs' fault) → IsTold written (groups_of written) fault
-told_of written ts cs noted ordered ts' cs' gs' fault read order of_ts of_cs of_gs told =
-    let all : each_once group_cmp noted ≡ groups_of written = ap (each_once group_cmp) (sym (append-nil noted)) ∙ read.groups [] ∙ ap (each_once group_cmp) (append-nil (groups_from 0 written)) in
-    subst (λ (gs : List Group). IsTold written gs fault) (of_gs ∙ order ∙ all)
-    (told written (subst (λ (x : List Txn × List (Option Cause)). AreSettled written x.0 x.1) (λ i. (sym of_ts i, sym of_cs i)) read.settled))
+-- the groups that were noted, in their order
+pub groups_noted : (written ts : List Txn) (cs : List (Option Cause)) (noted ordered : List Group) → IsRead written ts cs noted → ordered ≡ each_once group_cmp noted → ordered ≡ groups_of written
+groups_noted written ts cs noted ordered read order =
+    order ∙ ap (each_once group_cmp) (sym (append-nil noted)) ∙ read.groups [] ∙ ap (each_once group_cmp) (append-nil (groups_from 0 written))

@@ -2,7 +2,6 @@
 use Rattle.std.specs.Prelude.{◌≡◌, ℕ, ◌<◌, Bool, true, false, ◌&&◌, nat_lt, List, [], ◌∷◌, ◌++◌, map, length, slice_index_or, Option, Some, None, is_some, if◌then◌else◌}
 use Rattle.std.specs.List.{list_all}
 use Rattle.std.specs.Str.{bytes_eq}
-use denote.Ref.{Bor}
 use Rattle.book.specs.Entries.{held}
 use Rattle.book.specs.declared.amount.Assertion.{Assertion}
 use Rattle.book.specs.declared.transaction.Posting.{Posting}
@@ -14,12 +13,6 @@ use Rattle.balancing.specs.Assertions.{held_in, lies_under}
 -- names of accounts, the place of each among them, and the sums that are kept for each
 abbrev pub Keeping : Type 0
 Keeping = List (List ℕ) × List (List ℕ × ℕ) × List (List Value)
-
-abbrev pub names_in : List (Bor (List ℕ)) → List (List ℕ)
-names_in names = map (λ n. n.now) names
-
-abbrev pub places_in : List (Bor (List ℕ) × ℕ) → List (List ℕ × ℕ)
-places_in entries = map (λ e. (e.0.now, e.1)) entries
 
 -- sums are kept for an account
 abbrev pub keeps : List ℕ → Keeping → Bool
@@ -52,10 +45,14 @@ pub record IsBalance (seen : List Posting) (own below : Keeping) : Type 0 where
   pub alone : IsKept (λ a. held_in false a seen) own
   pub under : IsKept (λ a. held_in true a seen) below
 
+-- sums are kept for an account, with or without those under it
+abbrev pub is_kept_for : Keeping → Keeping → List ℕ → Bool → Bool
+is_kept_for own below account under = if under then keeps account below else keeps account own
+
 -- sums are kept for what an assertion of an account asks
 abbrev pub is_asked_by : Keeping → Keeping → List ℕ → Option Assertion → Bool
 is_asked_by own below account None = true
-is_asked_by own below account (Some w) = if w.below then keeps account below else keeps account own
+is_asked_by own below account (Some w) = is_kept_for own below account w.below
 
 abbrev pub is_asked : Keeping → Keeping → Posting → Bool
 is_asked own below p = is_asked_by own below p.account p.wanted

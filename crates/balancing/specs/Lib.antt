@@ -1,7 +1,11 @@
 pub mod Assertions
+pub mod Assigned
 pub mod Check
 pub mod Claims
+pub mod Giving
 pub mod Groups
 pub mod Kept
 pub mod Load
+pub mod Solves
+pub mod Texts
 pub mod Walk

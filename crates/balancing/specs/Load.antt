@@ -1,6 +1,6 @@
 -- The book of a text's items, or the fault that they have.
-use Rattle.std.specs.Prelude.{ℕ, ◌==◌, Bool, true, false, List, [], ◌∷◌, ◌++◌, map, Option, Some, None, Result, Ok, Err, if◌then◌else◌}
-use Rattle.std.specs.List.{slice_get, flat_map}
+use Rattle.std.specs.Prelude.{ℕ, Bool, true, false, List, [], ◌∷◌, ◌++◌, map, Option, Some, None, Result, Ok, Err}
+use Rattle.std.specs.List.{slice_get}
 use Rattle.book.specs.declared.transaction.Posting.{Posting}
 use Rattle.book.specs.declared.transaction.Txn.{Txn}
 use Rattle.book.specs.declared.item.Placed.{Placed}
@@ -11,24 +11,20 @@ use Rattle.book.specs.declared.fault.Cause.TheVariants as cause
 use Rattle.book.specs.Postings.{txns_of}
 use Rattle.entry_balance.specs.Values.{Value}
 use Rattle.entry_balance.specs.Tally.{turnover_fits}
-use Rattle.entry_balance.specs.Entry.{settled, moved_by, cause_alone}
-use Rattle.balancing.specs.Assertions.{postings_on, first_failure, or_else_fault}
-use Rattle.balancing.specs.Groups.{Group, groups_of, day_of}
-
--- what a posting moves, if it is of that day
-abbrev pub moved_when : ℕ → Txn → Posting → List Value
-moved_when day t p = if day_of t p == day then moved_by p else []
+use Rattle.entry_balance.specs.Entry.{settled, moved, cause_alone}
+use Rattle.balancing.specs.Assertions.{postings_on, postings_of_group, first_failure, or_else_fault}
+use Rattle.balancing.specs.Assigned.{assigned}
+use Rattle.balancing.specs.Groups.{Group, groups_of}
 
 -- what a transaction's group on a day moves
 abbrev pub moved_on : ℕ → Txn → List Value
-moved_on day t = flat_map (moved_when day t) t.postings
+moved_on day t = moved (postings_on day t)
 
 -- what is wrong with a group after others that moved so much: two missing amounts and assignments that can't be made
 -- before all; then a turnover that is out of range; then what is wrong with its transaction
 abbrev pub group_cause : Bool → Option Cause → Option Cause
 group_cause fits (Some cause.TwoMissing) = Some cause.TwoMissing
 group_cause fits (Some cause.NotAllowed) = Some cause.NotAllowed
-group_cause fits (Some cause.NotBuilt) = Some cause.NotBuilt
 group_cause true alone = alone
 group_cause false alone = Some cause.Range
 
@@ -48,10 +44,6 @@ abbrev pub moved_of_group : ℕ → Option Txn → List Value
 moved_of_group day None = []
 moved_of_group day (Some t) = moved_on day (settled t)
 
-abbrev pub postings_of_group : ℕ → Option Txn → List Posting
-postings_of_group day None = []
-postings_of_group day (Some t) = postings_on day (settled t)
-
 -- the fault of the first group that has one, after others that have these postings and moved so much. Assertions come
 -- last in a group
 abbrev pub first_fault : List Txn → List Value → List Posting → List Group → Option Fault
@@ -66,11 +58,11 @@ abbrev pub loaded : List Txn → Option Fault → Result Book Fault
 loaded txns None = Ok (record { txns = map settled txns })
 loaded txns (Some fault) = Err fault
 
--- the book of some transactions, or their fault
+-- the book of some transactions whose assignments are made, or their fault
 abbrev pub book_of : List Txn → Result Book Fault
 book_of txns = loaded txns (first_fault txns [] [] (groups_of txns))
 
 -- the book of the items of a text: its transactions in their order, with what balancing found; or the fault of the
 -- first group, by day and then by transaction, that has one
 abbrev pub load : List Placed → Result Book Fault
-load items = book_of (txns_of items)
+load items = book_of (assigned (txns_of items))

@@ -1,5 +1,5 @@
 -- What is known while groups are judged one after another.
-use Rattle.std.specs.Prelude.{◌≡◌, ◌≤◌, ℕ, true, List, [], ◌∷◌, ◌++◌, Option, Some, None}
+use Rattle.std.specs.Prelude.{◌≡◌, ◌≤◌, ℕ, true, List, [], ◌∷◌, ◌++◌, Option, Some, None, is_some, if◌then◌else◌}
 use Rattle.std.specs.List.{slice_get, AllByRecursion}
 use Rattle.book.specs.declared.fault.Cause.{Cause}
 use Rattle.book.specs.declared.fault.Fault.{Fault}
@@ -10,10 +10,12 @@ use Rattle.entry_balance.specs.Tally.{turnover_fits}
 use Rattle.entry_balance.specs.Turnover.{IsTurnover}
 use Rattle.balancing.specs.Groups.{Group, groups_from, group_cmp}
 use Rattle.book.specs.declared.transaction.Posting.{Posting}
-use Rattle.entry_balance.specs.Entry.{moved}
-use Rattle.balancing.specs.Assertions.{first_failure, postings_on, or_else_fault}
-use Rattle.balancing.specs.Kept.{Keeping, IsBalance}
-use Rattle.balancing.specs.Load.{moved_on, moved_of_group, postings_of_group, group_cause, fault_at, fault_of_group, first_fault}
+use Rattle.entry_balance.specs.Entry.{is_assignable, moved, moved_by}
+use Rattle.balancing.specs.Assertions.{first_failure, is_chosen, postings_on, postings_of_group, or_else_fault}
+use Rattle.balancing.specs.Kept.{Keeping, IsBalance, are_asked}
+use Rattle.balancing.specs.Assigned.{given_at, given_from}
+use Rattle.balancing.specs.declared.groups.Part.{Part}
+use Rattle.balancing.specs.Load.{moved_on, moved_of_group, group_cause, fault_at, fault_of_group, first_fault}
 use Rattle.entry_balance.specs.Settled.{AreSettled}
 
 -- The transactions that were read are settled, and their groups were noted.
@@ -30,6 +32,16 @@ pub record IsJudged (before : List Value) (day : ℕ) (txn : Txn) (cause : Optio
 pub record IsVisited (written : List Txn) (before : List Value) (group : Group) (sums : List Value) (fault : Option Fault) : Type 0 where
   pub is : fault ≡ fault_of_group before group.0 (slice_get written group.1)
   pub more : fault ≡ None → IsTurnover (before ++ moved_of_group group.0 (slice_get written group.1)) sums
+
+-- what a posting moves, if it is of a day and a part
+abbrev pub moved_when : Part → ℕ → Txn → Posting → List Value
+moved_when part day t p = if is_chosen part day t p then moved_by p else []
+
+-- The assignments of a group's transaction were made after other postings, or what is moved through it is out of range.
+pub record IsGiven (written : List Txn) (seen : List Posting) (g : Group) (own below : Keeping) (txns : List Txn) (causes : List (Option Cause)) (fault : Option Fault) : Type 0 where
+  pub settled : fault ≡ None → AreSettled (given_at seen g.1 written) txns causes
+  pub asked : fault ≡ None → are_asked own below txns ≡ true
+  pub range : is_some fault ≡ true → fault ≡ fault_of_group (moved seen) g.0 (slice_get (given_at seen g.1 written) g.1)
 
 -- what some groups move, one after another
 abbrev pub moved_before : List Txn → List Value → List Group → List Value
@@ -61,8 +73,32 @@ pub record IsWalked (written : List Txn) (groups left : List Group) (before : Li
   pub turnover : IsTurnover before sums
   pub balance : IsBalance seen own below
 
--- The fault of the first group that has one; without a fault all that is moved is within the bound.
-pub record IsTold (written : List Txn) (groups : List Group) (fault : Option Fault) : Type 0 where
-  pub is : fault ≡ first_fault written [] [] groups
-  pub within : fault ≡ None → turnover_fits (moved_before written [] groups) ≡ true
-  pub few : fault ≡ None → AllByRecursion (λ v. v.1.places ≤ 36) (moved_before written [] groups)
+-- A transaction whose assignments are still to be made is of the day.
+abbrev pub IsOwn : ℕ → Option Txn → Type 0
+IsOwn day None = Unit {0}
+IsOwn day (Some t) = is_assignable t.postings ≡ true → t.day.0 ≡ day
+
+-- The same of each group.
+abbrev pub AreOwn : List Txn → List Group → Type 0
+AreOwn txns groups = AllByRecursion (λ g. IsOwn g.0 (slice_get txns g.1)) groups
+
+-- The assignments are made up to some groups: those that are left lead to the transactions with all of them.
+pub record AreGiven (all now txns : List Txn) (causes : List (Option Cause)) (seen : List Posting) (left : List Group) (own below : Keeping) : Type 0 where
+  pub rest : given_from now seen left ≡ all
+  pub owned : AreOwn now left
+  pub settled : AreSettled now txns causes
+  pub asked : are_asked own below txns ≡ true
+
+-- What is known after one more group: its answer, and without a fault the assignments are made through it, and the
+-- turnover and the balances have it.
+pub record IsAfter (all now txns : List Txn) (causes : List (Option Cause)) (seen : List Posting) (g : Group) (left : List Group) (sums : List Value) (own below : Keeping) (fault : Option Fault) : Type 0 where
+  pub passed : IsPassed all (moved seen) seen g sums own below fault
+  pub given : fault ≡ None → AreGiven all (given_at seen g.1 now) txns causes (seen ++ postings_of_group g.0 (slice_get all g.1)) left own below
+
+-- The fault of the first group that has one; without a fault the transactions are settled, and all that is moved is
+-- within the bound.
+pub record IsTold (all txns : List Txn) (causes : List (Option Cause)) (groups : List Group) (fault : Option Fault) : Type 0 where
+  pub is : fault ≡ first_fault all [] [] groups
+  pub settled : fault ≡ None → AreSettled all txns causes
+  pub within : fault ≡ None → turnover_fits (moved_before all [] groups) ≡ true
+  pub few : fault ≡ None → AllByRecursion (λ v. v.1.places ≤ 36) (moved_before all [] groups)

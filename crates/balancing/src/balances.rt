@@ -17,12 +17,12 @@ use std::alloc::Global;
 
 /// The sums of the accounts that assertions ask for: of each alone, and of each with those under it.
 #[derive(Drop)]
-pub(crate) struct Balances<'a> {
-    pub own: Kept<'a>,
-    pub below: Kept<'a>,
+pub(crate) struct Balances {
+    pub own: Kept,
+    pub below: Kept,
 }
 
-impl<'a> Balances<'a> {
+impl Balances {
     /// Whether no assertion asks for anything.
     pub(crate) fn is_empty(&self) -> bool
         ensures own { result ≡ true → self.now.own.0 ≡ [] }
@@ -33,26 +33,39 @@ impl<'a> Balances<'a> {
 }
 
 /// The balances before any posting, of all that the assertions of some transactions ask for.
-pub(crate) fn asked<'a>(alloc: Global, txns: &'a [Txn]) -> Result<Balances<'a>, Memory>
+pub(crate) fn asked(alloc: Global, txns: &[Txn]) -> Result<Balances, Memory>
     ensures fresh { IfOk result (λ balances. IsBalance [] balances.own balances.below) }
     ensures asked { IfOk result (λ balances. are_asked balances.own balances.below txns.now ≡ true) }
 {
-    let mut balances = Balances {
-        own: Kept::new(alloc),
-        below: Kept::new(alloc),
-    };
+    let mut balances = no_balances(alloc);
     for txn in txns {
         ask_each(alloc, &mut balances, txn.postings.as_slice())?;
     }
     Ok(balances)
 }
 
+/// Balances of nothing.
+fn no_balances(alloc: Global) -> Balances
+    ensures { IsBalance [] result.own result.below }
+{
+    Balances {
+        own: Kept::new(alloc),
+        below: Kept::new(alloc),
+    }
+}
+
+/// The balances before any posting, of all that the assertions of some postings ask for.
+pub(crate) fn asked_by(alloc: Global, postings: &[Posting]) -> Result<Balances, Memory>
+    ensures fresh { IfOk result (λ balances. IsBalance [] balances.own balances.below) }
+    ensures asked { IfOk result (λ balances. list_all (is_asked balances.own balances.below) postings.now ≡ true) }
+{
+    let mut balances = no_balances(alloc);
+    ask_each(alloc, &mut balances, postings)?;
+    Ok(balances)
+}
+
 /// Asks for all that the assertions of some postings ask for.
-fn ask_each<'a>(
-    alloc: Global,
-    balances: &mut Balances<'a>,
-    postings: &'a [Posting],
-) -> Result<(), Memory>
+fn ask_each(alloc: Global, balances: &mut Balances, postings: &[Posting]) -> Result<(), Memory>
     ensures fresh { OnOk result (IsBalance [] balances.old.own balances.old.below → IsBalance [] balances.new.own balances.new.below) }
     ensures asked { OnOk result (list_all (is_asked balances.new.own balances.new.below) postings.now ≡ true) }
     ensures stays { OnOk result (Stays balances.old.own balances.old.below balances.new.own balances.new.below) }
@@ -64,7 +77,7 @@ fn ask_each<'a>(
 }
 
 /// Asks for what the assertion of a posting asks for, if it has one.
-fn ask<'a>(alloc: Global, balances: &mut Balances<'a>, posting: &'a Posting) -> Result<(), Memory>
+fn ask(alloc: Global, balances: &mut Balances, posting: &Posting) -> Result<(), Memory>
     ensures fresh { OnOk result (IsBalance [] balances.old.own balances.old.below → IsBalance [] balances.new.own balances.new.below) }
     ensures asked { OnOk result (is_asked balances.new.own balances.new.below posting.now ≡ true) }
     ensures stays { OnOk result (Stays balances.old.own balances.old.below balances.new.own balances.new.below) }
@@ -83,9 +96,10 @@ fn ask<'a>(alloc: Global, balances: &mut Balances<'a>, posting: &'a Posting) -> 
 }
 
 /// Adds a posting's amount to its account, and to those that it lies under.
-pub(crate) fn add_posting<'a>(
-    balances: &mut Balances<'a>,
-    posting: &'a Posting,
+pub(crate) fn add_posting(
+    alloc: Global,
+    balances: &mut Balances,
+    posting: &Posting,
 ) -> Result<(), TallyFault>
     ensures ok { OnOk result ((seen : List Posting) → IsBalance seen balances.old.own balances.old.below
         → IsBalance (seen ++ posting.now ∷ []) balances.new.own balances.new.below) }
@@ -98,21 +112,22 @@ pub(crate) fn add_posting<'a>(
         Some(amount) => {
             let account = posting.account.as_bytes();
             let symbol = amount.symbol.as_str();
-            match balances.own.add(account, symbol, amount.value) {
+            match balances.own.add(alloc, account, symbol, amount.value) {
                 Ok(()) => {}
                 Err(fault) => return Err(fault),
             }
-            add_above(&mut balances.below, account, symbol, amount.value)
+            add_above(alloc, &mut balances.below, account, symbol, amount.value)
         }
         None => Ok(()),
     }
 }
 
 /// Adds a number to an account and to each that it lies under.
-fn add_above<'a>(
-    below: &mut Kept<'a>,
-    account: &'a [u8],
-    symbol: &'a str,
+fn add_above(
+    alloc: Global,
+    below: &mut Kept,
+    account: &[u8],
+    symbol: &str,
     value: Dec,
 ) -> Result<(), TallyFault>
     ensures ok { OnOk result ((values : List ℕ → List Value) → IsKept values below.old
@@ -126,11 +141,11 @@ fn add_above<'a>(
     }
     for at in 0..account.len() {
         if account[at] == b':' {
-            match below.add(&account[..at], symbol, value) {
+            match below.add(alloc, &account[..at], symbol, value) {
                 Ok(()) => {}
                 Err(fault) => return Err(fault),
             }
         }
     }
-    below.add(account, symbol, value)
+    below.add(alloc, account, symbol, value)
 }

@@ -1,19 +1,20 @@
 //! Assertions, each judged just after its posting.
-ghost use Rattle.std.specs.Prelude.{◌≡◌, ◌++◌, ◌∷◌, [], true, false, Some, None, List, filter, option_map, IfOk, IfErr};
+ghost use Rattle.std.specs.Prelude.{◌≡◌, ◌++◌, ◌∷◌, [], true, false, Some, None, List, IfOk, IfErr, IsSomeAnd};
 ghost use Rattle.std.specs.List.{list_all};
 ghost use Rattle.book.specs.declared.transaction.Posting.{Posting};
 ghost use Rattle.entry_balance.specs.Values.{Value};
 ghost use Rattle.entry_balance.specs.Entry.{moved};
-ghost use Rattle.entry_balance.specs.Tally.{named, sums_of, turnover_fits, IsRange};
-ghost use Rattle.balancing.specs.Assertions.{is_same, is_other, first_of, found_instead, failure_at, failure_of, postings_on};
-ghost use Rattle.balancing.specs.Kept.{IsBalance, is_asked};
+ghost use Rattle.entry_balance.specs.Tally.{sums_of, turnover_fits, IsRange};
+ghost use Rattle.balancing.specs.Assertions.{held_in, is_same, found_instead, failure_at, failure_of, part_on, postings_on};
+ghost use Rattle.balancing.specs.Kept.{IsBalance, is_asked, is_kept_for};
 ghost use Rattle.balancing.specs.Claims.{IsClaimed, AreClaimed};
 
 use crate::balances::{Balances, add_posting};
-use crate::groups::day_of;
+use crate::groups::{Part, has_assigned, is_chosen};
 use crate::judge::copied_amount;
+use crate::totals::Totals;
 use book::{Assertion, Cause, Fault, Posting, Txn};
-use entry_balance::{Sum, Tally, TallyFault, plain_amount};
+use entry_balance::{TallyFault, plain_amount};
 use hl_base::Memory;
 use hl_num::Dec;
 use std::alloc::Global;
@@ -21,10 +22,10 @@ use std::cmp::Ordering;
 
 /// Adds the postings of a transaction's group on a day to the balances, each assertion judged just after its posting,
 /// up to the first one that fails.
-pub(crate) fn claim_group<'a>(
+pub(crate) fn claim_group(
     alloc: Global,
-    balances: &mut Balances<'a>,
-    txn: &'a Txn,
+    balances: &mut Balances,
+    txn: &Txn,
     day: u32,
 ) -> Result<Option<Fault>, TallyFault>
     ensures ok { IfOk result (λ fault. (seen : List Posting) → IsBalance seen balances.old.own balances.old.below
@@ -36,8 +37,36 @@ pub(crate) fn claim_group<'a>(
         → list_all (is_asked balances.old.own balances.old.below) txn.now.postings ≡ true
         → turnover_fits (moved (seen ++ postings_on day txn.now)) ≡ false) }
 {
+    if !has_assigned(txn.postings.as_slice()) {
+        return claim_part(alloc, balances, txn, day, Part::All);
+    }
+    match claim_part(alloc, balances, txn, day, Part::ButFound) {
+        Ok(None) => claim_part(alloc, balances, txn, day, Part::Found),
+        Ok(Some(fault)) => Ok(Some(fault)),
+        Err(fault) => Err(fault),
+    }
+}
+
+/// Adds the postings of a part of a transaction on a day to the balances, each assertion judged just after its posting,
+/// up to the first one that fails.
+fn claim_part(
+    alloc: Global,
+    balances: &mut Balances,
+    txn: &Txn,
+    day: u32,
+    part: Part,
+) -> Result<Option<Fault>, TallyFault>
+    ensures ok { IfOk result (λ fault. (seen : List Posting) → IsBalance seen balances.old.own balances.old.below
+        → list_all (is_asked balances.old.own balances.old.below) txn.now.postings ≡ true
+        → AreClaimed seen (part_on part day txn.now) balances.new.own balances.new.below fault) }
+    ensures own { IfOk result (λ fault. balances.new.own.1 ≡ balances.old.own.1) }
+    ensures below { IfOk result (λ fault. balances.new.below.1 ≡ balances.old.below.1) }
+    ensures range { IfErr result (λ e. IsRange e → (seen : List Posting) → IsBalance seen balances.old.own balances.old.below
+        → list_all (is_asked balances.old.own balances.old.below) txn.now.postings ≡ true
+        → turnover_fits (moved (seen ++ part_on part day txn.now)) ≡ false) }
+{
     for posting in txn.postings.as_slice() {
-        if day_of(txn, posting) == day {
+        if is_chosen(part, txn, posting, day) {
             match claim(alloc, balances, posting) {
                 Ok(None) => {}
                 Ok(Some(fault)) => return Ok(Some(fault)),
@@ -49,10 +78,10 @@ pub(crate) fn claim_group<'a>(
 }
 
 /// Adds a posting to the balances, and judges its assertion.
-fn claim<'a>(
+fn claim(
     alloc: Global,
-    balances: &mut Balances<'a>,
-    posting: &'a Posting,
+    balances: &mut Balances,
+    posting: &Posting,
 ) -> Result<Option<Fault>, TallyFault>
     ensures ok { IfOk result (λ fault. (seen : List Posting) → IsBalance seen balances.old.own balances.old.below
         → is_asked balances.old.own balances.old.below posting.now ≡ true
@@ -62,7 +91,7 @@ fn claim<'a>(
     ensures range { IfErr result (λ e. IsRange e → (seen : List Posting) → IsBalance seen balances.old.own balances.old.below
         → turnover_fits (moved (seen ++ posting.now ∷ [])) ≡ false) }
 {
-    match add_posting(balances, posting) {
+    match add_posting(alloc, balances, posting) {
         Ok(()) => {}
         Err(fault) => return Err(fault),
     }
@@ -73,11 +102,7 @@ fn claim<'a>(
 }
 
 /// The fault of a posting's assertion, if it has one that fails.
-fn failure<'a>(
-    alloc: Global,
-    balances: &Balances<'a>,
-    posting: &'a Posting,
-) -> Result<Option<Fault>, Memory>
+fn failure(alloc: Global, balances: &Balances, posting: &Posting) -> Result<Option<Fault>, Memory>
     ensures { IfOk result (λ fault. (seen : List Posting) → IsBalance seen balances.now.own balances.now.below
         → is_asked balances.now.own balances.now.below posting.now ≡ true
         → fault ≡ failure_of seen posting.now posting.now.wanted) }
@@ -86,17 +111,29 @@ fn failure<'a>(
         Some(wanted) => {
             let wanted = wanted.get();
             let account = posting.account.as_bytes();
-            let tally = if wanted.below {
-                balances.below.tally(account)
-            } else {
-                balances.own.tally(account)
-            };
-            match tally {
-                Some(tally) => judged(alloc, posting.line, wanted, tally),
+            match asked_for(balances, account, wanted.below) {
+                Some(totals) => judged(alloc, posting.line, wanted, totals),
                 None => Ok(None),
             }
         }
         None => Ok(None),
+    }
+}
+
+/// The sums of an account that an assertion asks for.
+pub(crate) fn asked_for<'a>(
+    balances: &'a Balances,
+    account: &[u8],
+    below: bool,
+) -> Option<&'a Totals>
+    ensures { (seen : List Posting) → IsBalance seen balances.now.own balances.now.below
+        → is_kept_for balances.now.own balances.now.below account.now below ≡ true
+        → IsSomeAnd result (λ totals. totals.now ≡ sums_of (held_in below account.now seen)) }
+{
+    if below {
+        balances.below.totals(account)
+    } else {
+        balances.own.totals(account)
     }
 }
 
@@ -105,43 +142,23 @@ fn judged(
     alloc: Global,
     line: u64,
     wanted: &Assertion,
-    tally: &Tally,
+    totals: &Totals,
 ) -> Result<Option<Fault>, Memory>
-    ensures { IfOk result (λ fault. (values : List Value) → tally.now ≡ sums_of values
+    ensures { IfOk result (λ fault. (values : List Value) → totals.now ≡ sums_of values
         → fault ≡ failure_at line wanted.now (found_instead wanted.now values)) }
 {
     let symbol = wanted.amount.symbol.as_str();
-    let total = tally.total(symbol);
+    let total = totals.total(symbol);
     if !is_same(total, wanted.amount.value) {
         return failed(alloc, line, wanted, symbol, total);
     }
     if !wanted.only {
         return Ok(None);
     }
-    let sums = tally.sums(alloc)?;
-    match first_other(&sums, symbol) {
+    match totals.first_other(symbol) {
         Some((other, sum)) => failed(alloc, line, wanted, other, sum),
         None => Ok(None),
     }
-}
-
-/// The first sum of another symbol that isn't zero.
-fn first_other<'a>(sums: &[Sum<'a>], symbol: &str) -> Option<Sum<'a>>
-    ensures { option_map (λ sum. (sum.0.now, sum.1)) result ≡ first_of (filter (is_other symbol.now) (named sums.now)) }
-{
-    for sum in sums {
-        if is_other(sum, symbol) {
-            return Some((sum.0, sum.1));
-        }
-    }
-    None
-}
-
-/// Whether a sum is of another symbol and isn't zero.
-fn is_other(sum: &Sum, symbol: &str) -> bool
-    ensures { result ≡ is_other symbol.now (sum.now.0.now, sum.now.1) }
-{
-    sum.0 != symbol && !sum.1.is_zero()
 }
 
 /// Whether two numbers are one, however many decimals they have.

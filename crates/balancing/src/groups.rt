@@ -1,6 +1,9 @@
 //! The order of groups: the postings of one transaction on one day.
 ghost use Rattle.std.specs.Prelude.{◌≡◌, ◌++◌, true, ◌<◌, List, [], ◌∷◌, length, slice_index_or, IfOk, OnOk};
+ghost use Rattle.std.specs.List.{list_any};
 ghost use Rattle.std.specs.Ordering.{is_lt};
+ghost use Rattle.book.specs.SumsBefore.{is_assigned};
+ghost use Rattle.balancing.specs.Assertions.{is_chosen, is_found, is_in};
 ghost use Rattle.std.specs.BTreeSet.{insert_key};
 ghost use Rattle.book.specs.Order.{each_once};
 ghost use Rattle.balancing.specs.Groups.{Group, group_cmp, groups_by, day_of, is_rising, rises_from};
@@ -12,6 +15,53 @@ use std::collections::BTreeSet;
 
 /// The name of a group: its day, and its transaction's index.
 pub(crate) type Group = (u32, usize);
+
+/// Postings of a transaction: all; all but those whose missing amount was found; or those alone.
+#[derive(Clone, Copy, Debug, PartialEq, Eq)]
+pub(crate) enum Part {
+    All,
+    ButFound,
+    Found,
+}
+
+/// Whether a posting is of a day and of a part of its transaction.
+pub(crate) fn is_chosen(part: Part, txn: &Txn, posting: &Posting, day: u32) -> bool
+    ensures { result ≡ is_chosen part day txn.now posting.now }
+{
+    day_of(txn, posting) == day && is_in(part, posting)
+}
+
+/// Whether a posting is of a part.
+fn is_in(part: Part, posting: &Posting) -> bool
+    ensures { result ≡ is_in part posting.now }
+{
+    match part {
+        Part::All => true,
+        Part::ButFound => !is_found(posting),
+        Part::Found => is_found(posting),
+    }
+}
+
+/// Whether a posting's missing amount was found.
+fn is_found(posting: &Posting) -> bool
+    ensures { result ≡ is_found posting.now }
+{
+    posting.filled && posting.wanted.is_none()
+}
+
+/// Whether a posting's amount was assigned.
+fn is_assigned(posting: &Posting) -> bool
+    ensures { result ≡ is_assigned posting.now }
+{
+    posting.filled && posting.wanted.is_some()
+}
+
+/// Whether the amount of some posting was assigned.
+pub(crate) fn has_assigned(postings: &[Posting]) -> bool
+    ensures { result ≡ list_any is_assigned postings.now }
+{
+    postings.iter().any(is_assigned)
+}
 
 /// Notes the groups of a transaction.
 pub(crate) fn note_groups(groups: &mut Vec<Group>, txn: &Txn, number: usize) -> Result<(), Memory>

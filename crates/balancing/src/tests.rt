@@ -1,5 +1,5 @@
 //! Worked texts.
-use crate::{CheckFault, check};
+use crate::{CheckFault, check, solves, sums_at_places};
 use book::{
     Amount, Assertion, Boxed, Cause, Cost, Item, Mark, Placed, Posting, Side, Txn, Written,
 };
@@ -147,5 +147,13 @@ fn bears_what_else_is_there(rt: HostRuntime) -> Result<(), Fail> {
     let mut items = Vec::new(alloc);
     items.push(dollar_and_euros(alloc, false)?)?;
     assert!(rt; check(alloc, List::from_vec(items)).is_ok());
+    Ok(())
+}
+
+#[test]
+fn has_laws(rt: HostRuntime) -> Result<(), Fail> {
+    solves();
+    sums_at_places();
+    assert!(rt; true);
     Ok(())
 }

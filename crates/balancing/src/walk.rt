@@ -1,32 +1,38 @@
 //! The check of a text's items, which makes its book.
-ghost use Rattle.std.specs.List.{slice_get};
-ghost use Rattle.std.specs.Prelude.{◌≡◌, ◌++◌, ◌∷◌, [], List, ℕ, true, false, None, OnOk, IfOk, IfErr};
+ghost use Rattle.std.specs.List.{list_all, slice_get};
+ghost use Rattle.std.specs.Prelude.{◌≡◌, ◌++◌, ◌∷◌, [], ◌<◌, List, ℕ, length, slice_set, true, false, Some, None, OnOk, IfOk, IfErr};
 ghost use Rattle.hl_base.specs.Gives.{Gives};
 ghost use Rattle.book.specs.Bounds.{TurnoverFits};
 ghost use Rattle.book.specs.Postings.{postings_of, txns_of};
 ghost use Rattle.book.specs.declared.transaction.Posting.{Posting};
 ghost use Rattle.book.specs.declared.transaction.Txn.{Txn};
-ghost use Rattle.entry_balance.specs.Entry.{moved};
-ghost use Rattle.entry_balance.specs.Tally.{turnover_fits};
+ghost use Rattle.entry_balance.specs.Entry.{moved, with_postings};
+ghost use Rattle.entry_balance.specs.Tally.{turnover_fits, IsRange};
+ghost use Rattle.balancing.specs.Assigned.{given_from, given_postings, is_ready};
 ghost use Rattle.balancing.specs.Check.{cause_in};
 ghost use Rattle.balancing.specs.Claims.{AreClaimed};
 ghost use Rattle.balancing.specs.Groups.{Group};
 ghost use Rattle.balancing.specs.Load.{load};
-ghost use Rattle.entry_balance.specs.Settled.{AreSettled};
-ghost use Rattle.balancing.specs.Kept.{IsBalance, are_asked};
-ghost use Rattle.balancing.specs.Walk.{IsRead, IsTold, IsVisited, IsPassed, group_in};
+ghost use Rattle.balancing.specs.Solves.{Solves, are_unmarked};
+ghost use Rattle.entry_balance.specs.Settled.{AreSettled, IsSettled};
+ghost use Rattle.balancing.specs.Kept.{IsBalance, are_asked, is_asked};
+ghost use Rattle.balancing.specs.Walk.{IsRead, IsTold, AreGiven, AreOwn, IsOwn, IsAfter, IsGiven, IsVisited, IsPassed, group_in};
 ghost use Rattle.entry_balance.specs.Turnover.{IsTurnover};
 ghost use Rattle.entry_balance.specs.Values.{Value};
 
+use crate::assign::assign;
 use crate::balances::{Balances, asked};
 use crate::claims::claim_group;
 use crate::fault::CheckFault;
 use crate::groups::{Group, in_order, note_groups};
 use crate::judge::judge;
-use book::{Book, Boxed, Cause, Fault, Item, Items, Placed, Txn};
-use entry_balance::{Tally, TallyFault, settle};
-use hl_base::{List, Memory};
+use crate::totals::Totals;
+use book::{Book, Boxed, Cause, Fault, Item, Items, Mark, Placed, Txn};
+use entry_balance::{Settled, TallyFault, is_assignable, settle};
+use hl_base::{List, Memory, Text};
+use hl_time::Day;
 use std::alloc::Global;
+use std::mem::replace;
 
 /// The book of a text's items: its transactions in their order, each balanced. Else the fault of the first group, by
 /// day and then by transaction, that has one, a group being the postings of one transaction on one day: two missing
@@ -36,10 +42,12 @@ use std::alloc::Global;
 pub fn check(alloc: Global, items: Items) -> Result<Book, CheckFault>
     ensures answer { Gives (λ book. book) cause_in result (load items) }
     ensures fits { IfOk result (λ book. TurnoverFits (postings_of book.txns)) }
+    ensures solves { IfOk result (λ book. are_unmarked (txns_of items) ≡ true → Solves (txns_of items) book.txns) }
+    ensures only { IfOk result (λ book. (other : List Txn) → Solves (txns_of items) other → other ≡ book.txns) }
 {
     let Entries {
-        txns,
-        causes,
+        mut txns,
+        mut causes,
         groups,
     } = match settle_items(alloc, items) {
         Ok(entries) => entries,
@@ -49,7 +57,7 @@ pub fn check(alloc: Global, items: Items) -> Result<Book, CheckFault>
         Ok(groups) => groups,
         Err(Memory) => return Err(CheckFault::Memory),
     };
-    match first_fault(alloc, &txns, &causes, &groups) {
+    match first_fault(alloc, &mut txns, &mut causes, &groups) {
         Ok(None) => Ok(Book {
             txns: List::from_vec(txns),
         }),
@@ -98,20 +106,20 @@ fn settle_txn(alloc: Global, entries: &mut Entries, txn: Txn) -> Result<(), Memo
     Ok(())
 }
 
-/// The fault of the first group that has one.
+/// The fault of the first group that has one, where the assignments of each group are made after the groups before it.
 fn first_fault(
     alloc: Global,
-    txns: &[Txn],
-    causes: &[Option<Boxed<Cause>>],
+    txns: &mut Vec<Txn>,
+    causes: &mut Vec<Option<Boxed<Cause>>>,
     groups: &[Group],
 ) -> Result<Option<Fault>, Memory>
-    ensures { IfOk result (λ fault. (written : List Txn) → AreSettled written txns.now causes.now
-        → IsTold written groups.now fault) }
+    ensures { IfOk result (λ fault. (written : List Txn) → AreSettled written txns.old.items causes.old.items → AreOwn written groups.now
+        → IsTold (given_from written [] groups.now) txns.new.items causes.new.items groups.now fault) }
 {
-    let mut tally = Tally::new(alloc);
-    let mut balances = asked(alloc, txns)?;
+    let mut totals = Totals::new(alloc);
+    let mut balances = asked(alloc, txns.as_slice())?;
     for group in groups {
-        let fault = pass(alloc, &mut tally, &mut balances, txns, causes, *group)?;
+        let fault = pass(alloc, &mut totals, &mut balances, txns, causes, *group)?;
         if fault.is_some() {
             return Ok(fault);
         }
@@ -119,23 +127,162 @@ fn first_fault(
     Ok(None)
 }
 
-/// The fault of a group or of its first assertion that fails, else adds what it moves.
-fn pass<'a>(
+/// Makes the assignments of a group's transaction. The fault of the group or of its first assertion that fails, else
+/// adds what it moves.
+fn pass(
     alloc: Global,
-    tally: &mut Tally<'a>,
-    balances: &mut Balances<'a>,
-    txns: &'a [Txn],
+    totals: &mut Totals,
+    balances: &mut Balances,
+    txns: &mut Vec<Txn>,
+    causes: &mut Vec<Option<Boxed<Cause>>>,
+    group: Group,
+) -> Result<Option<Fault>, Memory>
+    ensures { IfOk result (λ fault. (all now : List Txn) (seen : List Posting) (left : List Group)
+        → AreGiven all now txns.old.items causes.old.items seen (group ∷ left) balances.old.own balances.old.below
+        → IsTurnover (moved seen) totals.old → IsBalance seen balances.old.own balances.old.below
+        → IsAfter all now txns.new.items causes.new.items seen group left totals.new balances.new.own balances.new.below fault) }
+{
+    match give(alloc, balances, txns, causes, group) {
+        Ok(None) => pass_given(alloc, totals, balances, txns, causes, group),
+        Ok(Some(fault)) => Ok(Some(fault)),
+        Err(Memory) => Err(Memory),
+    }
+}
+
+/// Makes the assignments of a group's transaction, if it has some that can be made. `range` where they or the sums of
+/// the accounts that they ask for are out of range.
+fn give(
+    alloc: Global,
+    balances: &Balances,
+    txns: &mut Vec<Txn>,
+    causes: &mut Vec<Option<Boxed<Cause>>>,
+    group: Group,
+) -> Result<Option<Fault>, Memory>
+    ensures { IfOk result (λ fault. (written : List Txn) (seen : List Posting)
+        → AreSettled written txns.old.items causes.old.items → IsOwn group.0 (slice_get written group.1)
+        → IsBalance seen balances.now.own balances.now.below → are_asked balances.now.own balances.now.below txns.old.items ≡ true
+        → IsGiven written seen group balances.now.own balances.now.below txns.new.items causes.new.items fault) }
+{
+    let (_day, number) = group;
+    if txns.len() <= number || causes.len() <= number {
+        return Ok(None);
+    }
+    if !is_assignable(txns[number].postings.as_slice()) {
+        return Ok(None);
+    }
+    let txn = take_txn(alloc, txns, number);
+    let line = txn.line;
+    match given(alloc, balances, txn) {
+        Ok(settled) => {
+            put_settled(txns, causes, number, settled);
+            Ok(None)
+        }
+        Err(TallyFault::Range) => Ok(Some(Fault {
+            line,
+            cause: Cause::Range,
+        })),
+        Err(TallyFault::Memory) => Err(Memory),
+    }
+}
+
+/// Takes a transaction out of its place.
+fn take_txn(alloc: Global, txns: &mut Vec<Txn>, number: usize) -> Txn
+    requires { number < length txns.old.items }
+    ensures taken { slice_get txns.old.items number ≡ Some result }
+    ensures places { length txns.new.items ≡ length txns.old.items }
+    ensures others { (txn : Txn) → slice_set txns.new.items number txn ≡ slice_set txns.old.items number txn }
+{
+    replace(&mut txns[number], vacant(alloc))
+}
+
+/// Puts a transaction that was settled, and what is wrong with it, into their places.
+fn put_settled(
+    txns: &mut Vec<Txn>,
+    causes: &mut Vec<Option<Boxed<Cause>>>,
+    number: usize,
+    settled: Settled,
+)
+    requires txns { number < length txns.old.items }
+    requires causes { number < length causes.old.items }
+    ensures txns { txns.new.items ≡ slice_set txns.old.items number settled.txn }
+    ensures causes { causes.new.items ≡ slice_set causes.old.items number settled.cause }
+{
+    let Settled { txn, cause } = settled;
+    txns[number] = txn;
+    causes[number] = cause;
+}
+
+/// A transaction that holds a place.
+fn vacant(alloc: Global) -> Txn {
+    Txn {
+        line: 0,
+        day: Day(1),
+        mark: Mark::Unmarked,
+        code: Text::new(alloc),
+        description: Text::new(alloc),
+        comment: Text::new(alloc),
+        tags: List::new(alloc),
+        postings: List::new(alloc),
+    }
+}
+
+/// A transaction with its assignments made, and what balancing finds for it then.
+fn given(alloc: Global, balances: &Balances, txn: Txn) -> Result<Settled, TallyFault>
+    ensures given { IfOk result (λ s. (seen : List Posting) → IsBalance seen balances.now.own balances.now.below
+        → list_all (is_asked balances.now.own balances.now.below) txn.postings ≡ true
+        → IsSettled (with_postings txn (given_postings seen txn.postings)) s.txn s.cause) }
+    ensures range { IfErr result (λ e. IsRange e → (seen : List Posting) → IsBalance seen balances.now.own balances.now.below
+        → list_all (is_asked balances.now.own balances.now.below) txn.postings ≡ true
+        → turnover_fits (moved (seen ++ given_postings seen txn.postings)) ≡ false) }
+{
+    let Txn {
+        line,
+        day,
+        mark,
+        code,
+        description,
+        comment,
+        tags,
+        postings,
+    } = txn;
+    let postings = match assign(alloc, balances, postings) {
+        Ok(postings) => postings,
+        Err(fault) => return Err(fault),
+    };
+    let txn = Txn {
+        line,
+        day,
+        mark,
+        code,
+        description,
+        comment,
+        tags,
+        postings,
+    };
+    match settle(alloc, txn) {
+        Ok(settled) => Ok(settled),
+        Err(Memory) => Err(TallyFault::Memory),
+    }
+}
+
+/// The fault of a group whose assignments are made, or of its first assertion that fails, else adds what it moves.
+fn pass_given(
+    alloc: Global,
+    totals: &mut Totals,
+    balances: &mut Balances,
+    txns: &[Txn],
     causes: &[Option<Boxed<Cause>>],
     group: Group,
 ) -> Result<Option<Fault>, Memory>
     ensures passed { IfOk result (λ fault. (written : List Txn) (before : List Value) (seen : List Posting)
-        → AreSettled written txns.now causes.now → IsTurnover before tally.old → before ≡ moved seen
+        → AreSettled written txns.now causes.now → is_ready (slice_get written group.1) ≡ true
+        → IsTurnover before totals.old → before ≡ moved seen
         → IsBalance seen balances.old.own balances.old.below → are_asked balances.old.own balances.old.below txns.now ≡ true
-        → IsPassed written before seen group tally.new balances.new.own balances.new.below fault) }
+        → IsPassed written before seen group totals.new balances.new.own balances.new.below fault) }
     ensures own { IfOk result (λ fault. fault ≡ None → balances.new.own.1 ≡ balances.old.own.1) }
     ensures below { IfOk result (λ fault. fault ≡ None → balances.new.below.1 ≡ balances.old.below.1) }
 {
-    match visit(alloc, tally, txns, causes, group) {
+    match visit(alloc, totals, txns, causes, group) {
         Ok(None) => claim_at(alloc, balances, txns, group),
         Ok(Some(fault)) => Ok(Some(fault)),
         Err(Memory) => Err(Memory),
@@ -143,10 +290,10 @@ fn pass<'a>(
 }
 
 /// The fault of the first assertion in a group that fails, else adds the group's postings to the balances.
-fn claim_at<'a>(
+fn claim_at(
     alloc: Global,
-    balances: &mut Balances<'a>,
-    txns: &'a [Txn],
+    balances: &mut Balances,
+    txns: &[Txn],
     group: Group,
 ) -> Result<Option<Fault>, Memory>
     ensures claimed { IfOk result (λ fault. (seen : List Posting) → IsBalance seen balances.old.own balances.old.below
@@ -172,19 +319,19 @@ fn claim_at<'a>(
 }
 
 /// The fault of a group, else adds what it moves.
-fn visit<'a>(
+fn visit(
     alloc: Global,
-    tally: &mut Tally<'a>,
-    txns: &'a [Txn],
+    totals: &mut Totals,
+    txns: &[Txn],
     causes: &[Option<Boxed<Cause>>],
     group: Group,
 ) -> Result<Option<Fault>, Memory>
     ensures { IfOk result (λ fault. (written : List Txn) (before : List Value) → AreSettled written txns.now causes.now
-        → IsTurnover before tally.old → IsVisited written before group tally.new fault) }
+        → is_ready (slice_get written group.1) ≡ true → IsTurnover before totals.old → IsVisited written before group totals.new fault) }
 {
     let (day, number) = group;
     if txns.len() <= number || causes.len() <= number {
         return Ok(None);
     }
-    judge(alloc, tally, &txns[number], day, &causes[number])
+    judge(alloc, totals, &txns[number], day, &causes[number])
 }

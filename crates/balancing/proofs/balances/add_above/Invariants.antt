@@ -1,4 +1,4 @@
-use Rattle.std.proofs.Common.{◌≡◌, ℕ, List, ◌≤◌, length}
+use Rattle.std.proofs.Common.{◌≡◌, ℕ, List}
 use Rattle.entry_balance.specs.Values.{Value}
 use Rattle.balancing.specs.Kept.{IsKept, and_above}
 use Rattle.balancing.proofs.balances.add_above.Given as goal

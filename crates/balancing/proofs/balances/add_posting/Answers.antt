@@ -1,4 +1,4 @@
-use Rattle.std.proofs.Common.{◌≡◌, ℕ, List, [], ◌∷◌, ◌++◌, true, false, sym, ap, ◌∙◌, subst}
+use Rattle.std.proofs.Common.{ℕ, List, [], ◌∷◌, ◌++◌, true, false, sym, ap, ◌∙◌, subst}
 use Rattle.entry_balance.specs.Tally.{turnover_fits}
 use Rattle.entry_balance.proofs.Adding.{on_ok, if_err}
 use Rattle.balancing.specs.Assertions.{held_in}

@@ -1,18 +1,23 @@
-use Rattle.std.proofs.Common.{◌≡◌, ◌<◌, List, ◌++◌, length, get_or, take, subst}
-use Rattle.std.specs.List.{flat_map}
+use Rattle.std.proofs.Common.{◌≡◌, List, ◌++◌, true, sym, ap, ◌∙◌, rules}
+use Rattle.std.specs.List.{list_any}
+use Rattle.std.proofs.lemmas.Grind.{flat_map-append}
 use Rattle.book.specs.declared.transaction.Posting.{Posting}
-use Rattle.balancing.specs.Load.{moved_when}
-use Rattle.entry_balance.proofs.Adding.{group_range}
+use Rattle.book.specs.SumsBefore.{is_assigned}
+use Rattle.entry_balance.specs.Entry.{moved, moved_by}
+use Rattle.entry_balance.specs.Values.{Value}
+use Rattle.entry_balance.specs.Tally.{turnover_fits}
+use Rattle.entry_balance.proofs.Adding.{more_range}
+use Rattle.balancing.specs.declared.groups.Part.TheVariants as part
+use Rattle.balancing.specs.Assertions.{part_on}
+use Rattle.balancing.proofs.Parts.{parts_on}
 use Rattle.balancing.proofs.judge.add_group.Goals as goal
 
 pub returns-in-Err-clause-range : goal.returns-in-Err-clause-range
 returns-in-Err-clause-range c = λ is before h.
     let t = c.args.txn.now in
-    let f = moved_when c.args.day t in
-    let i = c.loop-posting.posting-index in
-    let p = c.posting-item.result in
-    let Below : List Posting → Type 0 = λ ps. i < length ps in
-    let At : List Posting → Type 0 = λ ps. p ≡ get_or ps i p in
-    let seen = c.as_slice-posting-items.ensures in
-    group_range f before t.postings i p (subst Below seen c.loop-posting-test.true) (subst At seen c.posting-item.is)
-    (c.in-Err.ensures.range is (before ++ flat_map f (take i t.postings)) (c.loop-posting.invariant before h))
+    let day = c.args.day in
+    let first = moved (part_on part.ButFound day t) in
+    let assigned : list_any is_assigned t.postings ≡ true = ap (list_any is_assigned) (sym c.as_slice.ensures) ∙ sym c.has_assigned.ensures ∙ search rules in
+    ap (λ (ps : List Posting). turnover_fits (before ++ moved ps)) (sym (parts_on day t assigned))
+    ∙ ap (λ (vs : List Value). turnover_fits (before ++ vs)) (flat_map-append moved_by (part_on part.ButFound day t) (part_on part.Found day t))
+    ∙ more_range before first (moved (part_on part.Found day t)) (c.in-Err.ensures.range is before h)

@@ -1,11 +1,11 @@
-use Rattle.std.proofs.Common.{◌≡◌, Option, None, List, true, sym, subst, ◌∙◌}
-use Rattle.std.specs.List.{list_all, slice_get}
+use Rattle.std.proofs.Common.{Option, sym, subst, ◌∙◌}
+use Rattle.std.specs.List.{list_all}
 use Rattle.std.proofs.lemmas.Bool.{false≢true}
 use Rattle.book.specs.declared.transaction.Txn.{Txn}
 use Rattle.entry_balance.specs.Tally.{IsRange, turnover_fits}
 use Rattle.entry_balance.specs.Entry.{moved}
 use Rattle.entry_balance.proofs.Adding.{list_all-at}
-use Rattle.std.proofs.Common.{◌++◌, false, ap}
+use Rattle.std.proofs.Common.{◌++◌, ap}
 use Rattle.balancing.specs.Claims.{AreClaimed}
 use Rattle.balancing.specs.Kept.{is_asked}
 use Rattle.balancing.specs.Walk.{group_in}

@@ -1,14 +1,12 @@
-use Rattle.std.proofs.Common.{◌≡◌, List, drop, true}
+use Rattle.std.proofs.Common.{List, [], drop}
 use Rattle.book.specs.declared.transaction.Posting.{Posting}
 use Rattle.book.specs.declared.transaction.Txn.{Txn}
-use Rattle.entry_balance.specs.Values.{Value}
 use Rattle.entry_balance.specs.Settled.{AreSettled}
-use Rattle.balancing.specs.Kept.{are_asked}
-use Rattle.balancing.specs.Walk.{IsWalked}
+use Rattle.balancing.specs.Assigned.{given_from}
+use Rattle.balancing.specs.Walk.{AreOwn}
+use Rattle.balancing.proofs.Passing.{IsOn}
 use Rattle.balancing.proofs.walk.first_fault.Given as goal
 
 abbrev pub invariant-loop-group : goal.invariant-loop-group
-invariant-loop-group l = record {
-  walked : (written : List Txn) → AreSettled written l.txns l.causes → (before : List Value) × (seen : List Posting) × IsWalked written l.groups (drop l.group-index l.groups) before seen l.tally l.balances.own l.balances.below;
-  asked : are_asked l.balances.own l.balances.below l.txns ≡ true;
-}
+invariant-loop-group l = (written : List Txn) → AreSettled written l.initial.txns.items l.initial.causes.items → AreOwn written l.groups
+    → (now : List Txn) × (seen : List Posting) × IsOn (given_from written [] l.groups) now l.txns.items l.causes.items l.groups (drop l.group-index l.groups) seen l.totals l.balances.own l.balances.below

@@ -1,11 +1,10 @@
-use Rattle.std.proofs.Common.{◌≡◌, List, [], ◌∷◌, ◌++◌, get_or, Option, Some, None, refl, sym, ap, ◌∙◌, subst}
-use Rattle.hl_num.specs.Decimal.{Decimal}
+use Rattle.std.proofs.Common.{List, [], refl, sym, ap, ◌∙◌, subst}
 use Rattle.book.specs.Entries.{held}
 use Rattle.book.specs.Mixed.{fits_with}
 use Rattle.entry_balance.specs.Values.{Value}
 use Rattle.entry_balance.specs.Tally.{sums_of}
 use Rattle.entry_balance.proofs.Adding.{on_ok, if_err, share_range}
-use Rattle.balancing.specs.Kept.{Keeping, IsKept, and_at}
+use Rattle.balancing.specs.Kept.{Keeping, IsKept}
 use Rattle.balancing.proofs.Keeping.{added_none, place_within, sums-there, added_one}
 use Rattle.balancing.proofs.kept.Kept.add.Goals as goal
 

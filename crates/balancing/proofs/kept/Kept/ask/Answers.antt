@@ -1,11 +1,12 @@
-use Rattle.std.proofs.Common.{◌≡◌, ℕ, List, length, None, Some, Option, false, true, is_some, refl, sym, ap, ◌∙◌, subst, rules}
+use Rattle.std.proofs.Common.{◌≡◌, ℕ, length, None, Some, Option, false, true, is_some, refl, sym, ap, ◌∙◌, subst, rules}
 use Rattle.std.proofs.lemmas.Bool.{false≢true}
 use Rattle.std.specs.Ordering.{nat_cmp}
 use Rattle.std.specs.Cmp.Lexicographic.{slice_cmp}
 use Rattle.std.specs.FinMap.Entries.{put}
 use Rattle.book.specs.Entries.{held}
 use Rattle.entry_balance.proofs.Adding.{on_ok}
-use Rattle.balancing.specs.Kept.{Keeping, IsKept, no_values, keeps, names_in, places_in}
+use Rattle.balancing.specs.Kept.{Keeping, IsKept, no_values, keeps}
+use Rattle.balancing.specs.Texts.{names_in, places_in}
 use Rattle.balancing.proofs.Keeping.{asked_more, keeps_new, keeps_stays, names-length}
 use Rattle.balancing.proofs.kept.Kept.ask.Goals as goal
 
@@ -20,7 +21,7 @@ returns-clause-fresh c = on_ok c.put_place.result (λ placed kept.
     let new : held name (places_in c.self.inside.places.entries) ≡ None = sym c.place_of.ensures ∙ none-is _ told in
     let counted : c.len-place.result ≡ length c.self.inside.names.items = search rules in
     let count : c.len-place.result ≡ length (names_in c.self.inside.names.items) = counted ∙ sym (names-length c.self.inside.names.items) in
-    asked_more _ _ name new c.in_ok-push_name.ensures (placed ∙ ap (λ (n : ℕ). put (slice_cmp nat_cmp) name n (places_in c.self.inside.places.entries)) count) c.in_ok-push_tally.ensures (subst (IsKept no_values) (sym c.self.view_is) kept))
+    asked_more _ _ name new c.in_ok-push_name.ensures (placed ∙ ap (λ (n : ℕ). put (slice_cmp nat_cmp) name n (places_in c.self.inside.places.entries)) count) c.in_ok-push_totals.ensures (subst (IsKept no_values) (sym c.self.view_is) kept))
     c.put_place.ensures
 
 pub returns-clause-keeps : goal.returns-clause-keeps
@@ -30,7 +31,7 @@ returns-clause-keeps c = on_ok c.put_place.result (λ placed.
     let new : held name (places_in c.self.inside.places.entries) ≡ None = sym c.place_of.ensures ∙ none-is _ told in
     let counted : c.len-place.result ≡ length c.self.inside.names.items = search rules in
     let count : c.len-place.result ≡ length (names_in c.self.inside.names.items) = counted ∙ sym (names-length c.self.inside.names.items) in
-    keeps_new (names_in c.self.inside.names.items, places_in c.self.inside.places.entries, c.self.inside.tallies.items) _ name new c.in_ok-push_name.ensures (placed ∙ ap (λ (n : ℕ). put (slice_cmp nat_cmp) name n (places_in c.self.inside.places.entries)) count) c.in_ok-push_tally.ensures)
+    keeps_new (names_in c.self.inside.names.items, places_in c.self.inside.places.entries, c.self.inside.totals.items) _ name new c.in_ok-push_name.ensures (placed ∙ ap (λ (n : ℕ). put (slice_cmp nat_cmp) name n (places_in c.self.inside.places.entries)) count) c.in_ok-push_totals.ensures)
     c.put_place.ensures
 
 pub returns-clause-stays : goal.returns-clause-stays
@@ -40,6 +41,6 @@ returns-clause-stays c = on_ok c.put_place.result (λ placed a has.
     let new : held name (places_in c.self.inside.places.entries) ≡ None = sym c.place_of.ensures ∙ none-is _ told in
     let counted : c.len-place.result ≡ length c.self.inside.names.items = search rules in
     let count : c.len-place.result ≡ length (names_in c.self.inside.names.items) = counted ∙ sym (names-length c.self.inside.names.items) in
-    keeps_stays (names_in c.self.inside.names.items, places_in c.self.inside.places.entries, c.self.inside.tallies.items) _ name new c.in_ok-push_name.ensures (placed ∙ ap (λ (n : ℕ). put (slice_cmp nat_cmp) name n (places_in c.self.inside.places.entries)) count) c.in_ok-push_tally.ensures a
+    keeps_stays (names_in c.self.inside.names.items, places_in c.self.inside.places.entries, c.self.inside.totals.items) _ name new c.in_ok-push_name.ensures (placed ∙ ap (λ (n : ℕ). put (slice_cmp nat_cmp) name n (places_in c.self.inside.places.entries)) count) c.in_ok-push_totals.ensures a
     (subst (λ (k : Keeping). keeps a k ≡ true) (sym c.self.view_is) has))
     c.put_place.ensures
