@@ -83,6 +83,34 @@ fn lists_accounts(rt: HostRuntime) -> Result<(), Fail> {
 }
 
 #[test]
+fn lists_balances_of_assigned_amounts(rt: HostRuntime) -> Result<(), Fail> {
+    each_answers(
+        &rt,
+        rt.alloc(),
+        &[
+            (
+                "a gift before the cash was counted",
+                "balance",
+                b"2024-01-10 set\n    assets:cash  = 100 EUR\n    equity:start\n2024-01-05 gift\n    assets:cash  30 EUR\n    income:gifts  -30 EUR\n".as_slice(),
+                b"             100 EUR  assets:cash\n             -70 EUR  equity:start\n             -30 EUR  income:gifts\n--------------------\n                   0  \n".as_slice(),
+            ),
+            (
+                "a chain of assigned amounts",
+                "balance",
+                b"2024-01-03 c\n    z  = 9 EUR\n    y\n2024-01-02 b\n    y  = 5 EUR\n    x\n2024-01-01 a\n    x  2 EUR\n    z\n".as_slice(),
+                b"              -3 EUR  x\n              -6 EUR  y\n               9 EUR  z\n--------------------\n                   0  \n".as_slice(),
+            ),
+            (
+                "two assignments on one account, and a missing amount that comes last",
+                "balance",
+                b"2024-01-01 a\n    x\n    x  = 3 EUR\n    x:y  =* 2 EUR\n    x  =* 7 EUR\n    z  1 EUR\n".as_slice(),
+                b"              -3 EUR  x\n               2 EUR  x:y\n               1 EUR  z\n--------------------\n                   0  \n".as_slice(),
+            ),
+        ],
+    )
+}
+
+#[test]
 fn checks(rt: HostRuntime) -> Result<(), Fail> {
     each_answers(
         &rt,
@@ -147,10 +175,16 @@ fn checks_fail(rt: HostRuntime) -> Result<(), Fail> {
                 b"error: line 1: not allowed\n".as_slice(),
             ),
             (
-                "an assigned amount, which isn't built yet",
+                "an assigned amount beside another symbol",
                 "check",
-                b"2024-01-10 set\n    assets:cash  = 100 EUR\n    equity:start\n".as_slice(),
-                b"error: line 1: not built\n".as_slice(),
+                b"2024-01-01 a\n    x  1 USD\n    y\n2024-01-02 b\n    x  == 5 EUR\n    y\n".as_slice(),
+                b"error: line 5: assertion: wanted 5 EUR, found 1 USD\n".as_slice(),
+            ),
+            (
+                "an assigned amount that nothing balances",
+                "check",
+                b"2024-01-01 a\n    x  = 5 EUR\n    y  -4 EUR\n".as_slice(),
+                b"error: line 1: unbalanced 1 EUR\n".as_slice(),
             ),
             (
                 "a day that is none",
