@@ -1,0 +1,7 @@
+pub mod Depths
+pub mod Folds
+pub mod Nots
+pub mod Refusals
+pub mod Sources
+pub mod Texts
+pub mod Walks

@@ -1,0 +1,6 @@
+pub mod Finders
+pub mod Making
+pub mod Patterns
+pub mod Reading
+pub mod Sought
+pub mod Trimmed
