@@ -1,0 +1,5 @@
+pub mod Bounds
+pub mod Built
+pub mod Dateless
+pub mod Names
+pub mod Walks

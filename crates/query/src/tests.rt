@@ -1,0 +1,6 @@
+//! Rows of terms, postings and answers, worked out by hand from the rules.
+mod letters;
+mod making;
+mod postings;
+mod samples;
+mod txns;
