@@ -1,0 +1,12 @@
+pub mod Days
+pub mod Above
+pub mod Answered
+pub mod CellLaws
+pub mod Images
+pub mod InRange
+pub mod KeptLaws
+pub mod NetLaws
+pub mod RunLaws
+pub mod SmallRows
+pub mod StandingLaws
+pub mod Sums

@@ -1,0 +1,73 @@
+-- Sums by account, symbol, number of decimals and day.
+use Rattle.std.specs.Prelude.{◌≡◌, ℕ, Bool, ◌&&◌, nat_lt, nat_eq, ◌==◌, List, [], ◌∷◌, ◌++◌, slice_index_or, Option, None, Some, unwrap_or, T}
+use Rattle.std.specs.declared.cmp.Ordering.{Ordering}
+use Rattle.std.specs.Ordering.{nat_cmp, bool_cmp, ordering_then, eq_by_cmp}
+use Rattle.std.specs.List.{starts_with}
+use Rattle.std.specs.Str.{bytes_eq}
+use Rattle.hl_base.specs.Ascii.{colon}
+use Rattle.std.specs.Cmp.Lexicographic.{slice_cmp}
+use Rattle.std.specs.FinMap.Entries.{find, is_sorted}
+use Rattle.live_index.specs.declared.row.Row.{Row}
+use Rattle.live_index.specs.declared.runs.Run.{Run}
+use Rattle.live_index.specs.Rows.{counts}
+use Rattle.live_index.specs.Runs.{before, raise}
+
+-- an account's own rows in a symbol, or with `below` those of its subaccounts too
+pub record Key : Type 0 where
+  pub account : List ℕ
+  pub symbol : List ℕ
+  pub below : Bool
+
+-- by account, then by symbol, then by `below`
+abbrev pub key_cmp : Key → Key → Ordering
+key_cmp a b =
+    ordering_then (slice_cmp nat_cmp a.account b.account)
+    (ordering_then (slice_cmp nat_cmp a.symbol b.symbol) (bool_cmp a.below b.below))
+
+abbrev pub is_key : Key → Key → Bool
+is_key key other = eq_by_cmp key_cmp other key
+
+-- a row is one of the key's
+abbrev pub counts_for : Key → Row → Bool
+counts_for key row = counts key.account key.symbol key.below row
+
+-- the sums of a key, by number of decimals
+abbrev pub Cell : Type 0
+Cell = Key × List (List Run)
+
+-- the keys strictly rise
+abbrev pub IsOrdered : List Cell → Type 0
+IsOrdered cells = T (is_sorted key_cmp cells)
+
+abbrev pub sums_of : Key → List Cell → List (List Run)
+sums_of key cells = unwrap_or (find key_cmp key cells) []
+
+-- a key's sums, or none where it has no cell
+abbrev pub told_by : Option Cell → List (List Run)
+told_by None = []
+told_by (Some cell) = cell.1
+
+-- an account is one above another in a symbol
+abbrev pub is_above : List ℕ → List ℕ → Key → Bool
+is_above account symbol key =
+    bytes_eq symbol key.symbol && (key.below && starts_with nat_eq account (key.account ++ colon ∷ []))
+
+-- the sums of amounts with a number of decimals
+abbrev pub runs_in : List (List Run) → ℕ → List Run
+runs_in sums places = slice_index_or sums places []
+
+-- a row has so many decimals, and its day comes before `end`
+abbrev pub is_part : Row → ℕ → ℕ → Bool
+is_part row places end = (row.value.places == places) && nat_lt row.day.0 end
+
+-- the sums with a row more
+abbrev pub Gains : Row → List (List Run) → List (List Run) → Type 0
+Gains row old new = (places end : ℕ) →
+    before (runs_in new places) end ≡ raise (is_part row places end) row.value.mantissa (before (runs_in old places) end)
+
+-- a row was added to the sums of the keys that pass a test
+pub record HasAdded (test : Key → Bool) (row : Row) (old new : List Cell) : Type 0 where
+  pub ordered : IsOrdered new
+  pub gained : (key : Key) (places end : ℕ) →
+      before (runs_in (sums_of key new) places) end
+      ≡ raise (test key && is_part row places end) row.value.mantissa (before (runs_in (sums_of key old) places) end)

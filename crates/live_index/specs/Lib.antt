@@ -1,0 +1,9 @@
+pub mod Cells
+pub mod Kept
+pub mod Net
+pub mod Puts
+pub mod Rows
+pub mod Runs
+pub mod Small
+pub mod Standing
+pub mod Told

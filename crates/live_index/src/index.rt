@@ -1,0 +1,164 @@
+//! An index of rows.
+ghost use Rattle.std.specs.Prelude.{◌≡◌, ◌+◌, ◌*◌, ◌^◌, ◌≤◌, ◌++◌, IfOk, [], List, map};
+ghost use Rattle.std.specs.Arc.{arc_value};
+ghost use Rattle.live_index.specs.Rows.{TurnoverFits, node_sum};
+ghost use Rattle.live_index.specs.Standing.{Preparing, standing};
+ghost use Rattle.live_index.specs.Told.{IsSum};
+
+use crate::cell::Cell;
+use crate::cells::{add_row, cell_of, shared, sum_between};
+use crate::nodes::{Nodes, sum_of};
+use crate::puts::Puts;
+use crate::row::Row;
+use hl_base::{Memory, Steps, Text};
+use hl_num::Dec;
+use std::alloc::Global;
+use std::marker::Model;
+use std::snapshot::Snapshot;
+use std::sync::Arc;
+use std::sync::ledger::Ledger;
+
+/// Sums of rows by account, symbol and day. Contracts see the rows that were put in, in turn.
+#[derive(Drop)]
+pub struct Index {
+    alloc: Global,
+    puts: Puts,
+    cells: Vec<Arc<Cell>>,
+}
+
+impl Model for Index {
+    ghost use Rattle.std.specs.Prelude.{List, map};
+    ghost use Rattle.std.specs.Arc.{arc_value};
+    ghost use Rattle.live_index.specs.declared.row.Row.{Row};
+    ghost use Rattle.live_index.specs.Kept.{IsKept};
+    ghost use Rattle.live_index.specs.Puts.{rows_put};
+
+    ghost Value = { List Row };
+
+    ghost view = { λ i. rows_put i.puts };
+
+    ghost invariant = { λ i. IsKept (rows_put i.puts) (map arc_value i.cells.items) };
+}
+
+/// Rows that were prepared for an index. Contracts see the rows that it had, and those that it will have.
+#[derive(Drop)]
+pub struct Prepared {
+    from: Snapshot<Index>,
+    puts: Puts,
+    cells: Vec<Arc<Cell>>,
+}
+
+impl Model for Prepared {
+    ghost use Rattle.std.specs.Prelude.{map};
+    ghost use Rattle.std.specs.Arc.{arc_value};
+    ghost use Rattle.live_index.specs.Standing.{Preparing};
+    ghost use Rattle.live_index.specs.Kept.{IsKept};
+    ghost use Rattle.live_index.specs.Puts.{rows_put};
+
+    ghost Value = { Preparing };
+
+    ghost view = { λ p. record { before = p.from.value; after = rows_put p.puts } };
+
+    ghost invariant = { λ p. IsKept (rows_put p.puts) (map arc_value p.cells.items) };
+}
+
+impl Index {
+    /// An empty index.
+    pub fn new(alloc: Global) -> Result<Index, Memory>
+        ensures { IfOk result (λ index. index ≡ []) }
+    {
+        Ok(Index {
+            alloc,
+            puts: Puts::new(),
+            cells: Vec::new(alloc),
+        })
+    }
+
+    /// Takes all the memory that putting rows in takes. The index stays as it is. The rows that will stand, opposite
+    /// ones cancelled, keep the bound on the turnover of each symbol.
+    pub fn prepare(&mut self, rows: &[Row]) -> Result<Prepared, Memory>
+        requires { TurnoverFits (standing (self.old ++ rows.now)) }
+        ensures made { IfOk result (λ p. p ≡ record { before = self.old; after = self.old ++ rows.now }) }
+        ensures stays { self.new ≡ self.old }
+    {
+        let mut cells = shared(self.alloc, &self.cells)?;
+        let mut puts = self.puts.same();
+        for row in rows {
+            add_row(self.alloc, &mut cells, row)?;
+            puts = puts.with(row);
+        }
+        Ok(Prepared {
+            from: Snapshot::of(self),
+            puts,
+            cells,
+        })
+    }
+
+    /// Puts in rows that this index prepared after the last rows were put in. It takes no memory.
+    pub fn put(&mut self, prepared: Prepared)
+        requires { prepared.before ≡ self.old }
+        ensures { self.new ≡ prepared.after }
+    {
+        let Prepared {
+            from: _,
+            puts,
+            cells,
+        } = prepared;
+        self.puts = puts;
+        self.cells = cells;
+    }
+
+    /// How many accounts have sums.
+    #[cfg(test)]
+    pub(crate) fn kept(&self) -> usize {
+        self.cells.len()
+    }
+
+    /// The sum of the rows of a node.
+    fn sum(&self, account: &Text, symbol: &Text, below: bool, level: u8, at: u32) -> Dec
+        requires { level ≤ 21 }
+        ensures sum { IsSum (standing self.now) symbol.now
+            (node_sum (standing self.now) account.now symbol.now below level at) result }
+        ensures fits { TurnoverFits (standing self.now) }
+    {
+        let start = first_day(u64::from(at), level);
+        let end = first_day(u64::from(at) + 1, level);
+        let cell = cell_of(&self.cells, account.as_bytes(), symbol, below);
+        let mut sum = Dec::zero();
+        for places in 0..37u8 {
+            let mantissa = sum_between(cell, places, start, end);
+            if mantissa != 0 {
+                sum = sum_of(sum, Dec { mantissa, places });
+            }
+        }
+        sum
+    }
+}
+
+/// The first day of a node.
+fn first_day(at: u64, level: u8) -> u64
+    requires few { at ≤ 2 ^ 32 }
+    requires level { level ≤ 21 }
+    ensures { result ≡ at * 2 ^ level }
+{
+    at << level
+}
+
+impl Nodes for Index {
+    ghost use Rattle.live_index.specs.Standing.{standing};
+
+    ghost told = { standing };
+
+    fn node<L: Ledger>(
+        &self,
+        account: &Text,
+        symbol: &Text,
+        below: bool,
+        level: u8,
+        at: u32,
+        steps: &mut Steps<L>,
+    ) -> Dec {
+        steps.ask_node();
+        self.sum(account, symbol, below, level, at)
+    }
+}

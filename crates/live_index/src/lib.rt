@@ -1,0 +1,16 @@
+//! An index of rows by account, symbol and day, whose sums up to a day come from few nodes.
+#![tactic(auto)]
+
+mod cell;
+mod cells;
+pub mod index;
+pub mod nodes;
+mod puts;
+pub mod row;
+mod runs;
+#[cfg(test)]
+mod tests;
+
+pub use index::{Index, Prepared};
+pub use nodes::{Nodes, upto};
+pub use row::Row;

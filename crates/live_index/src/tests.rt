@@ -1,0 +1,169 @@
+//! Sums of an index against plain sums.
+ghost use Rattle.std.specs.Prelude.{◌≡◌, ◌<◌, ◌≤◌, ◌^◌, IfOk};
+ghost use Rattle.live_index.specs.Small.{IsSmall, AreSmall};
+
+use crate::{Index, Nodes, Row, upto};
+use hl_base::{Memory, Steps, Text};
+use hl_num::Dec;
+use hl_time::Day;
+use std::alloc::Global;
+use std::cmp::Ordering;
+use std::marker::Brand;
+use std::sync::ledger::{Blank, Ledger};
+use std::test::Fail;
+
+const ACCOUNTS: [&str; 4] = ["assets", "assets:cash", "assets:cash:purse", "assetsless"];
+
+/// A row of a number of cents.
+fn row(alloc: Global, account: &str, day: u32, cents: i32) -> Result<Row, Memory>
+    ensures { IfOk result (λ row. IsSmall row) }
+{
+    Ok(Row {
+        account: Text::copied(alloc, account)?,
+        symbol: Text::copied(alloc, "EUR")?,
+        day: Day(day),
+        value: Dec {
+            mantissa: i128::from(cents),
+            places: 2,
+        },
+    })
+}
+
+/// Rows of random accounts, days and values, or the same negated.
+fn some_rows(alloc: Global, negated: bool) -> Result<Vec<Row>, Memory>
+    ensures { IfOk result (λ rows. AreSmall rows.items) }
+{
+    let mut rows = Vec::new(alloc);
+    let mut seed = 7_u64;
+    for next in 0..40u32 {
+        let _ = next;
+        seed = seed.wrapping_mul(6_364_136_223_846_793_005).wrapping_add(1);
+        let account = ACCOUNTS[((seed >> 40) % 4) as usize];
+        let day = ((seed >> 20) % 3_652_060) as u32;
+        let cents = ((seed >> 45) % 10_000) as i32;
+        let cents = if negated { -cents } else { cents };
+        let row = row(alloc, account, day, cents)?;
+        rows.push(row)?;
+    }
+    Ok(rows)
+}
+
+/// An index of some rows.
+fn index_of(alloc: Global, rows: &[Row]) -> Result<Index, Memory>
+    requires { AreSmall rows.now }
+    ensures { IfOk result (λ index. index ≡ rows.now) }
+{
+    let mut index = Index::new(alloc)?;
+    let prepared = index.prepare(rows)?;
+    index.put(prepared);
+    Ok(index)
+}
+
+/// The plain sum of the cents of `assets` and its subaccounts before a day.
+fn plain_sum(rows: &[Row], end: u32) -> i128 {
+    let mut sum = 0_i128;
+    for row in rows {
+        if row.day.0 < end && row.account.as_str() != "assetsless" {
+            sum = sum.wrapping_add(row.value.mantissa);
+        }
+    }
+    sum
+}
+
+/// Whether the sum before a day is the plain one.
+fn is_plain<L: Ledger>(
+    index: &Index,
+    rows: &[Row],
+    names: &(Text, Text),
+    end: u32,
+    steps: &mut Steps<L>,
+) -> bool
+    requires { end < 2 ^ 22 }
+{
+    let sum = upto(index, &names.0, &names.1, Day(end), true, steps);
+    match Dec::new(plain_sum(rows, end), 2) {
+        Some(plain) => sum.compare(plain) == Ordering::Equal,
+        None => false,
+    }
+}
+
+/// The first day behind the first node of a level.
+fn end_of(level: u8) -> u32
+    requires { level < 22 }
+    ensures above { 0 < result }
+    ensures below { result ≤ 2097152 }
+{
+    let end = 1u32.wrapping_shl(u32::from(level));
+    end.clamp(1, 2_097_152)
+}
+
+/// Whether the sums before days at the ends of levels are the plain ones.
+fn are_plain<L: Ledger>(
+    index: &Index,
+    rows: &[Row],
+    names: &(Text, Text),
+    steps: &mut Steps<L>,
+) -> bool {
+    for level in 0..22u8 {
+        let end = end_of(level);
+        if !is_plain(index, rows, names, end, steps)
+            || !is_plain(index, rows, names, end - 1, steps)
+            || !is_plain(index, rows, names, 3_652_060 - end, steps)
+        {
+            return false;
+        }
+    }
+    true
+}
+
+/// Whether each node of the days of some rows is zero.
+fn are_zero<L: Ledger>(
+    index: &Index,
+    rows: &[Row],
+    names: &(Text, Text),
+    steps: &mut Steps<L>,
+) -> bool {
+    for row in rows {
+        for level in 0..22u8 {
+            let at = row.day.0 >> level;
+            if !index
+                .node(&names.0, &names.1, true, level, at, steps)
+                .is_zero()
+            {
+                return false;
+            }
+        }
+    }
+    true
+}
+
+/// The account and the symbol that are asked for.
+fn names(alloc: Global) -> Result<(Text, Text), Memory> {
+    Ok((Text::copied(alloc, "assets")?, Text::copied(alloc, "EUR")?))
+}
+
+/// Puts rows in, prepares their negations, asks for the sums, and puts the negations in.
+fn in_and_out<L: Ledger>(alloc: Global, blank: Blank) -> Result<(bool, bool), Memory>
+    requires name { blank.name ≡ L.name }
+    requires parts { blank.parts ≡ L.parts }
+    requires three { blank.parts ≡ 3 }
+{
+    let mut steps = Steps::<L>::start(blank);
+    let names = names(alloc)?;
+    let rows = some_rows(alloc, false)?;
+    let negated = some_rows(alloc, true)?;
+    let mut index = index_of(alloc, rows.as_slice())?;
+    let prepared = index.prepare(negated.as_slice())?;
+    let stays = are_plain(&index, rows.as_slice(), &names, &mut steps);
+    index.put(prepared);
+    let goes = are_zero(&index, rows.as_slice(), &names, &mut steps) && index.kept() == 0;
+    Ok((stays, goes))
+}
+
+#[test]
+fn sums_at_the_ends_of_levels(rt: HostRuntime) -> Result<(), Fail> {
+    let (stays, goes) = in_and_out::<Brand>(rt.alloc(), Blank::new(3))?;
+    assert!(rt; stays, "a prepared row changes no sum");
+    assert!(rt; goes, "negated rows leave nothing");
+    Ok(())
+}
