@@ -203,3 +203,49 @@ fn values_are_rounded_once(rt: HostRuntime) -> Result<(), Fail> {
     assert_eq!(rt; value(great, tiny, 2), Err(DivRange { num: 1, den: 1_000 }));
     Ok(())
 }
+
+/// An amount with that many places times a rate, with two decimals.
+fn worth(mantissa: i128, places: u8, rate: Rate) -> Option<Result<Dec, DivRange>> {
+    match Dec::new(mantissa, places) {
+        Some(amount) => Some(value(amount, rate, 2)),
+        None => None,
+    }
+}
+
+#[test]
+fn values_by_the_worked_rates(rt: HostRuntime) -> Result<(), Fail> {
+    let six = Dec::new(600, 2).ok_or("a number")?;
+    let half = Dec::new(50, 2).ok_or("a number")?;
+    let ten = Dec::new(1000, 2).ok_or("a number")?;
+    assert_eq!(rt; worth(3, 0, Rate { num: 2, den: 1 }), Some(Ok(six)));
+    assert_eq!(rt; worth(2, 0, Rate { num: 1, den: 4 }), Some(Ok(half)));
+    assert_eq!(rt; worth(1, 0, Rate { num: 10, den: 1 }), Some(Ok(ten)));
+    Ok(())
+}
+
+/// A price of zero, and one below zero.
+const SIGNED: [Row; 2] = [Row(1, "A", 0, 2, "T"), Row(1, "B", -25, 1, "T")];
+
+#[test]
+fn prices_of_zero_and_below(rt: HostRuntime) -> Result<(), Fail> {
+    assert_eq!(rt; rate_of(rt.alloc(), &SIGNED, "A", "T", 1)?, rate(0, 1));
+    assert_eq!(rt; rate_of(rt.alloc(), &SIGNED, "T", "A", 1)?, Ok(None));
+    assert_eq!(rt; rate_of(rt.alloc(), &SIGNED, "B", "T", 1)?, rate(-5, 2));
+    assert_eq!(rt; rate_of(rt.alloc(), &SIGNED, "T", "B", 1)?, rate(-2, 5));
+    Ok(())
+}
+
+/// Ten times this is just below 2^127, and ten times the next number just above.
+const TENTH: i128 = 17_014_118_346_046_923_173_168_730_371_588_410_572;
+
+#[test]
+fn a_denominator_at_the_bound(rt: HostRuntime) -> Result<(), Fail> {
+    let nothing = Dec::new(0, 2).ok_or("a number")?;
+    let next = TENTH + 1;
+    assert_eq!(rt; worth(1, 1, Rate { num: 1, den: TENTH }), Some(Ok(nothing)));
+    assert_eq!(rt;
+        worth(1, 1, Rate { num: 1, den: next }),
+        Some(Err(DivRange { num: 1, den: next }))
+    );
+    Ok(())
+}
