@@ -1,2 +1,3 @@
 pub mod AnyYear
 pub mod Styled
+pub mod Unmarked

@@ -1,5 +1,11 @@
-//! What a report owes to the year before its text.
-ghost use Rattle.std.specs.Prelude.{◌≡◌, ℕ, List, None, Some, Ok, IfOk};
+//! What a report owes to the year before its text, and a book to what the text reads as.
+ghost use Rattle.std.specs.Prelude.{◌≡◌, ℕ, List, Option, None, Some, Ok, IfOk};
+ghost use Rattle.book.specs.Postings.{txns_of};
+ghost use Rattle.book.specs.declared.item.Book.{Book};
+ghost use Rattle.book.specs.declared.item.Placed.{Placed};
+ghost use Rattle.journal_reader.specs.Items.{items_in};
+ghost use Rattle.balancing.specs.Load.{load};
+ghost use Rattle.balancing.specs.Solves.{Solves};
 ghost use Rattle.report_commands.specs.declared.command.Command.{Command};
 ghost use Rattle.report_commands.specs.Reports.{report_over};
 
@@ -9,4 +15,13 @@ ghost use Rattle.report_commands.specs.Reports.{report_over};
 pub fn any_year()
     ensures { (command : Command) (year : ℕ) (text : List ℕ)
         → IfOk (report_over command None text) (λ report. report_over command (Some year) text ≡ Ok report) }
+{}
+
+/// The book that a text is loaded to solves what the text reads as, and a book that does is the one that it is loaded
+/// to.
+pub fn text_solves()
+    ensures one { (year : Option ℕ) (text : List ℕ) (items : List Placed) (book : Book)
+        → items_in year text ≡ Ok items → load items ≡ Ok book → Solves (txns_of items) book.txns }
+    ensures each { (year : Option ℕ) (text : List ℕ) (items : List Placed) (book : Book)
+        → items_in year text ≡ Ok items → Solves (txns_of items) book.txns → load items ≡ Ok book }
 {}
