@@ -131,10 +131,14 @@ abbrev pub HasDays : Kind → Type 0
 HasDays (kinds.Date period) = IsPeriod period
 HasDays _ = Unit {0}
 
--- digits, not all of them zero; a greater depth than the greatest is that one
+-- a number from 1 doesn't begin with a zero
+abbrev pub begins_number : List ℕ → Bool
+begins_number [] = false
+begins_number (b ∷ bs) = not (b == 48)
+
+-- digits without a leading zero; a greater depth than the greatest is that one
 abbrev pub depth_of : List ℕ → Option ℕ
-depth_of text =
-    if list_all is_digit text && nat_lt 0 (digits_value 10 text) then Some (min (digits_value 10 text) most) else None
+depth_of text = if list_all is_digit text && begins_number text then Some (min (digits_value 10 text) most) else None
 
 -- `1` or `0`
 abbrev pub real_of : List ℕ → Option Bool

@@ -281,15 +281,24 @@ fn depth_value(text: &[u8]) -> u64
     value
 }
 
+/// Whether a number from 1 may begin so: not with a zero.
+fn begins_number(text: &[u8]) -> bool
+    ensures { result ≡ spec.begins_number text.now }
+{
+    match text.first() {
+        Some(byte) => *byte != b'0',
+        None => false,
+    }
+}
+
 /// What a `depth:` term says.
 fn depth_of(text: &[u8]) -> Option<u64>
     ensures { result ≡ spec.depth_of text.now }
 {
-    if !are_digits(text) {
+    if !are_digits(text) || !begins_number(text) {
         return None;
     }
-    let depth = depth_value(text);
-    if depth == 0 { None } else { Some(depth) }
+    Some(depth_value(text))
 }
 
 /// What a `real:` term says.

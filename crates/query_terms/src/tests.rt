@@ -56,7 +56,7 @@ fn words_read_as_terms(rt: HostRuntime) -> Result<(), Fail> {
         ("not:", Some(1)),
         ("nota:b", Some(0)),
         ("assets:bank", Some(0)),
-        ("depth:007", Some(0)),
+        ("depth:007", None),
         ("depth:-1", None),
         ("depth:0000", None),
         ("real:1", Some(0)),
@@ -72,7 +72,7 @@ fn words_read_as_terms(rt: HostRuntime) -> Result<(), Fail> {
         ("type:AB", None),
     ];
     check_nots(&rt, rt.alloc(), &rows)?;
-    assert_eq!(rt; depth_of(rt.alloc(), "depth:007")?, Some(7));
+    assert_eq!(rt; depth_of(rt.alloc(), "depth:7")?, Some(7));
     assert_eq!(rt;
         depth_of(rt.alloc(), "depth:18446744073709551616")?,
         Some(u64::MAX)
