@@ -151,6 +151,9 @@ fn depths_and_days_are_told(rt: HostRuntime) -> Result<(), Fail> {
     assert_eq!(rt; dates.from, Some(738_886));
     assert_eq!(rt; dates.end, Some(738_946));
     assert!(rt; !query.is_empty());
+    let mut maker = RegexMaker::new();
+    let none = make_query(rt.alloc(), &[], Day(738_890), &mut maker)?;
+    assert!(rt; none.is_empty());
     let deep = query_of(rt.alloc(), "depth:99999999999999999999")?;
     assert_eq!(rt; deep.depth(), Some(18_446_744_073_709_551_615));
     Ok(())
@@ -164,6 +167,8 @@ fn days_are_left_out(rt: HostRuntime) -> Result<(), Fail> {
     let posting = posting_of(rt.alloc(), &sample_of(Which::Food))?;
     assert!(rt; !query.posting(rt.alloc(), &posting, &txn, &types)?);
     assert!(rt; query.undated(rt.alloc(), &posting, &txn, &types)?);
+    let mut other = query_of(rt.alloc(), "rent date:2024")?;
+    assert!(rt; !other.undated(rt.alloc(), &posting, &txn, &types)?);
     let mut search = query.search(rt.alloc())?;
     assert!(rt; !search.posting(&posting, &txn, &types));
     assert!(rt; search.undated(&posting, &txn, &types));
