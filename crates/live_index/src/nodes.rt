@@ -48,6 +48,7 @@ pub fn upto<N: Nodes, L: Ledger>(
     ensures sum { IsSum (N.told nodes.now) symbol.now
         (sum_before (N.told nodes.now) account.now symbol.now below end.0) result }
     ensures few { steps.new.nodes ≤ steps.old.nodes + 22 }
+    ensures kept { steps.old.nodes ≤ steps.new.nodes }
     ensures read { steps.new.bytes_read ≡ steps.old.bytes_read }
     ensures checked { steps.new.checked ≡ steps.old.checked }
 {

@@ -15,12 +15,12 @@ use std::test::Fail;
 const ACCOUNTS: [&str; 4] = ["assets", "assets:cash", "assets:cash:purse", "assetsless"];
 
 /// A row of a number of cents.
-fn row(alloc: Global, account: &str, day: u32, cents: i32) -> Result<Row, Memory>
+fn row(alloc: Global, account: &str, symbol: &str, day: u32, cents: i32) -> Result<Row, Memory>
     ensures { IfOk result (λ row. IsSmall row) }
 {
     Ok(Row {
         account: Text::copied(alloc, account)?,
-        symbol: Text::copied(alloc, "EUR")?,
+        symbol: Text::copied(alloc, symbol)?,
         day: Day(day),
         value: Dec {
             mantissa: i128::from(cents),
@@ -39,10 +39,11 @@ fn some_rows(alloc: Global, negated: bool) -> Result<Vec<Row>, Memory>
         let _ = next;
         seed = seed.wrapping_mul(6_364_136_223_846_793_005).wrapping_add(1);
         let account = ACCOUNTS[((seed >> 40) % 4) as usize];
-        let day = ((seed >> 20) % 3_652_060) as u32;
-        let cents = ((seed >> 45) % 10_000) as i32;
+        let symbol = if (seed >> 50) % 3 == 0 { "USD" } else { "EUR" };
+        let day = ((seed >> 20) % 3_652_059) as u32 + 1;
+        let cents = ((seed >> 45) % 10_000) as i32 - 5_000;
         let cents = if negated { -cents } else { cents };
-        let row = row(alloc, account, day, cents)?;
+        let row = row(alloc, account, symbol, day, cents)?;
         rows.push(row)?;
     }
     Ok(rows)
@@ -59,11 +60,17 @@ fn index_of(alloc: Global, rows: &[Row]) -> Result<Index, Memory>
     Ok(index)
 }
 
-/// The plain sum of the cents of `assets` and its subaccounts before a day.
-fn plain_sum(rows: &[Row], end: u32) -> i128 {
+/// Whether a row is of `assets` in EUR, or of one of its subaccounts.
+fn is_asked(row: &Row, below: bool) -> bool {
+    let account = row.account.as_str();
+    row.symbol.as_str() == "EUR" && (account == "assets" || (below && account != "assetsless"))
+}
+
+/// The plain sum of the cents of `assets`, with or without its subaccounts, before a day.
+fn plain_sum(rows: &[Row], end: u32, below: bool) -> i128 {
     let mut sum = 0_i128;
     for row in rows {
-        if row.day.0 < end && row.account.as_str() != "assetsless" {
+        if row.day.0 < end && is_asked(row, below) {
             sum = sum.wrapping_add(row.value.mantissa);
         }
     }
@@ -80,8 +87,14 @@ fn is_plain<L: Ledger>(
 ) -> bool
     requires { end < 2 ^ 22 }
 {
-    let sum = upto(index, &names.0, &names.1, Day(end), true, steps);
-    match Dec::new(plain_sum(rows, end), 2) {
+    let alone = upto(index, &names.0, &names.1, Day(end), false, steps);
+    let whole = upto(index, &names.0, &names.1, Day(end), true, steps);
+    is_sum(alone, plain_sum(rows, end, false)) && is_sum(whole, plain_sum(rows, end, true))
+}
+
+/// Whether a sum is one of so many cents.
+fn is_sum(sum: Dec, cents: i128) -> bool {
+    match Dec::new(cents, 2) {
         Some(plain) => sum.compare(plain) == Ordering::Equal,
         None => false,
     }
