@@ -30,7 +30,7 @@ pub use fault::{Cause, Fault};
 pub use fault_line::print_fault;
 pub use item::{Book, Item, Items, Placed};
 pub use mixed::{Mixed, MixedFault};
-pub use printed::{print_amount, print_plain};
+pub use printed::{print_amount, print_plain, with_symbol};
 pub use rules::{AutoRule, Factor, PeriodicRule, RulePosting};
 pub use style::{Style, Styles};
 pub use sums::{DaySums, Sums};

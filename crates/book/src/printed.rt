@@ -2,7 +2,8 @@
 ghost use Rattle.std.specs.Prelude.{◌≡◌, ◌≤◌, ◌++◌, IfOk, OnOk};
 ghost use Rattle.std.specs.String.{string_bytes};
 ghost use Rattle.std.specs.List.{list_all};
-ghost use Rattle.book.specs.Printed.{number_shape, mark_of, mark_beside, printed_symbol, printed_amount, plain_amount, with_symbol, stands_unquoted, gap_of};
+ghost use Rattle.book.specs.Printed.{number_shape, mark_of, mark_beside, printed_symbol, printed_amount};
+ghost use Rattle.book.specs.Printed.{plain_amount, with_symbol, stands_unquoted, gap_of};
 
 use crate::amount::Written;
 use crate::style::Style;
@@ -35,17 +36,29 @@ pub fn print_amount(alloc: Global, symbol: &Text, value: Dec, style: &Style) -> 
     ensures { IfOk result (λ text. text ≡ printed_amount symbol.now value style.now) }
 {
     let number = print_number(alloc, value, style.places, &style.shape.number_shape())?;
+    with_symbol(alloc, &style.shape, symbol, number)
+}
+
+/// A printed number with a symbol, by the side and spacing of a shape. The empty symbol leaves the number alone.
+pub fn with_symbol(
+    alloc: Global,
+    shape: &Written,
+    symbol: &Text,
+    number: Text,
+) -> Result<Text, Memory>
+    ensures { IfOk result (λ text. text ≡ with_symbol shape.now symbol.now number) }
+{
     if symbol.as_str().is_empty() {
         return Ok(number);
     }
     let mut text = String::new(alloc);
-    if style.shape.left {
+    if shape.left {
         push_symbol(&mut text, symbol.as_str())?;
-        push_gap(&mut text, style.shape.spaced)?;
+        push_gap(&mut text, shape.spaced)?;
         text.push_str(number.as_str())?;
     } else {
         text.push_str(number.as_str())?;
-        push_gap(&mut text, style.shape.spaced)?;
+        push_gap(&mut text, shape.spaced)?;
         push_symbol(&mut text, symbol.as_str())?;
     }
     Ok(Text::from_string(text))
