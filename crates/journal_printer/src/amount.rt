@@ -1,11 +1,8 @@
 //! Amounts in a shape, with their own decimals.
-ghost use Rattle.std.specs.Prelude.{◌≡◌, ◌≤◌, ◌++◌, IfOk, OnOk, unsigned_abs};
-ghost use Rattle.std.specs.String.{string_bytes};
-ghost use Rattle.std.specs.List.{list_all};
-ghost use Rattle.book.specs.Printed.{stands_unquoted, printed_symbol, gap_of, with_symbol};
+ghost use Rattle.std.specs.Prelude.{◌≡◌, ◌≤◌, IfOk, unsigned_abs};
 ghost use Rattle.journal_printer.specs.Amounts.{places_needed, own_places, has_group_mark, number_text, amount_text};
 
-use book::{Amount, Written};
+use book::{Amount, Written, with_symbol};
 use hl_base::{Memory, Text};
 use hl_num::{Dec, print_number};
 use std::alloc::Global;
@@ -74,67 +71,5 @@ fn has_group_mark(group: Option<u8>, number: &[u8]) -> bool
     match group {
         Some(mark) => number.contains(&mark),
         None => false,
-    }
-}
-
-/// A number with a symbol, by the side and spacing of a shape. The empty symbol leaves the number alone.
-fn with_symbol(alloc: Global, shape: &Written, symbol: &Text, number: Text) -> Result<Text, Memory>
-    ensures { IfOk result (λ text. text ≡ with_symbol shape.now symbol.now number) }
-{
-    if symbol.as_str().is_empty() {
-        return Ok(number);
-    }
-    let mut text = String::new(alloc);
-    if shape.left {
-        push_symbol(&mut text, symbol.as_str())?;
-        push_gap(&mut text, shape.spaced)?;
-        text.push_str(number.as_str())?;
-    } else {
-        text.push_str(number.as_str())?;
-        push_gap(&mut text, shape.spaced)?;
-        push_symbol(&mut text, symbol.as_str())?;
-    }
-    Ok(Text::from_string(text))
-}
-
-/// Puts a space, where one is wanted.
-fn push_gap(text: &mut String, is_spaced: bool) -> Result<(), Memory>
-    ensures { OnOk result (string_bytes text.new ≡ string_bytes text.old ++ gap_of is_spaced) }
-{
-    if is_spaced {
-        text.push(' ')?;
-    }
-    Ok(())
-}
-
-/// Puts a symbol, in double quotes where it can't stand without.
-fn push_symbol(text: &mut String, symbol: &str) -> Result<(), Memory>
-    ensures { OnOk result (string_bytes text.new ≡ string_bytes text.old ++ printed_symbol symbol.now) }
-{
-    if is_plain_word(symbol) {
-        text.push_str(symbol)?;
-    } else {
-        text.push('"')?;
-        text.push_str(symbol)?;
-        text.push('"')?;
-    }
-    Ok(())
-}
-
-/// Whether a symbol may stand without quotes.
-fn is_plain_word(symbol: &str) -> bool
-    ensures { result ≡ list_all stands_unquoted symbol.now }
-{
-    symbol.as_bytes().iter().all(|byte| stands_unquoted(*byte))
-}
-
-/// Whether a byte may stand in a symbol without quotes.
-fn stands_unquoted(byte: u8) -> bool
-    ensures { result ≡ stands_unquoted byte }
-{
-    match byte {
-        b'$' | b'%' | b'_' => true,
-        b' ' | b'\t' | b'\r' | b'\n' => false,
-        _ => !byte.is_ascii_digit() && !byte.is_ascii_punctuation(),
     }
 }
