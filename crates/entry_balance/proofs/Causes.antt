@@ -2,7 +2,6 @@
 use Rattle.std.proofs.Common.{◌≡◌, Bool, true, false, ◌&&◌, ◌||◌, cond, List, [], ◌∷◌, Option, Some, None, is_none, is_some, Result, Ok, Err, IfOk, inl, inr, refl, sym, ap, ◌∙◌, subst}
 use Rattle.std.proofs.lemmas.Bool.{false≢true, or_parts}
 use Rattle.std.specs.List.{AllByRecursion}
-use Rattle.book.specs.Assertions.{HasNoAssertion}
 use Rattle.book.specs.declared.amount.Assertion.{Assertion}
 use Rattle.book.specs.declared.fault.Cause.{Cause}
 use Rattle.book.specs.declared.fault.Cause.TheVariants as cause
@@ -70,17 +69,6 @@ told_none w t c unassigned s none =
 
 pub told_some : (w t : Txn) (c : Option Cause) (fault : Cause) → IsSettled w t c → c ≡ Some fault → balanced w ≡ Err fault
 told_some w t c fault s some = ap (balanced_unless w) (sym s.cause ∙ some)
-
-pub none_assigned : (ps : List Posting) → AllByRecursion HasNoAssertion ps → has_assignment ps ≡ false
-none_assigned [] h = refl
-none_assigned (p ∷ ps) h = or_neither (is_assignment p) (has_assignment ps) (ap (λ (w : Option Assertion). is_none p.amount && is_some w) h.0 ∙ and_no (is_none p.amount)) (none_assigned ps h.1)
-  where
-    or_neither : (a b : Bool) → a ≡ false → b ≡ false → (a || b) ≡ false
-    or_neither a b h k = ap (λ (t : Bool). t || b) h ∙ k
-
-    and_no : (b : Bool) → (b && false) ≡ false
-    and_no true = refl
-    and_no false = refl
 
 -- without two missing amounts none is missing at free postings
 pub free_none : (a b c : Bool) → (a || b || c) ≡ false → c ≡ false

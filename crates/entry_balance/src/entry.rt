@@ -1,8 +1,6 @@
 //! The balance of one transaction.
 ghost use Rattle.std.specs.Prelude.{◌≡◌, true, false, Some, IfOk, if◌then◌else◌};
-ghost use Rattle.std.specs.List.{AllByRecursion};
 ghost use Rattle.hl_base.specs.Gives.{Gives};
-ghost use Rattle.book.specs.Assertions.{HasNoAssertion};
 ghost use Rattle.book.specs.declared.fault.Cause.TheVariants as cause;
 ghost use Rattle.book.specs.declared.transaction.Side.TheVariants.{Real, Balanced, Free};
 ghost use Rattle.entry_balance.specs.Check.{cause_of};
@@ -23,12 +21,15 @@ use book::{Boxed, Cause, Txn};
 use hl_base::Memory;
 use std::alloc::Global;
 
-/// A transaction with its missing amounts and costs. Real postings sum to zero at cost in each symbol, and balanced
-/// virtual ones by themselves. One missing amount on each of these sides takes what the others leave, as one posting
-/// for each symbol. A sum counts as zero where it is zero when it is rounded to the most decimals of its symbol. Two
-/// symbols that stand against each other in the real postings are an exchange, whose cost is recorded.
+/// A transaction with its missing amounts and costs, where no posting with an assertion lacks its amount; assertions
+/// themselves aren't judged. Real postings sum to zero at cost in each symbol, and balanced virtual ones by themselves.
+/// One missing amount on each of these sides takes what the others leave, as one posting for each symbol. A sum counts
+/// as zero where it is zero when it is rounded to the most decimals with which amounts of its symbol are written, or
+/// costs where no amount has the symbol. Two symbols that stand against each other in the real postings are an
+/// exchange, whose cost is recorded. The causes are two missing amounts; else a cost's product or a turnover out of
+/// range; else the first sum that isn't zero.
 pub fn balance_txn(alloc: Global, txn: Txn) -> Result<Txn, BalanceFault>
-    requires { AllByRecursion HasNoAssertion txn.postings }
+    requires { has_assignment txn.postings ≡ false }
     ensures { Gives (λ t. t) cause_of result (balanced txn) }
 {
     match settle(alloc, txn) {

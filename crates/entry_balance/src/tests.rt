@@ -1,7 +1,6 @@
 //! Worked transactions.
-ghost use Rattle.std.specs.Prelude.{◌≡◌, IfOk};
-ghost use Rattle.std.specs.List.{AllByRecursion};
-ghost use Rattle.book.specs.Assertions.{HasNoAssertion};
+ghost use Rattle.std.specs.Prelude.{◌≡◌, IfOk, false};
+ghost use Rattle.entry_balance.specs.Entry.{is_assignment, has_assignment};
 
 use crate::{BalanceFault, balance_txn};
 use book::{Amount, Boxed, Cause, Cost, Mark, Posting, Side, Txn, Written};
@@ -31,7 +30,7 @@ fn amount(alloc: Global, mantissa: i128, places: u8, symbol: &str) -> Result<Amo
 }
 
 fn posting(alloc: Global, side: Side, amount: Option<Amount>) -> Result<Posting, Memory>
-    ensures { IfOk result HasNoAssertion }
+    ensures { IfOk result (λ p. is_assignment p ≡ false) }
 {
     let account = Text::copied(alloc, "a")?;
     let mut posting = Posting::plain(alloc, 1, side, account);
@@ -56,7 +55,7 @@ fn txn(alloc: Global, line: u64, day: u32, postings: Vec<Posting>) -> Txn
 
 /// `10 A @ 0.3335 EUR` against an amount of cents.
 fn shares(alloc: Global, cents: i128) -> Result<Txn, Memory>
-    ensures { IfOk result (λ t. AllByRecursion HasNoAssertion t.postings) }
+    ensures { IfOk result (λ t. has_assignment t.postings ≡ false) }
 {
     let mut first = posting(alloc, Side::Real, Some(amount(alloc, 10, 0, "A")?))?;
     first.cost = Some(Boxed::new(alloc, Cost::Unit(amount(alloc, 3335, 4, "EUR")?))?);
@@ -89,7 +88,7 @@ fn judges_a_sum_at_its_precision(rt: HostRuntime) -> Result<(), Fail> {
 
 /// `1 C`, `2 B` and a missing amount.
 fn missing(alloc: Global) -> Result<Txn, Memory>
-    ensures { IfOk result (λ t. AllByRecursion HasNoAssertion t.postings) }
+    ensures { IfOk result (λ t. has_assignment t.postings ≡ false) }
 {
     let first = posting(alloc, Side::Real, Some(amount(alloc, 1, 0, "C")?))?;
     let second = posting(alloc, Side::Real, Some(amount(alloc, 2, 0, "B")?))?;
