@@ -1,5 +1,4 @@
 pub mod Accounts
-pub mod Assertions
 pub mod Bounds
 pub mod Entries
 pub mod FaultLine

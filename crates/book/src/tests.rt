@@ -5,8 +5,7 @@ use crate::amount::{Amount, Written};
 use crate::item::{Item, Placed};
 use crate::{
     Cause, DaySums, Directive, Fault, Mark, Mixed, Posting, Price, Side, Style, Styles, Sums, Txn,
-    compare_accounts, print_amount, print_fault, print_plain,
-    with_symbol,
+    compare_accounts, print_amount, print_fault, print_plain, with_symbol,
 };
 use hl_base::{Kind, List, Piece, Steps, Text};
 use hl_num::Dec;
@@ -69,7 +68,12 @@ fn prints_amounts(rt: HostRuntime) -> Result<(), Fail> {
     let symbol = Text::copied(rt.alloc(), "EUR")?;
     let plain = print_plain(rt.alloc(), &symbol, dec(&rt, -1234500, 3))?;
     let number = Text::copied(rt.alloc(), "1.2")?;
-    let spaced = with_symbol(rt.alloc(), &style(false, true, None, 2).shape, &symbol, number)?;
+    let spaced = with_symbol(
+        rt.alloc(),
+        &style(false, true, None, 2).shape,
+        &symbol,
+        number,
+    )?;
     assert!(rt; spaced.as_str() == "1.2 EUR");
     assert_eq!(rt; plain.as_str(), "-1234.500 EUR");
     Ok(())
