@@ -122,11 +122,13 @@ pub(crate) enum Which {
     Saving,
     Nothing,
     Lunch,
+    /// The purchase without its posting.
+    Bare,
 }
 
 pub(crate) fn sample_of(which: Which) -> Sample {
     match which {
-        Which::Food => food(),
+        Which::Food | Which::Bare => food(),
         Which::Saving => saving(),
         Which::Nothing => nothing(),
         Which::Lunch => lunch(),
@@ -180,6 +182,9 @@ pub(crate) fn posting_of(alloc: Global, sample: &Sample) -> Result<Posting, Memo
 /// The postings of a sample's transaction.
 fn postings_of(alloc: Global, which: Which) -> Result<List<Posting>, Memory> {
     let mut postings = Vec::new(alloc);
+    if matches!(which, Which::Bare) {
+        return Ok(List::from_vec(postings));
+    }
     postings.push(posting_of(alloc, &sample_of(which))?)?;
     match which {
         Which::Lunch => postings.push(posting_of(alloc, &paid())?)?,

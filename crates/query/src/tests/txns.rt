@@ -40,3 +40,18 @@ fn not_asks_of_every_posting(rt: HostRuntime) -> Result<(), Fail> {
     ];
     check_txns(&rt, rt.alloc(), &rows)
 }
+
+#[test]
+fn a_transaction_without_postings(rt: HostRuntime) -> Result<(), Fail> {
+    let rows: [(&str, Which, bool); 8] = [
+        ("desc:weekly", Which::Bare, true),
+        ("status:*", Which::Bare, true),
+        ("food", Which::Bare, false),
+        ("acct:", Which::Bare, false),
+        ("not:food", Which::Bare, true),
+        ("not:real:1", Which::Bare, true),
+        ("cur:eur", Which::Bare, false),
+        ("weekly", Which::Bare, false),
+    ];
+    check_txns(&rt, rt.alloc(), &rows)
+}
