@@ -1,0 +1,4 @@
+pub mod Assertions
+pub mod Claims
+pub mod Kept
+pub mod Texts
