@@ -20,10 +20,10 @@ use Rattle.entry_balance.specs.Entry.{has_assignment, is_assignment, is_assignab
 use Rattle.entry_balance.specs.Settled.{IsSettled, AreSettled}
 use Rattle.entry_balance.specs.Values.{Value}
 use Rattle.entry_balance.proofs.Named.{left_true, right_true}
-use Rattle.balancing.specs.Assertions.{postings_of_group}
+use Rattle.balancing.specs.Parts.{postings_of_group}
 use Rattle.balancing.specs.Assigned.{assigned, given, given_at, given_from, given_posting, given_postings, is_ready}
 use Rattle.balancing.specs.Groups.{Group, group_cmp, groups_by, groups_from, groups_of, day_of}
-use Rattle.balancing.specs.Kept.{Keeping, is_asked, is_asked_by, are_asked}
+use Rattle.assertions.specs.Kept.{Keeping, is_asked, is_asked_by, are_asked}
 use Rattle.balancing.specs.Walk.{IsOwn, AreOwn}
 use Rattle.balancing.proofs.Whole.{has_group, has-left, has-right, has-first, group_ties}
 

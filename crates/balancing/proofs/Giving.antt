@@ -14,12 +14,12 @@ use Rattle.entry_balance.specs.Entry.{moved, moved_by, plain_amount}
 use Rattle.entry_balance.proofs.Adding.{false-from}
 use Rattle.entry_balance.proofs.Covers.{Covers, covered-fits, covers_same, covers_right, covers_both}
 use Rattle.entry_balance.proofs.Turnover.{fits-first}
-use Rattle.balancing.specs.Assertions.{held_by, held_in}
+use Rattle.assertions.specs.Assertions.{held_by, held_in}
 use Rattle.balancing.specs.Assigned.{assigned_posting, assigned_value, given_posting, given_postings}
 use Rattle.balancing.specs.Giving.{IsReady, IsHeld, given_next, given_with, value_after, fits_after}
-use Rattle.balancing.specs.Kept.{Keeping, is_asked_by}
+use Rattle.assertions.specs.Kept.{Keeping, is_asked_by}
 use Rattle.balancing.proofs.Adding.{total-append, sums_fit, difference_fits}
-use Rattle.balancing.proofs.Balanced.{covers_held}
+use Rattle.assertions.proofs.Balanced.{covers_held}
 
 -- ---- what is assigned
 

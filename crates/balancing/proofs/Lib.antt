@@ -1,11 +1,9 @@
 mod Rows
-pub mod Texts
 pub mod Parts
 pub mod Adding
-pub mod Keeping
-pub mod Under
 pub mod Ordered
 pub mod Turned
+pub mod Few
 pub mod Walked
 pub mod Whole
 pub mod Balanced
@@ -30,3 +28,9 @@ pub mod SolvingBook
 pub mod Solving
 pub mod SolvingRows
 pub mod SolvingUnits
+pub mod FaultingPlaces
+pub mod FaultingWalk
+pub mod FaultingCauses
+pub mod FaultingGroups
+pub mod Faulting
+mod FaultingRows

@@ -13,7 +13,7 @@ use Rattle.entry_balance.specs.Tally.{turnover_fits}
 use Rattle.entry_balance.proofs.Named.{left_true, right_true}
 use Rattle.balancing.specs.Assigned.{given, given_postings, is_ready}
 use Rattle.balancing.specs.Groups.{Group}
-use Rattle.balancing.specs.Kept.{Keeping, is_asked, are_asked}
+use Rattle.assertions.specs.Kept.{Keeping, is_asked, are_asked}
 use Rattle.balancing.specs.Load.{fault_of_group}
 use Rattle.balancing.specs.Walk.{IsGiven, IsOwn}
 use Rattle.balancing.proofs.Given.{asked-next, assignable-is, assignable-written, settled-back, given_at-same, given_at-there, given_here, settled-set}

@@ -10,9 +10,10 @@ use Rattle.entry_balance.specs.Values.{Value}
 use Rattle.entry_balance.specs.Entry.{moved_by, moved}
 use Rattle.balancing.specs.declared.groups.Part.{Part}
 use Rattle.balancing.specs.declared.groups.Part.TheVariants as part
-use Rattle.balancing.specs.Assertions.{is_chosen, part_on, postings_on, first_failure, or_else_fault, failure_of}
+use Rattle.balancing.specs.Parts.{is_chosen, part_on, postings_on}
+use Rattle.assertions.specs.Assertions.{first_failure, or_else_fault, failure_of}
 use Rattle.balancing.specs.Claims.{AreClaimed}
-use Rattle.balancing.specs.Kept.{Keeping, IsBalance}
+use Rattle.assertions.specs.Kept.{Keeping, IsBalance}
 use Rattle.balancing.specs.Walk.{moved_when}
 
 pub moved_chosen : (part : Part) (day : ℕ) (t : Txn) (ps : List Posting) → flat_map (moved_when part day t) ps ≡ moved (filter (is_chosen part day t) ps)

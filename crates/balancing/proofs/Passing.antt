@@ -9,13 +9,14 @@ use Rattle.entry_balance.specs.Values.{Value}
 use Rattle.entry_balance.specs.Entry.{moved}
 use Rattle.entry_balance.specs.Settled.{AreSettled}
 use Rattle.entry_balance.specs.Turnover.{IsTurnover}
-use Rattle.balancing.specs.Assertions.{first_failure, or_else_fault, postings_of_group}
+use Rattle.assertions.specs.Assertions.{first_failure, or_else_fault}
+use Rattle.balancing.specs.Parts.{postings_of_group}
 use Rattle.balancing.specs.Assigned.{given_at, given_from, is_ready}
 use Rattle.balancing.specs.Groups.{Group}
-use Rattle.balancing.specs.Kept.{Keeping, IsBalance}
+use Rattle.assertions.specs.Kept.{Keeping, IsBalance}
 use Rattle.balancing.specs.Load.{fault_of_group, moved_of_group}
 use Rattle.balancing.specs.Walk.{AreGiven, IsAfter, IsGiven, IsPassed, IsTold, IsWalked}
-use Rattle.balancing.proofs.Balanced.{are_asked_same}
+use Rattle.assertions.proofs.Balanced.{are_asked_same}
 use Rattle.balancing.proofs.Given.{given-keeps, given-ready_at, own-next}
 use Rattle.balancing.proofs.Walked.{walk_more, walk_stop, walk_end, left_here}
 

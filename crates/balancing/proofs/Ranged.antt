@@ -24,14 +24,14 @@ use Rattle.entry_balance.proofs.Covers.{Covers, covered-fits, covers_none, cover
 use Rattle.entry_balance.proofs.Turnover.{AllAtMost, magnitude, magnitude-append, numbers-append, at_most-left, at_most-right}
 use Rattle.balancing.specs.declared.groups.Part.TheVariants as taken
 use Rattle.balancing.specs.Groups.{day_of}
-use Rattle.balancing.specs.Assertions.{is_chosen, is_found, part_on}
+use Rattle.balancing.specs.Parts.{is_chosen, is_found, part_on}
 use Rattle.balancing.specs.Assigned.{given, given_posting, given_postings}
 use Rattle.balancing.specs.Load.{group_cause, fault_at, fault_of_group, moved_on}
 use Rattle.balancing.proofs.Given.{assignable_days, assignable_one, given-unassigned, given_here}
 
 -- ---- the order of what is moved
 
-covers_swap : (xs ys zs : List Value) → Covers (xs ++ (ys ++ zs)) (ys ++ (xs ++ zs))
+pub covers_swap : (xs ys zs : List Value) → Covers (xs ++ (ys ++ zs)) (ys ++ (xs ++ zs))
 covers_swap xs ys zs = record {
   each = λ s. record {
     less = λ q. omega (
@@ -56,7 +56,7 @@ covers_swap xs ys zs = record {
   };
 }
 
-covers_through : (xs ys zs : List Value) → Covers xs ys → Covers ys zs → Covers xs zs
+pub covers_through : (xs ys zs : List Value) → Covers xs ys → Covers ys zs → Covers xs zs
 covers_through xs ys zs h k = record {
   each = λ s. record {
     less = λ q. omega (arith, (h.each s).less q, (k.each s).less q);
@@ -117,7 +117,7 @@ costed_covers (Some c) p a is = by (is_real_of c.0 p) p.cost refl
     by true (Some x) e = covers_same (moved_by p)
     by false o e = covers_same (moved_by p)
 
-solved_covers : (all ps : List Posting) → Covers (moved (flat_map (λ p. solved_posting all p p.amount) ps)) (moved ps)
+pub solved_covers : (all ps : List Posting) → Covers (moved (flat_map (λ p. solved_posting all p p.amount) ps)) (moved ps)
 solved_covers all [] = covers_none []
 solved_covers all (p ∷ ps) =
     subst (λ (vs : List Value). Covers vs (moved_by p ++ moved ps)) (sym (flat_map-append moved_by (solved_posting all p p.amount) (flat_map (λ p. solved_posting all p p.amount) ps)))

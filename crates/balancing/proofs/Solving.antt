@@ -16,7 +16,7 @@ use Rattle.entry_balance.specs.Values.{Value}
 use Rattle.entry_balance.specs.Tally.{turnover_fits}
 use Rattle.entry_balance.specs.Entry.{settled, moved, moved_by, cause_alone, plain_amount}
 use Rattle.balancing.specs.Groups.{Group, group_cmp, groups_from, groups_of}
-use Rattle.balancing.specs.Assertions.{is_same, is_other, held_in}
+use Rattle.assertions.specs.Assertions.{is_same, is_other, held_in}
 use Rattle.balancing.specs.Assigned.{assigned}
 use Rattle.balancing.specs.Load.{first_fault, loaded, book_of, load}
 use Rattle.balancing.specs.Solves.{are_unmarked, is_allowed, values_before, just_after, amount_at, IsAssignedAt, Holds, HoldsIf, IsAssertedAt, Solves}
@@ -46,7 +46,7 @@ module _ (book : List Txn) (walk : List Entry) (r : Reorders (placed_from 0 book
   assigned_place : (front : List Entry) (e : Entry) (rest : List Entry) → walk ≡ front ++ e ∷ rest → AssignedAfter (map (λ (e : Entry). e.1) front) e.1 → IsAssignedAt book e
   assigned_place front e rest is h marked = h marked ∙ amount_there front e rest is e.1.wanted
 
-  assigned_front : (front : List Entry) (e : Entry) (rest : List Entry) → walk ≡ front ++ e ∷ rest → IsAssignedAt book e → AssignedAfter (map (λ (e : Entry). e.1) front) e.1
+  pub assigned_front : (front : List Entry) (e : Entry) (rest : List Entry) → walk ≡ front ++ e ∷ rest → IsAssignedAt book e → AssignedAfter (map (λ (e : Entry). e.1) front) e.1
   assigned_front front e rest is h marked = h marked ∙ sym (amount_there front e rest is e.1.wanted)
 
   holds_there : (w : Assertion) (xs ys : List Value) → Reorders xs ys → Holds w ys → Holds w xs
@@ -115,10 +115,10 @@ module _ (written made : List Txn) (same : groups_of made ≡ groups_of written)
 -- ---- assignments that are made group after group
 
 module _ (written : List Txn) where
-  are : AreGiven written (assigned written)
+  pub are : AreGiven written (assigned written)
   are = are_given written (assigned written) (from_length written [] (groups_of written)) (each_number (GivenAt written (assigned written)) written (fixed_given written (assigned written) [] (groups_of written) (fixed_assigned written)))
 
-  same_groups : groups_of (assigned written) ≡ groups_of written
+  pub same_groups : groups_of (assigned written) ≡ groups_of written
   same_groups = ap (each_once group_cmp) (given_groups 0 written (assigned written) are)
 
 -- ---- the book that a text is loaded to

@@ -22,7 +22,8 @@ use Rattle.entry_balance.specs.Tally.{total_of, sums_of, turnover_fits}
 use Rattle.entry_balance.specs.Entry.{settled, solved_posting, found_posting, found_values, recorded_cost, moved, moved_by, cause_alone, has_two_missing, fits_alone, unbalanced_by, unbalanced_sums, has_assignment, assignment_fault, is_assignable, with_postings}
 use Rattle.entry_balance.proofs.Turnover.{fits-first}
 use Rattle.balancing.specs.Groups.{Group, group_cmp, groups_by, groups_from, groups_of, day_of}
-use Rattle.balancing.specs.Assertions.{is_same, is_other, first_of, found_instead, failure_at, failure_of, first_failure, or_else_fault, held_in, postings_of_group}
+use Rattle.assertions.specs.Assertions.{is_same, is_other, first_of, found_instead, failure_at, failure_of, first_failure, or_else_fault, held_in}
+use Rattle.balancing.specs.Parts.{postings_of_group}
 use Rattle.balancing.specs.Assigned.{given, given_postings}
 use Rattle.balancing.specs.Load.{moved_on, moved_of_group, group_cause, fault_at, fault_of_group, first_fault}
 use Rattle.balancing.specs.Solves.{is_allowed, Holds, HoldsIf, AreMade, AreMadeTxns}
@@ -90,7 +91,7 @@ made_days n t u e (w ∷ ws) [] h = absurd h
 made_days n t u e (w ∷ ws) (q ∷ qs) h =
     λ i. ((unwrap_or (made_day w.amount w.wanted w q h.0 i) (e i)).0, n) ∷ made_days n t u e ws qs h.1 i
 
-made_groups_by : (n : ℕ) (t u : Txn) → u.day ≡ t.day → (ws qs : List Posting) → AreMade ws qs → groups_by n u qs ≡ groups_by n t ws
+pub made_groups_by : (n : ℕ) (t u : Txn) → u.day ≡ t.day → (ws qs : List Posting) → AreMade ws qs → groups_by n u qs ≡ groups_by n t ws
 made_groups_by n t u e [] [] h = ap (λ (d : Day). (d.0, n) ∷ []) e
 made_groups_by n t u e [] (q ∷ qs) h = absurd h
 made_groups_by n t u e (w ∷ ws) [] h = absurd h
@@ -110,7 +111,7 @@ made_groups ws ms h = ap (each_once group_cmp) (made_groups_from 0 ws ms h)
 
 -- ---- the walk without places
 
-settled_at : (ms : List Txn) (n : ℕ) → slice_get (map settled ms) n ≡ option_map settled (slice_get ms n)
+pub settled_at : (ms : List Txn) (n : ℕ) → slice_get (map settled ms) n ≡ option_map settled (slice_get ms n)
 settled_at [] n = refl
 settled_at (m ∷ ms) zero = refl
 settled_at (m ∷ ms) (suc n) = settled_at ms n
@@ -141,7 +142,7 @@ text_names n (t ∷ ts) =
 abbrev pub HoldsAfter : List Posting → Posting → Type 0
 HoldsAfter seen p = HoldsIf p.wanted (λ w. held_in w.below p.account (seen ++ p ∷ []))
 
-none_of : (a b : Option Fault) → or_else_fault a b ≡ None → (a ≡ None) × (b ≡ None)
+pub none_of : (a b : Option Fault) → or_else_fault a b ≡ None → (a ≡ None) × (b ≡ None)
 none_of None b h = (refl, h)
 none_of (Some f) b h = absurd (let never : ⊥ = cc in never)
 
@@ -171,11 +172,11 @@ all_hold seen (p ∷ ps) h =
     let parts = none_of (failure_of (seen ++ p ∷ []) p p.wanted) (first_failure (seen ++ p ∷ []) ps) h in
     (holds_by seen p p.wanted parts.0, all_hold (seen ++ p ∷ []) ps parts.1)
 
-no_cause : (line : ℕ) (c : Option Cause) → fault_at line c ≡ None → c ≡ None
+pub no_cause : (line : ℕ) (c : Option Cause) → fault_at line c ≡ None → c ≡ None
 no_cause line None h = refl
 no_cause line (Some c) h = absurd (let never : ⊥ = cc in never)
 
-group_ok : (fits : Bool) (c : Option Cause) → group_cause fits c ≡ None → (fits ≡ true) × (c ≡ None)
+pub group_ok : (fits : Bool) (c : Option Cause) → group_cause fits c ≡ None → (fits ≡ true) × (c ≡ None)
 group_ok true None h = (refl, refl)
 group_ok false None h = absurd (let never : ⊥ = cc in never)
 group_ok true (Some cause.TwoMissing) h = absurd (let never : ⊥ = cc in never)
@@ -192,7 +193,7 @@ group_facts : (before : List Value) (day : ℕ) (o : Option Txn) → fault_of_gr
 group_facts before day None h fits = (ap turnover_fits (append-nil before) ∙ fits, tt)
 group_facts before day (Some t) h fits = group_ok (turnover_fits (before ++ moved_on day (settled t))) (cause_alone t.postings) (no_cause t.line (group_cause (turnover_fits (before ++ moved_on day (settled t))) (cause_alone t.postings)) h)
 
-moved_is : (day : ℕ) (o : Option Txn) → moved_of_group day o ≡ moved (postings_of_group day o)
+pub moved_is : (day : ℕ) (o : Option Txn) → moved_of_group day o ≡ moved (postings_of_group day o)
 moved_is day None = refl
 moved_is day (Some t) = refl
 
@@ -217,7 +218,7 @@ no_fault made before seen (g ∷ gs) fits h =
       causes = (here.1, rest.causes);
     }
 
-with_assignment : (ps : List Posting) → has_assignment ps ≡ true → cause_alone ps ≡ assignment_fault ps
+pub with_assignment : (ps : List Posting) → has_assignment ps ≡ true → cause_alone ps ≡ assignment_fault ps
 with_assignment ps e = ap (λ (b : Bool). cond b (assignment_fault ps) (cond (has_two_missing ps) (Some cause.TwoMissing) (cond (fits_alone ps) (unbalanced_by (unbalanced_sums ps)) (Some cause.Range)))) e
 
 -- ---- where nothing is wrong, no group has a fault

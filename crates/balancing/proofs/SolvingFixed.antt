@@ -16,7 +16,7 @@ use Rattle.book.specs.declared.transaction.Txn.{Txn}
 use Rattle.book.specs.Order.{each_once}
 use Rattle.entry_balance.specs.Entry.{with_postings, is_assignment, has_assignment, is_assignable, assignment_fault}
 use Rattle.balancing.specs.Groups.{Group, group_cmp, groups_by, groups_from, groups_of, day_of}
-use Rattle.balancing.specs.Assertions.{postings_of_group}
+use Rattle.balancing.specs.Parts.{postings_of_group}
 use Rattle.balancing.specs.Assigned.{given_posting, given_postings, given, given_at, given_from, assigned}
 use Rattle.balancing.proofs.SolvingRising.{all_append}
 use Rattle.balancing.proofs.SolvingGroups.{Ascends, each_once-ascends, same_group}
@@ -48,7 +48,7 @@ given_again later seen t =
       | false ↦ λ e. ap (λ (b : Bool). cond b (with_postings t (given_postings later t.postings)) t) e
     ] refl
 
-given_not : (seen : List Posting) (t : Txn) → is_assignable t.postings ≡ false → given seen t ≡ t
+pub given_not : (seen : List Posting) (t : Txn) → is_assignable t.postings ≡ false → given seen t ≡ t
 given_not seen t e = ap (λ (b : Bool). cond b (with_postings t (given_postings seen t.postings)) t) e
 
 -- ---- the day of a group

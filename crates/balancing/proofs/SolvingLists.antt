@@ -14,7 +14,7 @@ use Rattle.book.specs.declared.transaction.Txn.{Txn}
 use Rattle.entry_balance.specs.Entry.{with_postings, is_assignable}
 use Rattle.entry_balance.proofs.Named.{left_true, right_true}
 use Rattle.balancing.specs.Groups.{Group, group_cmp, groups_by, groups_from, groups_of, day_of}
-use Rattle.balancing.specs.Assertions.{postings_of_group}
+use Rattle.balancing.specs.Parts.{postings_of_group}
 use Rattle.balancing.specs.Assigned.{given_posting, given_postings, given, given_at, given_from}
 use Rattle.balancing.specs.Solves.{is_unmarked, are_unmarked, is_allowed, IsMadeTxn, AreMadeTxns}
 use Rattle.balancing.proofs.SolvingGroups.{has_group, has-each_once, same_group, equal_group}

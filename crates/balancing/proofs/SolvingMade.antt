@@ -20,7 +20,8 @@ use Rattle.entry_balance.specs.Values.{Value, value_of}
 use Rattle.entry_balance.specs.Entry.{from_amount, plain_amount, is_real_of, found_posting, found_values, costed_posting, recorded_cost, solved_posting}
 use Rattle.balancing.specs.declared.groups.Part.TheVariants.{ButFound}
 use Rattle.balancing.specs.Groups.{day_of}
-use Rattle.balancing.specs.Assertions.{counts_for, held_by, held_in, is_found, is_chosen}
+use Rattle.assertions.specs.Assertions.{counts_for, held_by, held_in}
+use Rattle.balancing.specs.Parts.{is_found, is_chosen}
 use Rattle.balancing.specs.Assigned.{assigned_value, assigned_posting, given_posting, given_postings}
 use Rattle.balancing.specs.Solves.{IsMadeBy, AreMade}
 use Rattle.balancing.proofs.SolvingSeen.{EachAfter}

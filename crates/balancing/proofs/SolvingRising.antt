@@ -10,7 +10,7 @@ use Rattle.book.specs.declared.transaction.Posting.{Posting}
 use Rattle.book.specs.declared.transaction.Txn.{Txn}
 use Rattle.book.specs.SumsBefore.{is_before, is_assigned, number_in, placed_in}
 use Rattle.balancing.specs.Groups.{Group, group_cmp, day_of}
-use Rattle.balancing.specs.Assertions.{is_found, is_chosen}
+use Rattle.balancing.specs.Parts.{is_found, is_chosen}
 use Rattle.balancing.specs.Solves.{just_after}
 use Rattle.balancing.proofs.SolvingPlaces.{earlier_day, earlier_txn, earlier_posting, not_before_itself, not_before_back, before_after, itself_after, not_after}
 use Rattle.balancing.proofs.SolvingGroups.{less_parts, Ascends}
@@ -165,15 +165,15 @@ module _ (day n : ℕ) (t : Txn) where
 
 -- ---- group after group
 
-record IsOfGroup (g : Group) (e : Entry) : Type 0 where
+pub record IsOfGroup (g : Group) (e : Entry) : Type 0 where
   pub day : e.0.day ≡ g.0
   pub txn : e.0.txn ≡ g.1
 
-group_rises : (g : Group) (o : Option Txn) → Rising (placed_group g o)
+pub group_rises : (g : Group) (o : Option Txn) → Rising (placed_group g o)
 group_rises g None = tt
 group_rises g (Some t) = on_rises g.0 g.1 t
 
-group_of_entries : (g : Group) (o : Option Txn) → AllByRecursion (IsOfGroup g) (placed_group g o)
+pub group_of_entries : (g : Group) (o : Option Txn) → AllByRecursion (IsOfGroup g) (placed_group g o)
 group_of_entries g None = tt
 group_of_entries g (Some t) = all_by (IsWithin g.0 g.1 0 (length t.postings + length t.postings)) (IsOfGroup g) (λ x w. record { day = w.day; txn = w.txn }) (placed_on g.0 g.1 t) (on_within g.0 g.1 t)
 
@@ -200,11 +200,11 @@ walk_rises book (g ∷ gs) up =
 
 -- ---- what comes before a place
 
-all_kept : (p : Entry → Bool) (xs : List Entry) → AllByRecursion (λ x. p x ≡ true) xs → filter p xs ≡ xs
+pub all_kept : (p : Entry → Bool) (xs : List Entry) → AllByRecursion (λ x. p x ≡ true) xs → filter p xs ≡ xs
 all_kept p [] h = refl
 all_kept p (x ∷ xs) h = λ i. cond (h.0 i) (x ∷ all_kept p xs h.1 i) (all_kept p xs h.1 i)
 
-none_kept : (p : Entry → Bool) (xs : List Entry) → AllByRecursion (λ x. p x ≡ false) xs → filter p xs ≡ []
+pub none_kept : (p : Entry → Bool) (xs : List Entry) → AllByRecursion (λ x. p x ≡ false) xs → filter p xs ≡ []
 none_kept p [] h = refl
 none_kept p (x ∷ xs) h = λ i. cond (h.0 i) (x ∷ none_kept p xs h.1 i) (none_kept p xs h.1 i)
 

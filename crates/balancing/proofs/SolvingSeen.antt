@@ -12,7 +12,7 @@ use Rattle.book.specs.declared.transaction.Txn.{Txn}
 use Rattle.book.specs.SumsBefore.{Place, is_before, is_of, placed_from}
 use Rattle.entry_balance.specs.Values.{Value, value_of}
 use Rattle.entry_balance.specs.Entry.{from_amount}
-use Rattle.balancing.specs.Assertions.{lies_under, counts_for, held_in}
+use Rattle.assertions.specs.Assertions.{lies_under, counts_for, held_in}
 use Rattle.balancing.specs.Solves.{values_of, values_before}
 use Rattle.balancing.proofs.SolvingOrders.{Reorders, joined, by_equal, mapped, filtered, spread}
 use Rattle.balancing.proofs.SolvingWalk.{Entry}

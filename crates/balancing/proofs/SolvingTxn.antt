@@ -16,7 +16,7 @@ use Rattle.entry_balance.specs.Entry.{found_posting, found_values, costed_postin
 use Rattle.entry_balance.proofs.Named.{left_true, right_true}
 use Rattle.balancing.specs.declared.groups.Part.TheVariants.{All, ButFound, Found}
 use Rattle.balancing.specs.Groups.{day_of}
-use Rattle.balancing.specs.Assertions.{is_found, is_chosen, part_on, postings_on}
+use Rattle.balancing.specs.Parts.{is_found, is_chosen, part_on, postings_on}
 use Rattle.balancing.specs.Assigned.{assigned_posting, assigned_value, given_posting, given_postings, given}
 use Rattle.balancing.specs.Solves.{is_allowed, IsMadeBy, AreMade, IsMadeTxn}
 use Rattle.balancing.proofs.SolvingRising.{all_append}
@@ -121,7 +121,7 @@ not_found (Some a) o w q e h is = ap is_found is ∙ ap (λ b. b && is_none w.wa
 not_found None None w q e h is = ap is_found is ∙ ap (λ b. b && is_none w.wanted) h
 not_found None (Some x) w q e h is = ap is_found is.1 ∙ ap is_none e
 
-made_days : (T : Txn) (day : Day) → T.day ≡ day → (ws qs : List Posting) → AreMade ws qs → AllByRecursion (λ p. p.day ≡ None) ws → AllByRecursion (λ p. day_of T p ≡ day.0) qs
+pub made_days : (T : Txn) (day : Day) → T.day ≡ day → (ws qs : List Posting) → AreMade ws qs → AllByRecursion (λ p. p.day ≡ None) ws → AllByRecursion (λ p. day_of T p ≡ day.0) qs
 made_days T day e [] [] made h = tt
 made_days T day e [] (q ∷ qs) made h = absurd made
 made_days T day e (w ∷ ws) [] made h = absurd made

@@ -20,7 +20,7 @@ use Rattle.book.specs.SumsBefore.{Place, is_before, is_of, placed_from, postings
 use Rattle.entry_balance.specs.Values.{Value, value_of}
 use Rattle.entry_balance.specs.Tally.{numbers_of, no_sum, total_of, sums_of}
 use Rattle.entry_balance.specs.Entry.{from_amount, is_nothing}
-use Rattle.balancing.specs.Assertions.{is_other, first_of}
+use Rattle.assertions.specs.Assertions.{is_other, first_of}
 use Rattle.balancing.specs.Solves.{values_of, values_before, HasFew}
 use Rattle.balancing.proofs.SolvingSums.{at-plus}
 use Rattle.balancing.proofs.SolvingWalk.{Entry}

@@ -12,7 +12,7 @@ use Rattle.book.specs.SumsBefore.{Place, is_assigned, number_in, placed_in, plac
 use Rattle.balancing.specs.declared.groups.Part.{Part}
 use Rattle.balancing.specs.declared.groups.Part.TheVariants as part
 use Rattle.balancing.specs.Groups.{Group, group_cmp, day_of}
-use Rattle.balancing.specs.Assertions.{is_found, is_chosen, part_on, postings_on}
+use Rattle.balancing.specs.Parts.{is_found, is_chosen, part_on, postings_on}
 use Rattle.balancing.proofs.SolvingOrders.{Reorders, nothing, further, joined, by_equal, to_middle}
 use Rattle.balancing.proofs.SolvingGroups.{Ascends, Covered, of_group, group_by_group, each_reordered}
 
@@ -63,7 +63,7 @@ unplaced_on day n t =
 
 -- ---- all postings are there group after group
 
-filter_alike : {A : Type 0} (p q : A → Bool) → ((x : A) → p x ≡ q x) → (xs : List A) → filter p xs ≡ filter q xs
+pub filter_alike : {A : Type 0} (p q : A → Bool) → ((x : A) → p x ≡ q x) → (xs : List A) → filter p xs ≡ filter q xs
 filter_alike p q h [] = refl
 filter_alike p q h (x ∷ xs) = λ i. cond (h x i) (x ∷ filter_alike p q h xs i) (filter_alike p q h xs i)
 
@@ -77,7 +77,7 @@ one_more x true false ys zs r = further x r
 one_more x false b ys zs r = r
 
 -- those that pass a test, in two parts by another test
-two_parts : {A : Type 0} (p q : A → Bool) (xs : List A) → Reorders (filter p xs) (filter (λ x. p x && not (q x)) xs ++ filter (λ x. p x && q x) xs)
+pub two_parts : {A : Type 0} (p q : A → Bool) (xs : List A) → Reorders (filter p xs) (filter (λ x. p x && not (q x)) xs ++ filter (λ x. p x && q x) xs)
 two_parts p q [] = nothing
 two_parts p q (x ∷ xs) = one_more x (p x) (q x) _ _ (two_parts p q xs)
 

@@ -12,6 +12,8 @@ use Rattle.balancing.specs.Groups.{Group, groups_of}
 use Rattle.balancing.specs.Load.{book_of}
 use Rattle.balancing.specs.Walk.{AreOwn, IsRead, IsTold}
 use Rattle.balancing.proofs.Given.{assigned-ready, groups-assigned, groups-own}
+use Rattle.balancing.specs.Solves.{HaveFew}
+use Rattle.balancing.proofs.Few.{book-few}
 use Rattle.balancing.proofs.Turned.{book-fits}
 use Rattle.balancing.proofs.Whole.{book_ok, book_fault, whole_book}
 
@@ -33,6 +35,11 @@ told_fits written ts cs fault none told =
     let all = assigned written in
     subst (λ (xs : List Txn). TurnoverFits (postings_of xs)) (sym (whole_book all ts cs (assigned-ready written) (told.settled none) (sym none ∙ told.is)))
     (book-fits all (told.within none) (told.few none))
+
+pub told_few : (written ts : List Txn) (cs : List (Option Cause)) (fault : Option Fault) → fault ≡ None → IsTold (assigned written) ts cs (groups_of (assigned written)) fault → HaveFew ts
+told_few written ts cs fault none told =
+    let all = assigned written in
+    subst HaveFew (sym (whole_book all ts cs (assigned-ready written) (told.settled none) (sym none ∙ told.is))) (book-few all (told.few none))
 
 pub told_fault : (written ts : List Txn) (cs : List (Option Cause)) (fault : Fault) (told : Option Fault) → told ≡ Some fault → IsTold (assigned written) ts cs (groups_of (assigned written)) told → book_of (assigned written) ≡ Err fault
 told_fault written ts cs fault told some h = book_fault (assigned written) fault (sym some ∙ h.is)

@@ -26,7 +26,7 @@ use Rattle.entry_balance.specs.Entry.{from_amount, plain_amount, found_posting, 
 use Rattle.balancing.specs.Groups.{Group, group_cmp, groups_by, groups_from, groups_of, day_of}
 use Rattle.balancing.specs.Load.{moved_on, moved_of_group}
 use Rattle.book.specs.SumsBefore.{is_assigned}
-use Rattle.balancing.specs.Assertions.{is_chosen, is_found, part_on}
+use Rattle.balancing.specs.Parts.{is_chosen, is_found, part_on}
 use Rattle.balancing.specs.declared.groups.Part.TheVariants as taken
 use Rattle.entry_balance.specs.Entry.{settled}
 use Rattle.balancing.specs.Walk.{moved_before}

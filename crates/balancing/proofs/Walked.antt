@@ -15,10 +15,11 @@ use Rattle.entry_balance.specs.Tally.{turnover_fits}
 use Rattle.entry_balance.specs.Turnover.{IsTurnover}
 use Rattle.entry_balance.specs.Entry.{assignment_fault, cause_alone, has_assignment, has_two_missing, is_assignable, is_dated, lacks_two, costs_fit, moved_by, moved}
 use Rattle.balancing.specs.Groups.{Group, group_cmp, groups_by, groups_from}
-use Rattle.balancing.specs.Assertions.{or_else_fault, first_failure, postings_on, postings_of_group}
+use Rattle.assertions.specs.Assertions.{or_else_fault, first_failure}
+use Rattle.balancing.specs.Parts.{postings_on, postings_of_group}
 use Rattle.balancing.specs.Assigned.{is_ready}
 use Rattle.balancing.specs.Claims.{AreClaimed}
-use Rattle.balancing.specs.Kept.{Keeping, IsBalance}
+use Rattle.assertions.specs.Kept.{Keeping, IsBalance}
 use Rattle.balancing.specs.Load.{moved_on, moved_of_group, group_cause, fault_at, fault_of_group, first_fault}
 use Rattle.entry_balance.specs.Entry.{settled}
 use Rattle.entry_balance.specs.Settled.{lacks_sums, IsSettled, AreSettled}

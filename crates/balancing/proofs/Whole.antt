@@ -17,7 +17,8 @@ use Rattle.entry_balance.specs.Tally.{turnover_fits}
 use Rattle.entry_balance.specs.Entry.{cause_alone, is_assignable}
 use Rattle.balancing.specs.Groups.{Group, group_cmp, groups_by, groups_from, groups_of, day_of}
 use Rattle.balancing.specs.Load.{moved_on, moved_of_group, group_cause, fault_at, fault_of_group, first_fault, loaded, book_of}
-use Rattle.balancing.specs.Assertions.{or_else_fault, first_failure, postings_of_group}
+use Rattle.assertions.specs.Assertions.{or_else_fault, first_failure}
+use Rattle.balancing.specs.Parts.{postings_of_group}
 use Rattle.balancing.specs.Assigned.{is_ready}
 use Rattle.entry_balance.specs.Entry.{settled}
 use Rattle.entry_balance.specs.Settled.{lacks_sums, AreSettled}

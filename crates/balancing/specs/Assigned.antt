@@ -10,7 +10,8 @@ use Rattle.book.specs.Mixed.{plus}
 use Rattle.entry_balance.specs.Values.{Value}
 use Rattle.entry_balance.specs.Tally.{total_of}
 use Rattle.entry_balance.specs.Entry.{is_assignable, plain_amount, with_postings}
-use Rattle.balancing.specs.Assertions.{held_in, postings_of_group}
+use Rattle.assertions.specs.Assertions.{held_in}
+use Rattle.balancing.specs.Parts.{postings_of_group}
 use Rattle.balancing.specs.Groups.{Group, groups_of}
 
 -- what an assignment comes to after other postings: what is wanted, less what its account holds

@@ -2,13 +2,8 @@
 use Rattle.std.specs.Prelude.{◌≡◌, ℕ, Bool, take, drop, filter, List, [], ◌∷◌, ◌++◌, Option, None}
 use Rattle.book.specs.declared.fault.Fault.{Fault}
 use Rattle.book.specs.declared.transaction.Posting.{Posting}
-use Rattle.balancing.specs.Assertions.{failure_of, first_failure}
-use Rattle.balancing.specs.Kept.{Keeping, IsBalance}
-
--- The fault of a posting's assertion after others; the posting is among the balances.
-pub record IsClaimed (seen : List Posting) (p : Posting) (own below : Keeping) (fault : Option Fault) : Type 0 where
-  pub is : fault ≡ failure_of (seen ++ p ∷ []) p p.wanted
-  pub kept : IsBalance (seen ++ p ∷ []) own below
+use Rattle.assertions.specs.Assertions.{first_failure}
+use Rattle.assertions.specs.Kept.{Keeping, IsBalance}
 
 -- The fault of the first assertion of some postings that fails; without one the postings are among the balances.
 pub record AreClaimed (seen ps : List Posting) (own below : Keeping) (fault : Option Fault) : Type 0 where

@@ -7,7 +7,7 @@ use Rattle.book.specs.Mixed.{plus}
 use Rattle.entry_balance.specs.Values.{Value}
 use Rattle.entry_balance.specs.Tally.{total_of, turnover_fits}
 use Rattle.balancing.specs.Assigned.{given_posting}
-use Rattle.balancing.specs.Kept.{Keeping, IsBalance, is_asked, is_kept_for}
+use Rattle.assertions.specs.Kept.{Keeping, IsBalance, is_asked, is_kept_for}
 
 -- a posting with the amount that it was assigned, if it was
 abbrev pub given_with : Posting → Option Amount → Posting

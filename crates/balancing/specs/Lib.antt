@@ -1,11 +1,10 @@
-pub mod Assertions
 pub mod Assigned
 pub mod Check
 pub mod Claims
+pub mod Faults
 pub mod Giving
 pub mod Groups
-pub mod Kept
 pub mod Load
+pub mod Parts
 pub mod Solves
-pub mod Texts
 pub mod Walk

@@ -12,7 +12,8 @@ use Rattle.book.specs.Postings.{txns_of}
 use Rattle.entry_balance.specs.Values.{Value}
 use Rattle.entry_balance.specs.Tally.{turnover_fits}
 use Rattle.entry_balance.specs.Entry.{settled, moved, cause_alone}
-use Rattle.balancing.specs.Assertions.{postings_on, postings_of_group, first_failure, or_else_fault}
+use Rattle.balancing.specs.Parts.{postings_on, postings_of_group}
+use Rattle.assertions.specs.Assertions.{first_failure, or_else_fault}
 use Rattle.balancing.specs.Assigned.{assigned}
 use Rattle.balancing.specs.Groups.{Group, groups_of}
 

@@ -13,7 +13,7 @@ use Rattle.book.specs.SumsBefore.{Place, placed_from, postings_before, is_assign
 use Rattle.entry_balance.specs.Values.{Value, value_of}
 use Rattle.entry_balance.specs.Tally.{total_of, sums_of, turnover_fits}
 use Rattle.entry_balance.specs.Entry.{from_amount, plain_amount, has_assignment, assignment_fault, cause_alone, settled, moved, with_postings}
-use Rattle.balancing.specs.Assertions.{first_of, is_same, is_other}
+use Rattle.assertions.specs.Assertions.{first_of, is_same, is_other}
 use Rattle.balancing.specs.Assigned.{assigned_posting}
 
 -- ---- what is written
@@ -132,3 +132,8 @@ pub record Solves (written book : List Txn) : Type 0 where
   pub asserted : AllByRecursion (IsAssertedAt book) (placed_from 0 book)
   -- all that is moved stays in range
   pub fits : turnover_fits (moved (postings_of book)) ≡ true
+
+-- The book that solves what is written, where nothing written is marked as found, and the only one.
+pub record IsSolution (written book : List Txn) : Type 0 where
+  pub solves : are_unmarked written ≡ true → Solves written book
+  pub only : (other : List Txn) → Solves written other → other ≡ book

@@ -11,8 +11,9 @@ use Rattle.entry_balance.specs.Turnover.{IsTurnover}
 use Rattle.balancing.specs.Groups.{Group, groups_from, group_cmp}
 use Rattle.book.specs.declared.transaction.Posting.{Posting}
 use Rattle.entry_balance.specs.Entry.{is_assignable, moved, moved_by}
-use Rattle.balancing.specs.Assertions.{first_failure, is_chosen, postings_on, postings_of_group, or_else_fault}
-use Rattle.balancing.specs.Kept.{Keeping, IsBalance, are_asked}
+use Rattle.assertions.specs.Assertions.{first_failure, or_else_fault}
+use Rattle.balancing.specs.Parts.{is_chosen, postings_on, postings_of_group}
+use Rattle.assertions.specs.Kept.{Keeping, IsBalance, are_asked}
 use Rattle.balancing.specs.Assigned.{given_at, given_from}
 use Rattle.balancing.specs.declared.groups.Part.{Part}
 use Rattle.balancing.specs.Load.{moved_on, moved_of_group, group_cause, fault_at, fault_of_group, first_fault}

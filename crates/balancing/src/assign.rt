@@ -5,14 +5,12 @@ ghost use Rattle.book.specs.declared.transaction.Posting.{Posting};
 ghost use Rattle.entry_balance.specs.Values.{Value};
 ghost use Rattle.entry_balance.specs.Entry.{moved};
 ghost use Rattle.entry_balance.specs.Tally.{sums_of, total_of, turnover_fits, IsRange};
-ghost use Rattle.balancing.specs.Assertions.{held_in};
+ghost use Rattle.assertions.specs.Assertions.{held_in};
 ghost use Rattle.balancing.specs.Assigned.{given_posting, given_postings};
 ghost use Rattle.balancing.specs.Giving.{IsReady, IsHeld, IsGivenNext, given_next, given_with, value_after, fits_after};
-ghost use Rattle.balancing.specs.Kept.{IsBalance, is_asked};
+ghost use Rattle.assertions.specs.Kept.{IsBalance, is_asked};
 
-use crate::balances::{Balances, add_posting, asked_by};
-use crate::claims::asked_for;
-use crate::totals::Totals;
+use assertions::{Balances, add_posting, asked_by, asked_for, total_in};
 use book::{Amount, Assertion, Posting};
 use entry_balance::{TallyFault, checked_sum, plain_amount};
 use hl_base::{List, Memory};
@@ -102,7 +100,7 @@ fn give_one(
 }
 
 /// A posting with the amount that it was assigned.
-fn with_amount(mut posting: Posting, amount: Amount) -> Posting
+pub fn with_amount(mut posting: Posting, amount: Amount) -> Posting
     ensures { result ≡ given_with posting (Some amount) }
 {
     posting.amount = Some(amount);
@@ -164,14 +162,4 @@ fn assigned_value(
     let so_far = total_in(asked_for(here, account, wanted.below), symbol);
     let held = checked_sum(before, so_far)?;
     checked_sum(wanted.amount.value, held.negated())
-}
-
-/// The sum of a symbol among some sums, zero where there are none.
-fn total_in(totals: Option<&Totals>, symbol: &str) -> Dec
-    ensures { (values : List Value) → IsSomeAnd totals.entry (λ t. t.now ≡ sums_of values) → result ≡ total_of symbol.now values }
-{
-    match totals {
-        Some(totals) => totals.total(symbol),
-        None => Dec::zero(),
-    }
 }

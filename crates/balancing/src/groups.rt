@@ -3,7 +3,7 @@ ghost use Rattle.std.specs.Prelude.{◌≡◌, ◌++◌, true, ◌<◌, List, []
 ghost use Rattle.std.specs.List.{list_any};
 ghost use Rattle.std.specs.Ordering.{is_lt};
 ghost use Rattle.book.specs.SumsBefore.{is_assigned};
-ghost use Rattle.balancing.specs.Assertions.{is_chosen, is_found, is_in};
+ghost use Rattle.balancing.specs.Parts.{is_chosen, is_found, is_in};
 ghost use Rattle.std.specs.BTreeSet.{insert_key};
 ghost use Rattle.book.specs.Order.{each_once};
 ghost use Rattle.balancing.specs.Groups.{Group, group_cmp, groups_by, day_of, is_rising, rises_from};
@@ -18,7 +18,7 @@ pub(crate) type Group = (u32, usize);
 
 /// Postings of a transaction: all; all but those whose missing amount was found; or those alone.
 #[derive(Clone, Copy, Debug, PartialEq, Eq)]
-pub(crate) enum Part {
+pub enum Part {
     All,
     ButFound,
     Found,
@@ -32,7 +32,7 @@ pub(crate) fn is_chosen(part: Part, txn: &Txn, posting: &Posting, day: u32) -> b
 }
 
 /// Whether a posting is of a part.
-fn is_in(part: Part, posting: &Posting) -> bool
+pub fn is_in(part: Part, posting: &Posting) -> bool
     ensures { result ≡ is_in part posting.now }
 {
     match part {
@@ -57,7 +57,7 @@ fn is_assigned(posting: &Posting) -> bool
 }
 
 /// Whether the amount of some posting was assigned.
-pub(crate) fn has_assigned(postings: &[Posting]) -> bool
+pub fn has_assigned(postings: &[Posting]) -> bool
     ensures { result ≡ list_any is_assigned postings.now }
 {
     postings.iter().any(is_assigned)

@@ -2,7 +2,7 @@
 ghost use Rattle.std.specs.Prelude.{◌≡◌, ◌++◌, ◌∷◌, [], List, true, false, None, OnOk, IfOk, IfErr};
 ghost use Rattle.book.specs.declared.transaction.Txn.{Txn};
 ghost use Rattle.entry_balance.specs.Entry.{costs_fit, amount_cost_fits, moved, moved_by};
-ghost use Rattle.balancing.specs.Assertions.{part_on};
+ghost use Rattle.balancing.specs.Parts.{part_on};
 ghost use Rattle.balancing.specs.Load.{moved_on, fault_at};
 ghost use Rattle.entry_balance.specs.Settled.{lacks_sums};
 ghost use Rattle.entry_balance.specs.Tally.{turnover_fits, IsRange};
@@ -11,8 +11,8 @@ ghost use Rattle.entry_balance.specs.Values.{Value};
 ghost use Rattle.balancing.specs.Walk.{IsJudged, moved_when};
 
 use crate::groups::{Part, has_assigned, is_chosen};
-use crate::totals::Totals;
-use book::{Amount, Boxed, Cause, Fault, Posting, Txn};
+use assertions::{Totals, copied_amount};
+use book::{Boxed, Cause, Fault, Posting, Txn};
 use entry_balance::{TallyFault, absolute, cost_of, costs_fit};
 use hl_base::{Memory, Text};
 use hl_num::Dec;
@@ -174,17 +174,6 @@ fn add_value(
 {
     let _decimals = number.decimals();
     totals.add(alloc, symbol, absolute(number))
-}
-
-pub(crate) fn copied_amount(alloc: Global, amount: &Amount) -> Result<Amount, Memory>
-    ensures { IfOk result (λ copy. copy ≡ amount.now) }
-{
-    let symbol = Text::copied(alloc, amount.symbol.as_str())?;
-    Ok(Amount {
-        symbol,
-        value: amount.value,
-        shape: amount.shape,
-    })
 }
 
 fn copied_cause(alloc: Global, cause: &Cause) -> Result<Cause, Memory>

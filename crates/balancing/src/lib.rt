@@ -1,20 +1,19 @@
 //! Balances transactions: finds missing amounts and costs, and makes the book of a text.
 #![tactic(auto)]
 
-mod assign;
-mod balances;
+pub mod assign;
 mod claims;
 pub mod fault;
-mod groups;
+pub mod groups;
 mod judge;
-mod kept;
 mod laws;
 #[cfg(test)]
 mod tests;
-mod totals;
 mod walk;
 
+pub use assign::with_amount;
 pub use entry_balance::{BalanceFault, balance_txn};
 pub use fault::CheckFault;
-pub use laws::{solves, sums_at_places};
+pub use groups::{Part, has_assigned, is_in};
+pub use laws::{faults, solves, sums_at_places};
 pub use walk::check;

@@ -1,5 +1,7 @@
 //! Worked texts.
-use crate::{CheckFault, check, solves, sums_at_places};
+use crate::{
+    CheckFault, Part, check, faults, has_assigned, is_in, solves, sums_at_places, with_amount,
+};
 use book::{
     Amount, Assertion, Boxed, Cause, Cost, Item, Mark, Placed, Posting, Side, Txn, Written,
 };
@@ -153,7 +155,21 @@ fn bears_what_else_is_there(rt: HostRuntime) -> Result<(), Fail> {
 #[test]
 fn has_laws(rt: HostRuntime) -> Result<(), Fail> {
     solves();
+    faults();
     sums_at_places();
     assert!(rt; true);
+    Ok(())
+}
+
+#[test]
+fn tells_what_was_assigned(rt: HostRuntime) -> Result<(), Fail> {
+    let alloc = rt.alloc();
+    let empty = posting(alloc, Side::Real, None)?;
+    assert!(rt; is_in(Part::ButFound, &empty));
+    let given = with_amount(empty, amount(alloc, 5, 0, "EUR")?);
+    assert!(rt; is_in(Part::Found, &given));
+    let mut postings = Vec::new(alloc);
+    postings.push(given)?;
+    assert!(rt; !has_assigned(&postings));
     Ok(())
 }

@@ -11,22 +11,22 @@ ghost use Rattle.entry_balance.specs.Tally.{turnover_fits, IsRange};
 ghost use Rattle.balancing.specs.Assigned.{given_from, given_postings, is_ready};
 ghost use Rattle.balancing.specs.Check.{cause_in};
 ghost use Rattle.balancing.specs.Claims.{AreClaimed};
+ghost use Rattle.balancing.specs.Faults.{IsFaultIf};
 ghost use Rattle.balancing.specs.Groups.{Group};
 ghost use Rattle.balancing.specs.Load.{load};
-ghost use Rattle.balancing.specs.Solves.{Solves, are_unmarked};
+ghost use Rattle.balancing.specs.Solves.{IsSolution, HaveFew, are_unmarked};
 ghost use Rattle.entry_balance.specs.Settled.{AreSettled, IsSettled};
-ghost use Rattle.balancing.specs.Kept.{IsBalance, are_asked, is_asked};
+ghost use Rattle.assertions.specs.Kept.{IsBalance, are_asked, is_asked};
 ghost use Rattle.balancing.specs.Walk.{IsRead, IsTold, AreGiven, AreOwn, IsOwn, IsAfter, IsGiven, IsVisited, IsPassed, group_in};
 ghost use Rattle.entry_balance.specs.Turnover.{IsTurnover};
 ghost use Rattle.entry_balance.specs.Values.{Value};
 
 use crate::assign::assign;
-use crate::balances::{Balances, asked};
 use crate::claims::claim_group;
 use crate::fault::CheckFault;
 use crate::groups::{Group, in_order, note_groups};
 use crate::judge::judge;
-use crate::totals::Totals;
+use assertions::{Balances, Totals, asked};
 use book::{Book, Boxed, Cause, Fault, Item, Items, Mark, Placed, Txn};
 use entry_balance::{Settled, TallyFault, is_assignable, settle};
 use hl_base::{List, Memory, Text};
@@ -42,8 +42,9 @@ use std::mem::replace;
 pub fn check(alloc: Global, items: Items) -> Result<Book, CheckFault>
     ensures answer { Gives (λ book. book) cause_in result (load items) }
     ensures fits { IfOk result (λ book. TurnoverFits (postings_of book.txns)) }
-    ensures solves { IfOk result (λ book. are_unmarked (txns_of items) ≡ true → Solves (txns_of items) book.txns) }
-    ensures only { IfOk result (λ book. (other : List Txn) → Solves (txns_of items) other → other ≡ book.txns) }
+    ensures few { IfOk result (λ book. HaveFew book.txns) }
+    ensures solves { IfOk result (λ book. IsSolution (txns_of items) book.txns) }
+    ensures fault { IfErr result (λ e. are_unmarked (txns_of items) ≡ true → IsFaultIf (txns_of items) (cause_in e)) }
 {
     let Entries {
         mut txns,

@@ -9,8 +9,8 @@ use Rattle.entry_balance.specs.Tally.{turnover_fits}
 use Rattle.entry_balance.proofs.Adding.{list_all-at}
 use Rattle.balancing.specs.Assigned.{given_posting, given_postings}
 use Rattle.balancing.specs.Giving.{IsReady, given_next}
-use Rattle.balancing.specs.Kept.{is_asked}
-use Rattle.balancing.proofs.Balanced.{asked_same, each-stays}
+use Rattle.assertions.specs.Kept.{is_asked}
+use Rattle.assertions.proofs.Balanced.{asked_same, each-stays}
 use Rattle.balancing.proofs.Giving.{front-is, given-push, through_range}
 use Rattle.balancing.proofs.assign.assign.Goals as goal
 

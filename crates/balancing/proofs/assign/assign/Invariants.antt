@@ -2,7 +2,7 @@ use Rattle.std.proofs.Common.{◌≡◌, List, true}
 use Rattle.std.specs.List.{list_all}
 use Rattle.book.specs.declared.transaction.Posting.{Posting}
 use Rattle.balancing.specs.Assigned.{given_postings}
-use Rattle.balancing.specs.Kept.{IsBalance, is_asked}
+use Rattle.assertions.specs.Kept.{IsBalance, is_asked}
 use Rattle.balancing.proofs.assign.assign.Given as goal
 
 abbrev pub invariant-loop-posting : goal.invariant-loop-posting

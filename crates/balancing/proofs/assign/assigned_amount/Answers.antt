@@ -1,6 +1,6 @@
 use Rattle.std.proofs.Common.{◌≡◌, List, ℕ, ◌++◌, false, is_some, sym, subst, rules}
 use Rattle.book.specs.declared.amount.Assertion.{Assertion}
-use Rattle.balancing.specs.Assertions.{held_in}
+use Rattle.assertions.specs.Assertions.{held_in}
 use Rattle.balancing.specs.Giving.{IsHeld, fits_after}
 use Rattle.balancing.proofs.Giving.{ready_held, assigned_range, none-is}
 use Rattle.balancing.proofs.assign.assigned_amount.Goals as goal

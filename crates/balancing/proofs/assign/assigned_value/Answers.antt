@@ -5,7 +5,7 @@ use Rattle.book.specs.Mixed.{plus}
 use Rattle.entry_balance.specs.Tally.{total_of}
 use Rattle.entry_balance.proofs.Adding.{if_err}
 use Rattle.entry_balance.proofs.Causes.{if_ok}
-use Rattle.balancing.specs.Assertions.{held_in}
+use Rattle.assertions.specs.Assertions.{held_in}
 use Rattle.balancing.proofs.Giving.{value_here, sum_range, value_range}
 use Rattle.balancing.proofs.assign.assigned_value.Goals as goal
 

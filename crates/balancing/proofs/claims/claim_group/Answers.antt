@@ -12,9 +12,9 @@ use Rattle.entry_balance.proofs.Adding.{false-from, if_err}
 use Rattle.entry_balance.proofs.Causes.{if_ok}
 use Rattle.entry_balance.proofs.Turnover.{fits-first}
 use Rattle.balancing.specs.declared.groups.Part.TheVariants as part
-use Rattle.balancing.specs.Assertions.{part_on}
+use Rattle.balancing.specs.Parts.{part_on}
 use Rattle.balancing.specs.Claims.{AreClaimed}
-use Rattle.balancing.proofs.Balanced.{asked_same, each-stays}
+use Rattle.assertions.proofs.Balanced.{asked_same, each-stays}
 use Rattle.balancing.proofs.Parts.{parts_on, claimed_both, claimed_first}
 use Rattle.balancing.proofs.claims.claim_group.Goals as goal
 

@@ -1,11 +1,12 @@
 use Rattle.std.proofs.Common.{◌≡◌, ◌+◌, ◌<◌, true, false, List, ◌++◌, filter, take, length, get_or, sym, ap, ◌∙◌, subst}
 use Rattle.book.specs.declared.transaction.Posting.{Posting}
 use Rattle.entry_balance.proofs.Adding.{list_all-at}
-use Rattle.balancing.specs.declared.balances.Balances.{Balances}
+use Rattle.assertions.specs.declared.balances.Balances.{Balances}
 use Rattle.balancing.specs.Claims.{IsReached}
-use Rattle.balancing.specs.Assertions.{is_chosen}
-use Rattle.balancing.specs.Kept.{is_asked}
-use Rattle.balancing.proofs.Balanced.{asked_same, reached_skip, reached_more, reached_range}
+use Rattle.balancing.specs.Parts.{is_chosen}
+use Rattle.assertions.specs.Kept.{is_asked}
+use Rattle.assertions.proofs.Balanced.{asked_same}
+use Rattle.balancing.proofs.Balanced.{reached_skip, reached_more, reached_range}
 use Rattle.balancing.proofs.claims.claim_part.Goals as goal
 use Rattle.balancing.proofs.claims.claim_part.Goals.{then-is_chosen+in-Ok-None, else-is_chosen}
 

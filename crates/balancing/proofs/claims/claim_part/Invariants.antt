@@ -1,8 +1,8 @@
 use Rattle.std.proofs.Common.{◌≡◌, List, true}
 use Rattle.std.specs.List.{list_all}
 use Rattle.book.specs.declared.transaction.Posting.{Posting}
-use Rattle.balancing.specs.Assertions.{is_chosen}
-use Rattle.balancing.specs.Kept.{IsBalance, is_asked}
+use Rattle.balancing.specs.Parts.{is_chosen}
+use Rattle.assertions.specs.Kept.{IsBalance, is_asked}
 use Rattle.balancing.specs.Claims.{IsReached}
 use Rattle.balancing.proofs.claims.claim_part.Given as goal
 

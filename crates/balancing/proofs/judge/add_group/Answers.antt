@@ -8,7 +8,7 @@ use Rattle.entry_balance.specs.Values.{Value}
 use Rattle.entry_balance.specs.Tally.{turnover_fits}
 use Rattle.entry_balance.proofs.Adding.{more_range}
 use Rattle.balancing.specs.declared.groups.Part.TheVariants as part
-use Rattle.balancing.specs.Assertions.{part_on}
+use Rattle.balancing.specs.Parts.{part_on}
 use Rattle.balancing.proofs.Parts.{parts_on}
 use Rattle.balancing.proofs.judge.add_group.Goals as goal
 

@@ -3,9 +3,11 @@ use Rattle.book.specs.declared.transaction.Txn.{Txn}
 use Rattle.book.specs.Bounds.{TurnoverFits}
 use Rattle.book.specs.Postings.{postings_of, txns_of}
 use Rattle.balancing.specs.Load.{load}
+use Rattle.balancing.specs.Solves.{HaveFew}
+use Rattle.balancing.proofs.Faulting.{load_faults}
 use Rattle.balancing.proofs.Solving.{load_solves, solves_loads}
 use Rattle.balancing.proofs.Whole.{groups_noted}
-use Rattle.balancing.proofs.Told.{one_book, told_of, told_ok, told_fits, told_fault}
+use Rattle.balancing.proofs.Told.{one_book, told_of, told_ok, told_fits, told_few, told_fault}
 use Rattle.balancing.proofs.walk.check.Goals as goal
 
 pub returns-in-Ok-None-clause-answer : goal.returns-in-Ok-None-clause-answer
@@ -30,6 +32,17 @@ returns-in-Ok-None-clause-fits c =
     let told = told_of written e.txns.items e.causes.items e.groups.items ordered c.in-Ok.ensures noted ts cs c.deref.result.now c.in-Ok-None.field-0 c.deref.ensures.value c.in-Ok-None.ensures in
     subst (λ (xs : List Txn). TurnoverFits (postings_of xs)) (sym c.from_vec.ensures) (told_fits written ts cs c.in-Ok-None.field-0 c.in-Ok-None.field-0-is told)
 
+pub returns-in-Ok-None-clause-few : goal.returns-in-Ok-None-clause-few
+returns-in-Ok-None-clause-few c =
+    let written = txns_of c.args.items in
+    let e = c.in-Ok.entries in
+    let ordered = c.in-Ok-in_order.groups.items in
+    let noted = groups_noted written e.txns.items e.causes.items e.groups.items ordered c.in-Ok.ensures c.in-Ok-in_order.ensures in
+    let ts = c.first_fault.new.txns.items in
+    let cs = c.first_fault.new.causes.items in
+    let told = told_of written e.txns.items e.causes.items e.groups.items ordered c.in-Ok.ensures noted ts cs c.deref.result.now c.in-Ok-None.field-0 c.deref.ensures.value c.in-Ok-None.ensures in
+    subst HaveFew (sym c.from_vec.ensures) (told_few written ts cs c.in-Ok-None.field-0 c.in-Ok-None.field-0-is told)
+
 pub returns-in-Ok-Some-clause-answer : goal.returns-in-Ok-Some-clause-answer
 returns-in-Ok-Some-clause-answer c =
     let written = txns_of c.args.items in
@@ -42,7 +55,7 @@ returns-in-Ok-Some-clause-answer c =
     told_fault written ts cs c.in-Ok-Some.fault c.in-Ok-Some.field-0 c.in-Ok-Some.field-0-is told
 
 pub returns-in-Ok-None-clause-solves : goal.returns-in-Ok-None-clause-solves
-returns-in-Ok-None-clause-solves c = λ unmarked.
+returns-in-Ok-None-clause-solves c =
     let written = txns_of c.args.items in
     let e = c.in-Ok.entries in
     let ordered = c.in-Ok-in_order.groups.items in
@@ -50,15 +63,19 @@ returns-in-Ok-None-clause-solves c = λ unmarked.
     let ts = c.first_fault.new.txns.items in
     let cs = c.first_fault.new.causes.items in
     let told = told_of written e.txns.items e.causes.items e.groups.items ordered c.in-Ok.ensures noted ts cs c.deref.result.now c.in-Ok-None.field-0 c.deref.ensures.value c.in-Ok-None.ensures in
-    load_solves c.args.items (record { txns = c.from_vec.result }) unmarked (told_ok written ts cs c.in-Ok-None.field-0 c.in-Ok-None.field-0-is told ∙ ap (λ (xs : List Txn). Ok (record { txns = xs })) (sym c.from_vec.ensures))
+    let is = told_ok written ts cs c.in-Ok-None.field-0 c.in-Ok-None.field-0-is told ∙ ap (λ (xs : List Txn). Ok (record { txns = xs })) (sym c.from_vec.ensures) in
+    record {
+      solves = λ unmarked. load_solves c.args.items (record { txns = c.from_vec.result }) unmarked is;
+      only = λ other solved. one_book (load c.args.items) other c.from_vec.result (solves_loads c.args.items (record { txns = other }) solved) is;
+    }
 
-pub returns-in-Ok-None-clause-only : goal.returns-in-Ok-None-clause-only
-returns-in-Ok-None-clause-only c = λ other solved.
+pub returns-in-Ok-Some-clause-fault : goal.returns-in-Ok-Some-clause-fault
+returns-in-Ok-Some-clause-fault c = λ unmarked.
     let written = txns_of c.args.items in
     let e = c.in-Ok.entries in
     let ordered = c.in-Ok-in_order.groups.items in
     let noted = groups_noted written e.txns.items e.causes.items e.groups.items ordered c.in-Ok.ensures c.in-Ok-in_order.ensures in
     let ts = c.first_fault.new.txns.items in
     let cs = c.first_fault.new.causes.items in
-    let told = told_of written e.txns.items e.causes.items e.groups.items ordered c.in-Ok.ensures noted ts cs c.deref.result.now c.in-Ok-None.field-0 c.deref.ensures.value c.in-Ok-None.ensures in
-    one_book (load c.args.items) other c.from_vec.result (solves_loads c.args.items (record { txns = other }) solved) (told_ok written ts cs c.in-Ok-None.field-0 c.in-Ok-None.field-0-is told ∙ ap (λ (xs : List Txn). Ok (record { txns = xs })) (sym c.from_vec.ensures))
+    let told = told_of written e.txns.items e.causes.items e.groups.items ordered c.in-Ok.ensures noted ts cs c.deref.result.now c.in-Ok-Some.field-0 c.deref.ensures.value c.in-Ok-Some.ensures in
+    load_faults c.args.items c.in-Ok-Some.fault unmarked (told_fault written ts cs c.in-Ok-Some.fault c.in-Ok-Some.field-0 c.in-Ok-Some.field-0-is told)

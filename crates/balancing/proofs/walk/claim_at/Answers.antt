@@ -7,7 +7,7 @@ use Rattle.entry_balance.specs.Entry.{moved}
 use Rattle.entry_balance.proofs.Adding.{list_all-at}
 use Rattle.std.proofs.Common.{◌++◌, ap}
 use Rattle.balancing.specs.Claims.{AreClaimed}
-use Rattle.balancing.specs.Kept.{is_asked}
+use Rattle.assertions.specs.Kept.{is_asked}
 use Rattle.balancing.specs.Walk.{group_in}
 use Rattle.balancing.proofs.Balanced.{empty_claimed, past_claimed, get-there}
 use Rattle.balancing.proofs.walk.claim_at.Goals as goal

@@ -2,7 +2,7 @@ use Rattle.std.proofs.Common.{◌≡◌, ◌+◌, [], drop, None, is_some, true,
 use Rattle.std.proofs.lemmas.List.{get_or_default}
 use Rattle.entry_balance.specs.Values.{Value}
 use Rattle.balancing.specs.Assigned.{given_from}
-use Rattle.balancing.specs.Kept.{are_asked}
+use Rattle.assertions.specs.Kept.{are_asked}
 use Rattle.balancing.specs.Walk.{IsWalked}
 use Rattle.balancing.proofs.Balanced.{drop_past}
 use Rattle.balancing.proofs.Passing.{here, on_more, on_stop, on_end}

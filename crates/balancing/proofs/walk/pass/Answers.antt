@@ -5,7 +5,7 @@ use Rattle.balancing.specs.Assigned.{given_at}
 use Rattle.book.specs.declared.fault.Cause.{Cause}
 use Rattle.book.specs.declared.transaction.Txn.{Txn}
 use Rattle.entry_balance.specs.Settled.{AreSettled}
-use Rattle.balancing.specs.Kept.{are_asked}
+use Rattle.assertions.specs.Kept.{are_asked}
 use Rattle.balancing.specs.Walk.{IsGiven}
 use Rattle.balancing.proofs.Passing.{if_ok_three, next_ready, after_given, after_fault}
 use Rattle.balancing.proofs.walk.pass.Goals as goal

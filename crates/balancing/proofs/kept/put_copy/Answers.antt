@@ -1,7 +1,0 @@
-use Rattle.std.proofs.Common.{ap, ◌∙◌}
-use Rattle.balancing.specs.Texts.{places_in}
-use Rattle.balancing.proofs.Keeping.{places-insert}
-use Rattle.balancing.proofs.kept.put_copy.Goals as goal
-
-pub returns : goal.returns
-returns c = ap places_in c.in_ok-insert.ensures.entries ∙ places-insert c.args.places.now.entries c.args.copy c.args.place
