@@ -11,5 +11,5 @@ mod tests;
 
 pub use command::{Command, read_command};
 pub use fault::WordsFault;
-pub use law::{any_year, text_solves};
+pub use law::{any_year, text_faults, text_solves};
 pub use reporting::report;
