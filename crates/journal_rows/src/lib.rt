@@ -1,6 +1,8 @@
 //! Runs of the program over memory, and tables of what they must answer.
 #![tactic(auto)]
 
+#[cfg(test)]
+mod assigned_rows;
 pub mod case;
 mod cuts;
 #[cfg(test)]

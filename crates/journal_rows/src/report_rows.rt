@@ -5,10 +5,10 @@ use std::process::Abort;
 use std::test::Fail;
 
 /// What is run, its words, its text and its output.
-type Row<'a> = (&'a str, &'a str, &'a [u8], &'a [u8]);
+pub(crate) type Row<'a> = (&'a str, &'a str, &'a [u8], &'a [u8]);
 
 /// Each row ends with status 0 and its output.
-fn each_answers<R: Abort>(rt: &R, alloc: Global, rows: &[Row]) -> Result<(), Fail> {
+pub(crate) fn each_answers<R: Abort>(rt: &R, alloc: Global, rows: &[Row]) -> Result<(), Fail> {
     for (what, word, text, output) in rows {
         let seen = told(alloc, &[*word], text)?;
         expect(rt, &seen, 0, output, b"".as_slice(), what);
@@ -17,7 +17,7 @@ fn each_answers<R: Abort>(rt: &R, alloc: Global, rows: &[Row]) -> Result<(), Fai
 }
 
 /// Each row ends with status 1 and its line.
-fn each_refuses<R: Abort>(rt: &R, alloc: Global, rows: &[Row]) -> Result<(), Fail> {
+pub(crate) fn each_refuses<R: Abort>(rt: &R, alloc: Global, rows: &[Row]) -> Result<(), Fail> {
     for (what, word, text, error) in rows {
         let seen = told(alloc, &[*word], text)?;
         expect(rt, &seen, 1, b"".as_slice(), error, what);
