@@ -1,5 +1,5 @@
 //! Each report over a small book, and words that name one.
-use crate::{Command, WordsFault, read_command, report};
+use crate::{Command, WordsFault, any_year, read_command, report, text_faults, text_solves};
 use book::{Book, Styles};
 use hl_base::{List, Text};
 use std::alloc::Global;
@@ -34,5 +34,14 @@ fn an_empty_book_has_an_empty_balance(rt: HostRuntime) -> Result<(), Fail> {
     let text = report(alloc, Command::Balance, &book, &styles)?;
     let expected = b"--------------------\n                   0  \n".as_slice();
     assert_eq!(rt; text.as_slice(), expected);
+    Ok(())
+}
+
+#[test]
+fn has_laws(rt: HostRuntime) -> Result<(), Fail> {
+    any_year();
+    text_solves();
+    text_faults();
+    assert!(rt; true);
     Ok(())
 }
