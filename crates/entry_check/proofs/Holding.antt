@@ -1,0 +1,74 @@
+-- What accounts hold before a transaction and after some of its postings.
+use Rattle.std.proofs.Common.{◌≡◌, ℕ, Bool, false, List, [], ◌∷◌, sym, ap, ◌∙◌}
+use Rattle.std.specs.List.{fold}
+use Rattle.std.proofs.lemmas.Bool.{false≢true}
+use Rattle.hl_num.specs.Decimal.{Decimal, add_fits, negated}
+use Rattle.book.specs.declared.amount.Amount.{Amount}
+use Rattle.book.specs.declared.transaction.Posting.{Posting}
+use Rattle.book.specs.Mixed.{plus}
+use Rattle.entry_balance.specs.Values.{Value}
+use Rattle.entry_balance.specs.Tally.{no_sum, total_of, turnover_fits}
+use Rattle.entry_balance.specs.Entry.{moved}
+use Rattle.entry_balance.proofs.Adding.{false-from}
+use Rattle.entry_balance.proofs.Covers.{Covers, covered-fits, covers_same, covers_right, covers_both}
+use Rattle.entry_balance.proofs.Turnover.{numbers-here, plus_none}
+use Rattle.assertions.specs.Assertions.{held_in}
+use Rattle.assertions.proofs.Balanced.{covers_held}
+use Rattle.balancing.specs.Giving.{value_after, fits_after}
+use Rattle.balancing.proofs.Adding.{total-append, sums_fit, difference_fits}
+use Rattle.entry_check.specs.Checked.{Told, held_after, AreBeyond}
+
+one_value : (s : List ℕ) (d : Decimal) → total_of s ((s, d) ∷ []) ≡ d
+one_value s d = ap (fold plus no_sum) (numbers-here s d []) ∙ plus_none d
+
+module _ (told : Told) (below : Bool) (account symbol : List ℕ) (done : List Posting) where
+  -- what was held before and by the postings
+  pub held_total : (before so_far : Decimal) → before ≡ told below account symbol → so_far ≡ total_of symbol (held_in below account done) → plus before so_far ≡ total_of symbol (held_after told below account symbol done)
+  held_total before so_far is_before is_so_far =
+      (λ i. plus (is_before i) (is_so_far i))
+      ∙ ap (λ (d : Decimal). plus d (total_of symbol (held_in below account done))) (sym (one_value symbol (told below account symbol)))
+      ∙ sym (total-append symbol ((symbol, told below account symbol) ∷ []) (held_in below account done))
+
+  pub held_range : (before so_far : Decimal) → before ≡ told below account symbol → so_far ≡ total_of symbol (held_in below account done) → add_fits before so_far ≡ false → turnover_fits (held_after told below account symbol done) ≡ false
+  held_range before so_far is_before is_so_far differs = false-from _ (λ fits. false≢true (sym differs ∙ (λ i. add_fits (is_before i) (is_so_far i))
+      ∙ ap (λ (d : Decimal). add_fits d (total_of symbol (held_in below account done))) (sym (one_value symbol (told below account symbol)))
+      ∙ sums_fit symbol ((symbol, told below account symbol) ∷ []) (held_in below account done) fits))
+
+  -- the sum is out of range, so all that is moved is
+  pub held_beyond : turnover_fits (held_after told below account symbol done) ≡ false → AreBeyond told done
+  held_beyond range = record {
+    below = below;
+    account = account;
+    symbol = symbol;
+    range = false-from _ (λ fits. false≢true (sym range ∙ covered-fits ((symbol, told below account symbol) ∷ moved done) (held_after told below account symbol done)
+        (covers_both ((symbol, told below account symbol) ∷ []) ((symbol, told below account symbol) ∷ []) (held_in below account done) (moved done) (covers_same ((symbol, told below account symbol) ∷ [])) (covers_held below account done)) fits));
+  }
+
+module _ (told : Told) (w : Amount) (below : Bool) (account : List ℕ) (done : List Posting) (held : Decimal) (is_held : held ≡ total_of w.symbol (held_after told below account w.symbol done)) where
+  pub value_held : (value : Decimal) → value ≡ plus w.value (negated held) → value ≡ value_after (held_after told below account w.symbol done) w
+  value_held value is = is ∙ ap (λ (d : Decimal). plus w.value (negated d)) is_held
+
+  pub value_beyond : add_fits w.value (negated held) ≡ false → fits_after (held_after told below account w.symbol done) w ≡ false
+  value_beyond differs = false-from _ (λ fits. false≢true (sym differs ∙ ap (λ (d : Decimal). add_fits w.value (negated d)) is_held ∙ difference_fits (held_after told below account w.symbol done) w fits))
+
+-- postings that move more are out of range too
+pub beyond_more : (told : Told) (ps qs : List Posting) → Covers (moved qs) (moved ps) → AreBeyond told ps → AreBeyond told qs
+beyond_more told ps qs covers b = record {
+  below = b.below;
+  account = b.account;
+  symbol = b.symbol;
+  range = false-from _ (λ fits. false≢true (sym b.range ∙ covered-fits ((b.symbol, told b.below b.account b.symbol) ∷ moved qs) ((b.symbol, told b.below b.account b.symbol) ∷ moved ps)
+      (covers_both ((b.symbol, told b.below b.account b.symbol) ∷ []) ((b.symbol, told b.below b.account b.symbol) ∷ []) (moved ps) (moved qs) (covers_same ((b.symbol, told b.below b.account b.symbol) ∷ [])) covers) fits));
+}
+
+-- postings that are out of range by themselves
+pub beyond_alone : (told : Told) (ps : List Posting) → turnover_fits (moved ps) ≡ false → AreBeyond told ps
+beyond_alone told ps range = record {
+  below = false;
+  account = [];
+  symbol = [];
+  range = false-from _ (λ fits. false≢true (sym range ∙ covered-fits (([], told false [] []) ∷ moved ps) (moved ps) (covers_after ([], told false [] []) (moved ps)) fits));
+}
+  where
+    covers_after : (v : Value) (vs : List Value) → Covers (v ∷ vs) vs
+    covers_after v vs = covers_right (v ∷ []) vs

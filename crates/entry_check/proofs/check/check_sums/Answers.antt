@@ -1,0 +1,33 @@
+use Rattle.std.proofs.Common.{sym, ◌∙◌, subst}
+use Rattle.book.specs.declared.transaction.Txn.{Txn}
+use Rattle.entry_balance.specs.Entry.{settled}
+use Rattle.entry_balance.specs.Settled.{IsSettled}
+use Rattle.entry_balance.proofs.Adding.{if_err}
+use Rattle.entry_balance.proofs.Causes.{if_ok}
+use Rattle.balancing.proofs.Ranged.{solved_covers}
+use Rattle.entry_check.specs.Checked.{told_before, made}
+use Rattle.entry_check.proofs.Holding.{beyond_more}
+use Rattle.entry_check.proofs.Giving.{none_left}
+use Rattle.entry_check.proofs.check.check_sums.Goals as goal
+
+pub returns-in-Err-clause-range : goal.returns-in-Err-clause-range
+returns-in-Err-clause-range g c = λ range.
+    let told = told_before (g.S.Sums.txns c.args.sums.now) (g.S.Sums.place c.args.sums.now) in
+    let m = made told c.args.txn in
+    beyond_more told m.postings (settled m).postings (solved_covers m.postings m.postings) (c.in-Err.ensures.range range)
+
+pub returns-in-Ok-settle-clause-answer : goal.returns-in-Ok-settle-clause-answer
+returns-in-Ok-settle-clause-answer g c = if_ok _ _ c.judge_settled.result (λ answer is.
+    let told = told_before (g.S.Sums.txns c.args.sums.now) (g.S.Sums.place c.args.sums.now) in
+    let o = c.in-Ok-settle.outcome in
+    let settled_m = subst (λ (m : Txn). IsSettled m o.txn o.cause) c.in-Ok.ensures.made c.in-Ok-settle.ensures in
+    is (made told c.args.txn) settled_m (λ none. none_left told c.args.txn (sym settled_m.cause ∙ none)))
+    c.judge_settled.ensures.answer
+
+pub returns-in-Ok-settle-clause-range : goal.returns-in-Ok-settle-clause-range
+returns-in-Ok-settle-clause-range g c = if_err _ _ c.judge_settled.result (λ e beyond range.
+    let told = told_before (g.S.Sums.txns c.args.sums.now) (g.S.Sums.place c.args.sums.now) in
+    let o = c.in-Ok-settle.outcome in
+    let settled_m = subst (λ (m : Txn). IsSettled m o.txn o.cause) c.in-Ok.ensures.made c.in-Ok-settle.ensures in
+    beyond range (made told c.args.txn) settled_m (λ none. none_left told c.args.txn (sym settled_m.cause ∙ none)))
+    c.judge_settled.ensures.range

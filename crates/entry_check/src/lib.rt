@@ -1,0 +1,11 @@
+//! Checks one transaction by the sums of the accounts before it, whoever tells them.
+#![tactic(auto)]
+
+mod check;
+mod failure;
+mod held;
+mod make;
+#[cfg(test)]
+mod tests;
+
+pub use check::check_one;
