@@ -1,1 +1,7 @@
+pub mod Built
+pub mod ColumnLaws
+pub mod Counts
+pub mod FormatLaws
+pub mod Names
 pub mod NewOnes
+pub mod Progresses

@@ -1,8 +1,23 @@
-//! Bank files: which of their entries an import adds.
+//! The rules by which bank files become entries, and which of their entries an import adds.
 #![tactic(auto)]
 
+mod building;
+mod columns;
+mod drafts;
+mod faults;
+mod formats;
+mod forms;
 pub mod importing;
+mod kinds;
+mod lines;
+mod reading;
 #[cfg(test)]
 mod tests;
+pub mod words;
 
+pub use faults::RulesFault;
 pub use importing::{import_laws, new_ones};
+pub use kinds::{
+    Action, Assignment, Block, Condition, DatePart, EntryField, Settings, Sheet, Value,
+};
+pub use reading::Rules;

@@ -1,0 +1,91 @@
+-- The words that lines of rules begin with, and the names of fields.
+use Rattle.std.specs.Prelude.{ℕ, ◌-◌, ◌^◌, min, Bool, false, ◌&&◌, ◌||◌, not, ◌==◌, nat_le, List, [], take, drop, codes, Option, Some, None, if◌then◌else◌}
+use Rattle.std.specs.List.{prefix_len, list_all}
+use Rattle.std.specs.Str.{bytes_eq}
+use Rattle.std.specs.Str.Parse.{digits_value}
+use Rattle.hl_time.specs.Words.{is_word}
+use Rattle.csv_rules.specs.declared.kinds.EntryField.{EntryField}
+use Rattle.csv_rules.specs.declared.kinds.EntryField.TheVariants as fields
+use Rattle.csv_rules.specs.declared.forms.Word.{Word}
+use Rattle.csv_rules.specs.declared.forms.Word.TheVariants as words
+pub use Rattle.hl_num.specs.Reading.{is_digit}
+
+-- an ASCII letter
+abbrev pub is_letter : ℕ → Bool
+is_letter b = (nat_le 65 b && nat_le b 90) || (nat_le 97 b && nat_le b 122)
+
+-- what may stand in the name of a column or a field: an ASCII letter or digit, `_` or `-`
+abbrev pub is_name_byte : ℕ → Bool
+is_name_byte b = is_digit b || is_letter b || (b == 95) || (b == 45)
+
+-- the name that a text begins with, which may be empty
+abbrev pub name_at : List ℕ → List ℕ
+name_at text = take (prefix_len is_name_byte text) text
+
+-- what follows it
+abbrev pub after_name : List ℕ → List ℕ
+after_name text = drop (prefix_len is_name_byte text) text
+
+-- one digit or more, and nothing else
+abbrev pub are_digits : List ℕ → Bool
+are_digits text = not (bytes_eq text []) && list_all is_digit text
+
+-- the greatest number that is told
+abbrev pub most : ℕ
+most = 2 ^ 64 - 1
+
+-- the number of some digits, or the greatest that is told
+abbrev pub value_of : List ℕ → ℕ
+value_of digits = min (digits_value 10 digits) most
+
+-- the names are the same, with case ignored or not
+abbrev pub is_named : Bool → List ℕ → List ℕ → Bool
+is_named ignores_case name word = if ignores_case then is_word name word else bytes_eq name word
+
+-- the field of amounts or of the currency that a name is
+unfoldable pub amount_named : Bool → List ℕ → Option EntryField
+amount_named ignores_case name =
+    if is_named ignores_case name (codes "amount") then Some fields.Amount
+    else if is_named ignores_case name (codes "amount1") then Some fields.Amount
+    else if is_named ignores_case name (codes "amount-in") then Some fields.AmountIn
+    else if is_named ignores_case name (codes "amount-out") then Some fields.AmountOut
+    else if is_named ignores_case name (codes "amount2") then Some fields.Amount2
+    else if is_named ignores_case name (codes "currency") then Some fields.Currency
+    else None
+
+-- the field of an account, of amounts or of the currency that a name is
+unfoldable pub account_named : Bool → List ℕ → Option EntryField
+account_named ignores_case name =
+    if is_named ignores_case name (codes "account1") then Some fields.Account1
+    else if is_named ignores_case name (codes "account2") then Some fields.Account2
+    else amount_named ignores_case name
+
+-- the field that a name is
+unfoldable pub field_named : Bool → List ℕ → Option EntryField
+field_named ignores_case name =
+    if is_named ignores_case name (codes "date") then Some fields.Date
+    else if is_named ignores_case name (codes "status") then Some fields.Status
+    else if is_named ignores_case name (codes "code") then Some fields.Code
+    else if is_named ignores_case name (codes "description") then Some fields.Description
+    else if is_named ignores_case name (codes "comment") then Some fields.Comment
+    else account_named ignores_case name
+
+abbrev pub word_for : Option EntryField → Word
+word_for (Some field) = words.Field field
+word_for None = words.Other
+
+unfoldable pub field_word : List ℕ → Word
+field_word word = word_for (field_named false word)
+
+-- what a word is
+unfoldable pub word_of : List ℕ → Word
+word_of word =
+    if bytes_eq word (codes "skip") then words.Skip
+    else if bytes_eq word (codes "separator") then words.Separator
+    else if bytes_eq word (codes "fields") then words.Fields
+    else if bytes_eq word (codes "date-format") then words.DateFormat
+    else if bytes_eq word (codes "newest-first") then words.NewestFirst
+    else if bytes_eq word (codes "intra-day-reversed") then words.IntradayReversed
+    else if bytes_eq word (codes "decimal-mark") then words.DecimalMark
+    else if bytes_eq word (codes "if") then words.If
+    else field_word word
