@@ -176,8 +176,14 @@ fn refused_line(alloc: Global, text: &str, pattern: &str) -> Result<u64, Memory>
 
 #[test]
 fn makers_refuse_patterns(rt: HostRuntime) -> Result<(), Fail> {
-    assert_eq!(rt; refused_line(rt.alloc(), "if\na.c\n&a.d\n skip\n", "a.d")?, 3);
-    assert_eq!(rt; refused_line(rt.alloc(), "if\na.c\n&a.d\n skip\n", "a.e")?, 0);
+    assert_eq!(rt;
+        refused_line(rt.alloc(), "if\na.c\n&a.d\n skip\n", "a.d")?,
+        3
+    );
+    assert_eq!(rt;
+        refused_line(rt.alloc(), "if\na.c\n&a.d\n skip\n", "a.e")?,
+        0
+    );
     Ok(())
 }
 
