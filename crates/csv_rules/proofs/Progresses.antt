@@ -9,7 +9,7 @@ use Rattle.regex.specs.declared.string.regex.Regex.{Regex}
 use Rattle.csv_rules.specs.Building.{AreBuilt, block_sources, condition_sources, progress_sources, sheet_sources, form_sources, first_sources}
 use Rattle.csv_rules.specs.Drafts.{Progress, start, put, closed, closed_at, with_rule, opened, with_condition, without_block, block_of, finished, finished_at, sheet_of}
 use Rattle.csv_rules.specs.Forms.{form_of}
-use Rattle.csv_rules.specs.Reading.{or_line, read_from, sheet_at, sheet_in, rules_of, ended, Reads, TakesLine, IsTaken, IsRefusedAt, IsRefusedLine}
+use Rattle.csv_rules.specs.Reading.{or_line, read_from, sheet_at, sheet_in, rules_of, ended, Reads, TakesLine, IsTaken, IsRefusedAt, IsRefusedLine, IsBadLine, AreBefore}
 use Rattle.csv_rules.specs.declared.faults.RulesFault.{RulesFault}
 use Rattle.csv_rules.specs.declared.faults.RulesFault.TheVariants as rules_fault
 use Rattle.csv_rules.specs.declared.forms.Form.{Form}
@@ -77,15 +77,16 @@ reached_bad text rest content after line p r cut said =
     let n : 1 + length r.earlier ≡ line = omega (arith, r.number) in
     rw (whole, bad_line start p 1 r.earlier content (contents_of after) r.read said) (ap (λ (k : ℕ). Err k) n)
 
-pub reached_refused : (text rest content after : List ℕ) (line : ℕ) (p : Progress) (first before now : ℕ) (last : Option (List ℕ)) → IsReached text rest line p → contents_of rest ≡ content ∷ contents_of after → before ≡ first → IsRefusedAt content p before now last → IsRefusedLine text line first now last
-reached_refused text rest content after line p first before now last r cut e refused = subst (λ (n : ℕ). IsRefusedLine text line n now last) e (record {
-  earlier = r.earlier;
+-- the lines before one that is left, whose patterns were built
+pub reached_before : (text rest : List ℕ) (line : ℕ) (p : Progress) (regexes : List Regex) → IsReached text rest line p → AreBuilt (progress_sources p) regexes → AreBefore text line (contents_of rest) p
+reached_before text rest line p regexes r built = record { earlier = r.earlier; place = r.place; number = r.number; read = r.read; regexes = regexes; built = built }
+
+pub reached_refused : (text rest content after : List ℕ) (line : ℕ) (p : Progress) (regexes : List Regex) (first before now : ℕ) (last : Option (List ℕ)) → IsReached text rest line p → AreBuilt (progress_sources p) regexes → contents_of rest ≡ content ∷ contents_of after → before ≡ first → IsRefusedAt content p before now last → IsRefusedLine text line first now last
+reached_refused text rest content after line p regexes first before now last r built cut e refused = subst (λ (n : ℕ). IsRefusedLine text line n now last) e (record {
   content = content;
   later = contents_of after;
-  place = r.place ∙ ap (λ (ls : List (List ℕ)). r.earlier ++ ls) cut;
-  number = r.number;
   progress = p;
-  read = r.read;
+  earlier = subst (λ (ls : List (List ℕ)). AreBefore text line ls p) cut (reached_before text rest line p regexes r built);
   form = refused.form;
   said = refused.said;
   refusal = refused.refusal;
@@ -101,13 +102,13 @@ stays_then first before now last_first last_before last_now a b = record { count
 
 -- what is told of a line, told of the text, where the lines before it were read
 pub line_told : (T : Type 0) (text rest content after : List ℕ) (line : ℕ) (p q : Progress) (old new : List Regex) (first before now : ℕ) (last_first last_before last_now : Option (List ℕ)) (fault : RulesFault)
-    → IsReached text rest line p → contents_of rest ≡ content ∷ contents_of after → Stays first before last_first last_before → TakesLine {T = T} line content p q old new before now last_before last_now (Err fault)
+    → IsReached text rest line p → AreBuilt (progress_sources p) old → contents_of rest ≡ content ∷ contents_of after → Stays first before last_first last_before → TakesLine {T = T} line content p q old new before now last_before last_now (Err fault)
     → Reads text first now last_first last_now (Err fault)
-line_told T text rest content after line p q old new first before now last_first last_before last_now rules_fault.Memory r cut stays told = stays_then first before now last_first last_before last_now stays told
-line_told T text rest content after line p q old new first before now last_first last_before last_now (rules_fault.BadRule bad) r cut stays told =
-    (reached_bad text rest content after line p r cut told.1 ∙ ap (λ (n : ℕ). Err n) (sym told.0), stays_then first before now last_first last_before last_now stays told.2)
-line_told T text rest content after line p q old new first before now last_first last_before last_now (rules_fault.PatternRefused refused) r cut stays told =
-    subst (λ (n : ℕ). IsRefusedLine text n first now last_now) (sym told.0) (reached_refused text rest content after line p first before now last_now r cut stays.count told.1)
+line_told T text rest content after line p q old new first before now last_first last_before last_now rules_fault.Memory r built cut stays told = stays_then first before now last_first last_before last_now stays told
+line_told T text rest content after line p q old new first before now last_first last_before last_now (rules_fault.BadRule bad) r built cut stays told =
+    (subst (λ (n : ℕ). IsBadLine text n) (sym told.0) (record { is = reached_bad text rest content after line p r cut told.1; later = contents_of rest; progress = p; before = reached_before text rest line p old r built }), stays_then first before now last_first last_before last_now stays told.2)
+line_told T text rest content after line p q old new first before now last_first last_before last_now (rules_fault.PatternRefused refused) r built cut stays told =
+    subst (λ (n : ℕ). IsRefusedLine text n first now last_now) (sym told.0) (reached_refused text rest content after line p old first before now last_now r built cut stays.count told.1)
 
 -- ---- sources
 

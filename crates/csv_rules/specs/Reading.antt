@@ -3,7 +3,7 @@ use Rattle.std.specs.Prelude.{◌≡◌, ◌+◌, ◌++◌, ℕ, List, [], ◌�
 use Rattle.entry_reader.specs.Lines.{contents_of}
 use Rattle.regex.specs.declared.string.regex.Regex.{Regex}
 use Rattle.query_terms.specs.Making.{Stays}
-use Rattle.csv_rules.specs.Building.{AreBuilt, Grows, IsRefusalOf, form_sources, sheet_sources}
+use Rattle.csv_rules.specs.Building.{AreBuilt, Grows, IsRefusalOf, form_sources, progress_sources, sheet_sources}
 use Rattle.csv_rules.specs.Drafts.{Progress, start, put, finished}
 use Rattle.csv_rules.specs.Forms.{form_of}
 use Rattle.csv_rules.specs.declared.faults.RulesFault.{RulesFault}
@@ -43,25 +43,37 @@ pub record IsRulesOf (text : List ℕ) (rules : Rules) : Type 0 where
   pub read : rules_of text ≡ Ok rules.sheet
   pub built : AreBuilt (sheet_sources rules.sheet) rules.regexes.items
 
--- The lines before this one are of their forms, and it is of its form too; the maker refused its pattern.
-pub record IsRefusedLine (text : List ℕ) (line : ℕ) (before now : ℕ) (last_now : Option (List ℕ)) : Type 0 where
+-- So many lines of a text stand before a line: they are of their forms and say so much, and their patterns were built.
+pub record AreBefore (text : List ℕ) (line : ℕ) (later : List (List ℕ)) (progress : Progress) : Type 0 where
   pub earlier : List (List ℕ)
+  pub place : contents_of text ≡ earlier ++ later
+  pub number : line ≡ length earlier + 1
+  pub read : read_from start 1 earlier ≡ Ok progress
+  pub regexes : List Regex
+  pub built : AreBuilt (progress_sources progress) regexes
+
+-- It isn't of its form, or it stands behind a text that isn't finished; the lines before it aren't refused.
+pub record IsBadLine (text : List ℕ) (line : ℕ) : Type 0 where
+  pub is : rules_of text ≡ Err line
+  pub later : List (List ℕ)
+  pub progress : Progress
+  pub before : AreBefore text line later progress
+
+-- It is of its form, and the maker refused its pattern; the lines before it aren't refused.
+pub record IsRefusedLine (text : List ℕ) (line : ℕ) (before now : ℕ) (last_now : Option (List ℕ)) : Type 0 where
   pub content : List ℕ
   pub later : List (List ℕ)
-  pub place : contents_of text ≡ earlier ++ content ∷ later
-  pub number : line ≡ length earlier + 1
   pub progress : Progress
-  pub read : read_from start 1 earlier ≡ Ok progress
+  pub earlier : AreBefore text line (content ∷ later) progress
   pub form : Form
   pub said : form_of progress.stage content ≡ Some form
   pub refusal : IsRefusalOf (form_sources form) before now last_now
 
--- The rules that a text is; or the first line that isn't of its form; or a line before that, whose pattern the maker refused;
--- or want of memory. What the maker tells stays but where it refused a pattern.
+-- The rules that a text is; or the first line that isn't of its form, or whose pattern the maker refused; or want of memory. What the maker tells stays but where it refused a pattern.
 abbrev pub Reads : List ℕ → ℕ → ℕ → Option (List ℕ) → Option (List ℕ) → Result Rules RulesFault → Type 0
 Reads text before now last_before last_now (Ok rules) = IsRulesOf text rules × Stays before now last_before last_now
 Reads text before now last_before last_now (Err rules_fault.Memory) = Stays before now last_before last_now
-Reads text before now last_before last_now (Err (rules_fault.BadRule line)) = (rules_of text ≡ Err line) × Stays before now last_before last_now
+Reads text before now last_before last_now (Err (rules_fault.BadRule line)) = IsBadLine text line × Stays before now last_before last_now
 Reads text before now last_before last_now (Err (rules_fault.PatternRefused line)) = IsRefusedLine text line before now last_now
 
 -- a line was added: it is of a form, the regex of its pattern was built, and what it says came to the rest

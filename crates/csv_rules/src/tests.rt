@@ -160,6 +160,7 @@ fn blocks_are_judged(rt: HostRuntime) -> Result<(), Fail> {
 fn a_refused_pattern_is_told(rt: HostRuntime) -> Result<(), Fail> {
     assert_eq!(rt; lines_told(rt.alloc(), "if a\n(\n skip\nskipp"), (0, 2));
     assert_eq!(rt; lines_told(rt.alloc(), "\nif (\n"), (0, 2));
+    assert_eq!(rt; lines_told(rt.alloc(), "if (\n[\n skip\n"), (0, 1));
     Ok(())
 }
 
