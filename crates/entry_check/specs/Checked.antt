@@ -68,8 +68,8 @@ made told t = if is_assignable t.postings then with_postings t (made_postings to
 
 -- ---- assertions
 
--- what is found in place of what is wanted: another sum of its symbol; or, where nothing else may be there, what is
--- there of the least other symbol
+-- what is found in place of what is wanted: another sum of its symbol; or, where nothing else may be there, what was
+-- there before the transaction of the least other symbol
 abbrev pub found_after : Told → Others → Assertion → List ℕ → List Posting → Option Value
 found_after told others w account ps =
     let total = total_of w.amount.symbol (held_after told w.below account w.amount.symbol ps) in

@@ -19,11 +19,12 @@ use std::sync::ledger::Ledger;
 
 /// A transaction with its assignments and all that balancing finds, by the sums of the accounts before it. Else what is
 /// wrong with it alone: two missing amounts, an assignment that can't be made, a range, sums that aren't zero; else its
-/// first assertion that fails, by the order of places. That is its answer in the journal whose sums are told, where
-/// all its postings are of its day and none posts another symbol to an account of which an assertion wants one symbol
-/// only. Numbers that are found have as few decimals as the sums before need. `Range` comes only where a cost or the
-/// transaction alone is out of range, or where a sum before it and all that it moves together are. Counts one checked
-/// transaction.
+/// first assertion that fails, by the order of places. That is meant as its answer in the journal whose sums are told,
+/// where all its postings are of its day, and none of them, found ones too, is of another symbol and on an account of
+/// which an assertion wants one symbol only, or under it where subaccounts count. The sums that are told enter with as
+/// few decimals as they need, so a found number may have fewer decimals than in the journal. `Range` comes only where a
+/// cost or the transaction alone is out of range, or where a sum before it and all that it moves together are. Counts
+/// one checked transaction.
 pub fn check_one<S: Sums, L: Ledger>(
     alloc: Global,
     txn: Txn,
