@@ -9,25 +9,23 @@ use Rattle.std.proofs.lemmas.Bool.{false≢true}
 use Rattle.std.proofs.lemmas.Grind.{flat_map-append}
 use Rattle.std.proofs.lemmas.List.{append-nil, append_assoc, take_more}
 use Rattle.book.specs.Entries.{held}
-use Rattle.book.specs.declared.amount.Amount.{Amount}
 use Rattle.book.specs.declared.amount.Assertion.{Assertion}
 use Rattle.book.specs.declared.fault.Fault.{Fault}
 use Rattle.book.specs.declared.transaction.Posting.{Posting}
 use Rattle.book.specs.declared.transaction.Txn.{Txn}
-use Rattle.entry_balance.specs.Values.{Value, value_of, cost_values}
+use Rattle.entry_balance.specs.Values.{Value}
 use Rattle.entry_balance.specs.Tally.{turnover_fits}
-use Rattle.entry_balance.specs.Entry.{from_amount, moved, moved_by}
+use Rattle.entry_balance.specs.Entry.{moved, moved_by}
 use Rattle.entry_balance.proofs.Adding.{false-from, take_past}
-use Rattle.entry_balance.proofs.Covers.{Covers, covered-fits, covers_none, covers_left, covers_both}
 use Rattle.entry_balance.proofs.Turnover.{fits-first}
-use Rattle.entry_balance.proofs.Named.{both_true, left_true, right_true}
-use Rattle.assertions.specs.Assertions.{counts_for, held_by, held_in, failure_of, first_failure, or_else_fault}
+use Rattle.entry_balance.proofs.Named.{left_true, right_true}
+use Rattle.assertions.specs.Assertions.{failure_of, first_failure, or_else_fault}
 use Rattle.balancing.specs.Parts.{is_chosen, part_on}
 use Rattle.assertions.specs.Claims.{IsClaimed}
 use Rattle.balancing.specs.Claims.{AreClaimed, IsReached}
-use Rattle.assertions.specs.Kept.{Keeping, IsKept, IsBalance, Stays, and_at, and_under, keeps, is_asked, is_asked_by, are_asked}
+use Rattle.assertions.specs.Kept.{Keeping, IsKept, IsBalance, keeps, is_asked, is_asked_by, are_asked}
 use Rattle.balancing.specs.Walk.{group_in}
-use Rattle.assertions.proofs.Keeping.{kept_same, kept_none}
+use Rattle.assertions.proofs.Keeping.{kept_none}
 
 -- ---- where nothing is asked for
 

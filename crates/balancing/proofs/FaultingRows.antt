@@ -1,5 +1,5 @@
 -- What the fault of a text is, on small texts.
-use Rattle.std.proofs.Common.{◌≡◌, ℕ, ℤ, pos, negsuc, ◌^◌, true, false, List, [], ◌∷◌, Some, None, refl, codes}
+use Rattle.std.proofs.Common.{◌≡◌, ℕ, ℤ, pos, negsuc, ◌^◌, true, false, List, [], ◌∷◌, Some, refl, codes}
 use Rattle.std.proofs.lemmas.Bool.{false≢true}
 use Rattle.book.specs.declared.amount.Assertion.{Assertion}
 use Rattle.book.specs.declared.fault.Cause.TheVariants.{TwoMissing, NotAllowed, Unbalanced, AssertionFailed, Range}

@@ -1,5 +1,5 @@
 -- What is known after postings whose assertions were judged.
-use Rattle.std.specs.Prelude.{◌≡◌, ℕ, Bool, take, drop, filter, List, [], ◌∷◌, ◌++◌, Option, None}
+use Rattle.std.specs.Prelude.{◌≡◌, ℕ, Bool, take, drop, filter, List, ◌++◌, Option, None}
 use Rattle.book.specs.declared.fault.Fault.{Fault}
 use Rattle.book.specs.declared.transaction.Posting.{Posting}
 use Rattle.assertions.specs.Assertions.{first_failure}
