@@ -1,17 +1,18 @@
 -- The accounts above an account, by the lengths of their names.
-use Rattle.std.proofs.Common.{◌≡◌, ℕ, ℤ, zero, suc, ◌+◌, ◌<◌, nat_lt, nat_eq, ◌==◌, Bool, true, false, T, ◌&&◌, ◌||◌, List, [], ◌∷◌, ◌++◌, length, take, get_or, refl, sym, ap, subst, ◌∙◌, arith}
+use Rattle.std.proofs.Common.{◌≡◌, ℕ, ℤ, zero, suc, ◌+◌, ◌<◌, nat_lt, nat_eq, ◌==◌, Bool, true, false, ◌&&◌, ◌||◌, List, [], ◌∷◌, ◌++◌, length, take, get_or, refl, sym, ap, subst, ◌∙◌, arith}
 use Rattle.std.specs.List.{starts_with}
 use Rattle.std.specs.Str.{bytes_eq}
 use Rattle.std.proofs.lemmas.Bool.Decides.{nat_tests}
 use Rattle.std.proofs.lemmas.Slice.Eq.{bytes_eq-Decides}
 use Rattle.std.specs.Cmp.{Equal-is}
 use Rattle.std.proofs.lemmas.Bool.{false≢true}
-use Rattle.std.specs.FinMap.Entries.{is_sorted}
 use Rattle.std.proofs.lemmas.Cmp.{tied_itself}
 use Rattle.hl_base.specs.Ascii.{colon}
 use Rattle.live_index.specs.declared.row.Row.{Row}
-use Rattle.live_index.specs.Runs.{before, raise}
-use Rattle.live_index.specs.Cells.{Key, key_cmp, is_key, counts_for, is_above, is_part, Cell, runs_in, sums_of, HasAdded}
+use Rattle.std.specs.Int.{int_wrap, w128}
+use Rattle.std.proofs.lemmas.Int.{int_wrap-add_same}
+use Rattle.live_index.specs.Runs.{Alike, raise}
+use Rattle.live_index.specs.Cells.{Key, key_cmp, is_key, counts_for, is_above, is_part, Cell, told, AreCells, HasAdded}
 use Rattle.live_index.proofs.CellLaws.{key_total, key_same}
 
 -- ---- tests
@@ -187,25 +188,29 @@ raise-both true true u p amount sum h e = absurd (false≢true (sym h))
 raise-both true false u p amount sum h e = ap (λ (b : Bool). raise (b && p) amount sum) (sym e)
 raise-both false s u p amount sum h e = ap (λ (b : Bool). raise (b && p) amount sum) (sym e)
 
+raise-alike : (b : Bool) (amount x y : ℤ) → Alike x y → Alike (raise b amount x) (raise b amount y)
+raise-alike true amount x y h = int_wrap-add_same w128 x y amount h
+raise-alike false amount x y h = h
+
 pub added-both : (t s u : Key → Bool) (row : Row) (old mid new : List Cell) → ((key : Key) → (t key && s key) ≡ false) → ((key : Key) → u key ≡ (t key || s key)) → HasAdded t row old mid → HasAdded s row mid new → HasAdded u row old new
 added-both t s u row old mid new apart is first second = record {
-  ordered = second.ordered;
+  cells = second.cells;
   gained = λ key places end.
       second.gained key places end
-      ∙ ap (raise (s key && is_part row places end) row.value.mantissa) (first.gained key places end)
-      ∙ raise-both (t key) (s key) (u key) (is_part row places end) row.value.mantissa (before (runs_in (sums_of key old) places) end) (apart key) (is key);
+      ∙ raise-alike (s key && is_part row places end) row.value.mantissa (told key mid places end) (raise (t key && is_part row places end) row.value.mantissa (told key old places end)) (first.gained key places end)
+      ∙ ap (int_wrap w128) (raise-both (t key) (s key) (u key) (is_part row places end) row.value.mantissa (told key old places end) (apart key) (is key));
 }
 
 pub added-along : (t u : Key → Bool) (row : Row) (old new : List Cell) → ((key : Key) → u key ≡ t key) → HasAdded t row old new → HasAdded u row old new
 added-along t u row old new is h = record {
-  ordered = h.ordered;
-  gained = λ key places end. h.gained key places end ∙ ap (λ (b : Bool). raise (b && is_part row places end) row.value.mantissa (before (runs_in (sums_of key old) places) end)) (sym (is key));
+  cells = h.cells;
+  gained = λ key places end. h.gained key places end ∙ ap (λ (b : Bool). int_wrap w128 (raise (b && is_part row places end) row.value.mantissa (told key old places end))) (sym (is key));
 }
 
-pub added-none : (t : Key → Bool) (row : Row) (cells : List Cell) → ((key : Key) → t key ≡ false) → T (is_sorted key_cmp cells) → HasAdded t row cells cells
-added-none t row cells none ordered = record {
-  ordered = ordered;
-  gained = λ key places end. sym (ap (λ (b : Bool). raise (b && is_part row places end) row.value.mantissa (before (runs_in (sums_of key cells) places) end)) (none key));
+pub added-none : (t : Key → Bool) (row : Row) (cells : List Cell) → ((key : Key) → t key ≡ false) → AreCells cells → HasAdded t row cells cells
+added-none t row cells none cells_are = record {
+  cells = cells_are;
+  gained = λ key places end. sym (ap (λ (b : Bool). int_wrap w128 (raise (b && is_part row places end) row.value.mantissa (told key cells places end))) (none key));
 }
 
 -- a row was added to its own keys and to those above
@@ -240,9 +245,9 @@ added-same account symbol row i old new h first =
     same false n e = refl
 
 -- no name is shorter than none
-pub added-start : (account symbol : List ℕ) (row : Row) (cells : List Cell) → T (is_sorted key_cmp cells) → HasAdded (λ key. is_above account symbol key && nat_lt (length key.account) 0) row cells cells
-added-start account symbol row cells ordered =
-    added-none (λ key. is_above account symbol key && nat_lt (length key.account) 0) row cells (λ key. none (is_above account symbol key) (length key.account)) ordered
+pub added-start : (account symbol : List ℕ) (row : Row) (cells : List Cell) → AreCells cells → HasAdded (λ key. is_above account symbol key && nat_lt (length key.account) 0) row cells cells
+added-start account symbol row cells cells_are =
+    added-none (λ key. is_above account symbol key && nat_lt (length key.account) 0) row cells (λ key. none (is_above account symbol key) (length key.account)) cells_are
   where
     none : (a : Bool) (n : ℕ) → (a && nat_lt n 0) ≡ false
     none true n = grind (arith, nat_tests)

@@ -1,21 +1,22 @@
 -- What the cells tell of a node, exactly.
-use Rattle.std.proofs.Common.{◌≡◌, ℕ, ℤ, pos, ◌+◌, ◌-◌, ◌*◌, ◌/◌, ◌^◌, ◌<◌, ◌≤◌, ◌+ℤ◌, ◌-ℤ◌, ◌*ℤ◌, ◌==◌, nat_lt, max, unsigned_abs, Bool, true, false, cond, ◌&&◌, ◌||◌, List, [], ◌∷◌, ◌++◌, filter, zero-mul, inl, inr, rules, neg_ℤ, refl, sym, ap, subst, ◌∙◌, arith}
+use Rattle.std.proofs.Common.{◌≡◌, ℕ, ℤ, pos, ◌+◌, ◌-◌, ◌*◌, ◌/◌, ◌^◌, ◌<◌, ◌≤◌, ◌+ℤ◌, ◌-ℤ◌, ◌*ℤ◌, ◌==◌, nat_lt, max, unsigned_abs, Bool, true, false, cond, ◌&&◌, ◌||◌, List, [], ◌∷◌, ◌++◌, filter, take, drop, zero-mul, inl, inr, rules, neg_ℤ, refl, sym, ap, subst, ◌∙◌, arith}
 use Rattle.std.specs.Str.{bytes_eq}
 use Rattle.std.specs.List.{AllByRecursion}
 use Rattle.std.specs.Int.{int_wrap, w128}
 use Rattle.std.specs.Int.RustNames.{FitsSigned}
-use Rattle.std.proofs.lemmas.Int.{ints, int_wrap-add_left, int_wrap-sub_right, int_wrap_fits}
+use Rattle.std.proofs.lemmas.Int.{ints, int_wrap-add_same, int_wrap-sub_right, int_wrap_fits}
 use Rattle.std.proofs.lemmas.Bool.{false≢true}
 use Rattle.std.proofs.lemmas.Bool.Decides.{nat_tests}
 use Rattle.std.proofs.lemmas.Nat.{pow_pos}
+use Rattle.std.proofs.lemmas.List.{take-append-drop}
 use Rattle.book.specs.SumsBefore.{is_of}
 use Rattle.hl_num.specs.Decimal.{Decimal, IsInBounds, units_of, add_fits}
 use Rattle.hl_num.proofs.DecimalLemmas.{mul-add}
 use Rattle.std.proofs.lemmas.Bool.{cases_lt}
 use Rattle.live_index.specs.declared.row.Row.{Row}
 use Rattle.live_index.specs.Rows.{counts, sum_by, total, node_sum, places_of, turnover, TurnoverFits}
-use Rattle.live_index.specs.Runs.{before, raise}
-use Rattle.live_index.specs.Cells.{Key, Cell, counts_for, is_part, sums_of, runs_in, HasAdded}
+use Rattle.live_index.specs.Runs.{Alike, before, raise}
+use Rattle.live_index.specs.Cells.{Key, Cell, counts_for, is_part, sums_of, runs_in, told, HasAdded, AreJoined}
 use Rattle.live_index.specs.Kept.{mantissas_before, AreSums}
 use Rattle.live_index.specs.Puts.{rows_put}
 use Rattle.live_index.specs.Standing.{standing}
@@ -40,30 +41,51 @@ rows_put-append (first ∷ more) rows =
     assoc [] b c = refl
     assoc (x ∷ a) b c = ap (λ (t : List Row). x ∷ t) (assoc a b c)
 
-mantissa_of : Row → ℤ
-mantissa_of row = row.value.mantissa
+few-append : (rows more : List Row) → AllByRecursion (λ (r : Row). r.value.places ≤ 36) rows → AllByRecursion (λ (r : Row). r.value.places ≤ 36) more → AllByRecursion (λ (r : Row). r.value.places ≤ 36) (rows ++ more)
+few-append [] more h k = k
+few-append (row ∷ rows) more h k = (h.0, few-append rows more h.1 k)
 
-one_more : (x : Bool) (row : Row) (sum so_far : ℤ) → so_far ≡ int_wrap w128 sum → raise x row.value.mantissa so_far ≡ int_wrap w128 (sum +ℤ sum_by (λ (r : Row). r.value.mantissa) (cond x (row ∷ []) []))
-one_more true row sum so_far h =
-    ap (λ (z : ℤ). int_wrap w128 (z +ℤ row.value.mantissa)) h
-    ∙ int_wrap-add_left w128 sum row.value.mantissa
-    ∙ ap (λ (z : ℤ). int_wrap w128 (sum +ℤ z)) (omega (arith, ints))
-one_more false row sum so_far h = h ∙ ap (λ (z : ℤ). int_wrap w128 z) (omega (arith, ints))
-
-few-append : (rows : List Row) (row : Row) → AllByRecursion (λ (r : Row). r.value.places ≤ 36) rows → row.value.places ≤ 36 → AllByRecursion (λ (r : Row). r.value.places ≤ 36) (rows ++ row ∷ [])
-few-append [] row h k = (k, tt)
-few-append (other ∷ rows) row h k = (h.0, few-append rows row h.1 k)
-
--- the cells have one row more
-pub sums-more : (rows : List Row) (row : Row) (old new : List Cell) → AreSums rows old → HasAdded (λ key. counts_for key row) row old new → row.value.places ≤ 36 → AreSums (rows ++ row ∷ []) new
-sums-more rows row old new h added few = record {
-  ordered = added.ordered;
-  told = λ key places end.
-      added.gained key places end
-      ∙ one_more (counts_for key row && is_part row places end) row (mantissas_before rows key places end) (before (runs_in (sums_of key old) places) end) (h.told key places end)
-      ∙ ap (λ (z : ℤ). int_wrap w128 z) (sym (sum-append (λ (r : Row). r.value.mantissa) (λ r. counts_for key r && is_part r places end) rows (row ∷ [])));
-  few = few-append rows row h.few few;
+-- no rows
+pub sums-none : AreSums [] []
+sums-none = record {
+  cells = record { ordered = tt; full = tt };
+  sums = λ key places end. refl;
+  few = tt;
 }
+
+one-amount : (x : Bool) (row : Row) → raise x row.value.mantissa (pos 0) ≡ sum_by (λ (r : Row). r.value.mantissa) (cond x (row ∷ []) [])
+one-amount true row = omega (arith, ints)
+one-amount false row = refl
+
+-- one row
+pub sums-one : (row : Row) (cells : List Cell) → HasAdded (λ key. counts_for key row) row [] cells → row.value.places ≤ 36 → AreSums (row ∷ []) cells
+sums-one row cells added few = record {
+  cells = added.cells;
+  sums = λ key places end. added.gained key places end ∙ ap (int_wrap w128) (one-amount (counts_for key row && is_part row places end) row);
+  few = (few, tt);
+}
+
+-- the sums of two lists of rows
+pub sums-both : (rows more : List Row) (first second both : List Cell) → AreSums rows first → AreSums more second → AreJoined first second both → AreSums (rows ++ more) both
+sums-both rows more first second both h k joined = record {
+  cells = joined.cells;
+  sums = λ key places end.
+      joined.sums key places end
+      ∙ int_wrap-add_same w128 (told key first places end) (mantissas_before rows key places end) (told key second places end) (h.sums key places end)
+      ∙ ap (int_wrap w128) (turn (mantissas_before rows key places end) (told key second places end))
+      ∙ int_wrap-add_same w128 (told key second places end) (mantissas_before more key places end) (mantissas_before rows key places end) (k.sums key places end)
+      ∙ ap (int_wrap w128) (turn (mantissas_before more key places end) (mantissas_before rows key places end))
+      ∙ ap (int_wrap w128) (sym (sum-append (λ (r : Row). r.value.mantissa) (λ r. counts_for key r && is_part r places end) rows more));
+  few = few-append rows more h.few k.few;
+}
+  where
+    turn : (a b : ℤ) → a +ℤ b ≡ b +ℤ a
+    turn a b = omega (arith, ints)
+
+-- the sums of both halves of a list of rows
+pub sums-of-halves : (rows front back : List Row) (i : ℕ) (first second both : List Cell) → front ≡ take i rows → back ≡ drop i rows → AreSums front first → AreSums back second → AreJoined first second both → AreSums rows both
+sums-of-halves rows front back i first second both e g h k joined =
+    subst (λ (t : List Row). AreSums t both) ((λ j. e j ++ g j) ∙ take-append-drop i rows) (sums-both front back first second both h k joined)
 
 -- ---- the rows of a node
 
@@ -200,13 +222,13 @@ module _ (account symbol : List ℕ) (below : Bool) (level at : ℕ) where
   fits-signed : (z : ℤ) → unsigned_abs z < 2 ^ 127 → FitsSigned w128 z
   fits-signed z h = search (rules, h)
 
-  wrapped : (x y a b n : ℤ) → x ≡ int_wrap w128 a → y ≡ int_wrap w128 b → a ≡ b +ℤ n → int_wrap w128 (x -ℤ y) ≡ int_wrap w128 n
+  wrapped : (x y a b n : ℤ) → Alike x a → Alike y b → a ≡ b +ℤ n → int_wrap w128 (x -ℤ y) ≡ int_wrap w128 n
   wrapped x y a b n of_x of_y e =
-      ap (λ (z : ℤ). int_wrap w128 (x -ℤ z)) of_y
+      sym (int_wrap-sub_right w128 x y)
+      ∙ ap (λ (z : ℤ). int_wrap w128 (x -ℤ z)) of_y
       ∙ int_wrap-sub_right w128 x b
       ∙ ap (λ (z : ℤ). int_wrap w128 z) (minus x b)
-      ∙ ap (λ (z : ℤ). int_wrap w128 (z +ℤ neg_ℤ b)) of_x
-      ∙ int_wrap-add_left w128 a (neg_ℤ b)
+      ∙ int_wrap-add_same w128 x a (neg_ℤ b) of_x
       ∙ ap (λ (z : ℤ). int_wrap w128 z) (left_over a b n e)
     where
       minus : (x b : ℤ) → x -ℤ b ≡ x +ℤ neg_ℤ b
@@ -218,7 +240,7 @@ module _ (account symbol : List ℕ) (below : Bool) (level at : ℕ) where
   -- what the cells tell of a part is the sum of its mantissas
   pub part-is : (rows : List Row) (cells : List Cell) (places : ℕ) → AreSums rows cells → TurnoverFits (standing rows) → int_wrap w128 (before (runs_in (sums_of key cells) places) ((at + 1) * 2 ^ level) -ℤ before (runs_in (sums_of key cells) places) (at * 2 ^ level)) ≡ mantissas (standing rows) places
   part-is rows cells places sums fits =
-      wrapped (before (runs_in (sums_of key cells) places) ((at + 1) * 2 ^ level)) (before (runs_in (sums_of key cells) places) (at * 2 ^ level)) (mantissas_before rows key places ((at + 1) * 2 ^ level)) (mantissas_before rows key places (at * 2 ^ level)) (mantissas rows places) (sums.told key places ((at + 1) * 2 ^ level)) (sums.told key places (at * 2 ^ level)) (days-between rows places)
+      wrapped (before (runs_in (sums_of key cells) places) ((at + 1) * 2 ^ level)) (before (runs_in (sums_of key cells) places) (at * 2 ^ level)) (mantissas_before rows key places ((at + 1) * 2 ^ level)) (mantissas_before rows key places (at * 2 ^ level)) (mantissas rows places) (sums.sums key places ((at + 1) * 2 ^ level)) (sums.sums key places (at * 2 ^ level)) (days-between rows places)
       ∙ ap (λ (z : ℤ). int_wrap w128 z) (sym (standing-sum (λ (r : Row). r.value.mantissa) mantissas-cancel mantissas-zero (λ own its day p. bytes_eq its symbol && is_of account below own && (day / 2 ^ level == at) && (p == places)) rows))
       ∙ int_wrap_fits w128 (mantissas (standing rows) places) (fits-signed (mantissas (standing rows) places) (mantissas-bound (standing rows) places fits))
 

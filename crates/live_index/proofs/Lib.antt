@@ -2,11 +2,14 @@ pub mod Days
 pub mod Above
 pub mod Answered
 pub mod CellLaws
-pub mod Images
+pub mod TogetherLaws
+pub mod TreeLaws
+pub mod WalkLaws
 pub mod InRange
 pub mod KeptLaws
 pub mod NetLaws
 pub mod RunLaws
 pub mod SmallRows
 pub mod StandingLaws
+pub mod SumLaws
 pub mod Sums

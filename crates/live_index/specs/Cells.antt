@@ -1,8 +1,9 @@
 -- Sums by account, symbol, number of decimals and day.
-use Rattle.std.specs.Prelude.{◌≡◌, ℕ, Bool, ◌&&◌, nat_lt, nat_eq, ◌==◌, List, [], ◌∷◌, ◌++◌, slice_index_or, Option, None, Some, unwrap_or, T}
+use Rattle.std.specs.Prelude.{◌≡◌, ◌⊎◌, ℕ, ℤ, pos, length, ◌-◌, ◌<◌, ◌+ℤ◌, Bool, ◌&&◌, nat_lt, nat_eq, ◌==◌, List, [], ◌∷◌, ◌++◌, slice_index_or, Option, None, Some, unwrap_or, T}
 use Rattle.std.specs.declared.cmp.Ordering.{Ordering}
+use Rattle.std.specs.declared.cmp.Ordering.TheVariants.{Less, Greater}
 use Rattle.std.specs.Ordering.{nat_cmp, bool_cmp, ordering_then, eq_by_cmp}
-use Rattle.std.specs.List.{starts_with}
+use Rattle.std.specs.List.{starts_with, AllByRecursion}
 use Rattle.std.specs.Str.{bytes_eq}
 use Rattle.hl_base.specs.Ascii.{colon}
 use Rattle.std.specs.Cmp.Lexicographic.{slice_cmp}
@@ -10,7 +11,7 @@ use Rattle.std.specs.FinMap.Entries.{find, is_sorted}
 use Rattle.live_index.specs.declared.row.Row.{Row}
 use Rattle.live_index.specs.declared.runs.Run.{Run}
 use Rattle.live_index.specs.Rows.{counts}
-use Rattle.live_index.specs.Runs.{before, raise}
+use Rattle.live_index.specs.Runs.{Alike, before, raise, AreTogether}
 
 -- an account's own rows in a symbol, or with `below` those of its subaccounts too
 pub record Key : Type 0 where
@@ -60,14 +61,62 @@ runs_in sums places = slice_index_or sums places []
 abbrev pub is_part : Row → ℕ → ℕ → Bool
 is_part row places end = (row.value.places == places) && nat_lt row.day.0 end
 
--- the sums with a row more
-abbrev pub Gains : Row → List (List Run) → List (List Run) → Type 0
-Gains row old new = (places end : ℕ) →
-    before (runs_in new places) end ≡ raise (is_part row places end) row.value.mantissa (before (runs_in old places) end)
+-- the sum of a key's amounts with a number of decimals before a day
+abbrev pub told : Key → List Cell → ℕ → ℕ → ℤ
+told key cells places end = before (runs_in (sums_of key cells) places) end
+
+-- the sums of two cells
+abbrev pub AreSummed : List (List Run) → List (List Run) → List (List Run) → Type 0
+AreSummed first second both =
+    (places : ℕ) → AreTogether (runs_in first places) (runs_in second places) (runs_in both places)
+
+-- a row's sums
+abbrev pub AreOfRow : Row → List (List Run) → Type 0
+AreOfRow row sums =
+    (places end : ℕ) → before (runs_in sums places) end ≡ raise (is_part row places end) row.value.mantissa (pos 0)
+
+-- some day's sum changes with the greatest number of decimals: no cell is kept that tells nothing
+abbrev pub HasDays : List (List Run) → Type 0
+HasDays sums = runs_in sums (length sums - 1) ≡ [] → ⊥
+
+-- sums of a cell: the last are not empty
+abbrev pub IsTrimmed : List (List Run) → Type 0
+IsTrimmed sums = (0 < length sums) → HasDays sums
+
+abbrev pub NoneEmpty : List Cell → Type 0
+NoneEmpty cells = AllByRecursion (λ cell. HasDays cell.1) cells
+
+-- what is kept: each key once and in turn, and none of which no sum is left
+pub record AreCells (cells : List Cell) : Type 0 where
+  pub ordered : IsOrdered cells
+  pub full : NoneEmpty cells
+
+-- cells that tell the sums of two lists of cells, modulo 2^128
+pub record AreJoined (first second both : List Cell) : Type 0 where
+  pub cells : AreCells both
+  pub sums : (key : Key) (places end : ℕ) →
+      Alike (told key both places end) (told key first places end +ℤ told key second places end)
 
 -- a row was added to the sums of the keys that pass a test
 pub record HasAdded (test : Key → Bool) (row : Row) (old new : List Cell) : Type 0 where
-  pub ordered : IsOrdered new
+  pub cells : AreCells new
   pub gained : (key : Key) (places end : ℕ) →
-      before (runs_in (sums_of key new) places) end
-      ≡ raise (test key && is_part row places end) row.value.mantissa (before (runs_in (sums_of key old) places) end)
+      Alike (told key new places end)
+      (raise (test key && is_part row places end) row.value.mantissa (told key old places end))
+
+-- which of two lists begins with the earlier key
+abbrev pub lesser_of : List Cell → List Cell → Ordering
+lesser_of [] others = Greater
+lesser_of (cell ∷ cells) [] = Less
+lesser_of (cell ∷ cells) (other ∷ others) = key_cmp cell.0 other.0
+
+-- a cell was put last, unless no sum of it is left
+abbrev pub HasPushed : Cell → List Cell → List Cell → Type 0
+HasPushed cell old new = ((cell.1 ≡ []) × (new ≡ old)) ⊎ (HasDays cell.1 × (new ≡ old ++ cell ∷ []))
+
+-- and so were the sums of two cells
+pub record HasPushedSum (first second : Cell) (old new : List Cell) : Type 0 where
+  pub cell : Cell
+  pub key : cell.0 ≡ first.0
+  pub sums : AreSummed first.1 second.1 cell.1
+  pub pushed : HasPushed cell old new

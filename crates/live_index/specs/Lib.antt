@@ -7,3 +7,4 @@ pub mod Runs
 pub mod Small
 pub mod Standing
 pub mod Told
+pub mod Trees

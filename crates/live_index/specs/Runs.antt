@@ -1,11 +1,15 @@
 -- Running sums by day, modulo 2^128.
-use Rattle.std.specs.Prelude.{◌≡◌, ℕ, zero, suc, ℤ, pos, ◌+◌, ◌≤◌, ◌+ℤ◌, Bool, true, false, nat_lt, ◌==◌, List, [], ◌∷◌, map, if◌then◌else◌}
-use Rattle.std.specs.List.{AllByRecursion}
-use Rattle.std.specs.Int.RustNames.{FitsSigned}
-use Rattle.std.specs.Ordering.{int_eq}
+use Rattle.std.specs.Prelude.{◌≡◌, ℕ, zero, suc, ℤ, pos, ◌+◌, ◌≤◌, ◌+ℤ◌, Bool, true, false, nat_lt, List, [], ◌∷◌, if◌then◌else◌}
+use Rattle.std.specs.declared.cmp.Ordering.{Ordering}
+use Rattle.std.specs.declared.cmp.Ordering.TheVariants.{Less, Greater}
+use Rattle.std.specs.Ordering.{int_eq, nat_cmp}
 use Rattle.std.specs.Int.{int_wrap, w128}
 use Rattle.hl_time.specs.declared.day.Day.{Day}
 use Rattle.live_index.specs.declared.runs.Run.{Run}
+
+-- two numbers are one modulo 2^128
+abbrev pub Alike : ℤ → ℤ → Type 0
+Alike a b = int_wrap w128 a ≡ int_wrap w128 b
 
 -- the days strictly rise, from the given one on
 abbrev pub IsRising : ℕ → List Run → Type 0
@@ -31,52 +35,28 @@ sum_at earlier runs zero = earlier
 sum_at earlier [] (suc place) = earlier
 sum_at earlier (run ∷ runs) (suc place) = sum_at run.sum runs place
 
--- an amount added to each sum
-abbrev pub raised : ℤ → List Run → List Run
-raised amount runs = map (λ (run : Run). record run { sum = int_wrap w128 (run.sum +ℤ amount) }) runs
-
--- an amount added to the sums from a place on
-abbrev pub raised_from : ℕ → ℤ → List Run → List Run
-raised_from zero amount runs = raised amount runs
-raised_from (suc place) amount [] = []
-raised_from (suc place) amount (run ∷ runs) = run ∷ raised_from place amount runs
-
 -- a day whose sum is that of the day before it is left out
 abbrev pub changed : ℤ → Run → List Run → List Run
 changed earlier run runs = if int_eq run.sum earlier then runs else run ∷ runs
 
--- the first of some days is the given one
-abbrev pub begins_on : Day → List Run → Bool
-begins_on day [] = false
-begins_on day (run ∷ runs) = run.day.0 == day.0
+-- an amount on a day
+abbrev pub one_run : Day → ℤ → List Run
+one_run day amount = changed (pos 0) (record { day = day; sum = amount }) []
 
--- the sum of a day, among the days from it on
-abbrev pub settled : ℤ → Run → List Run → List Run
-settled earlier run [] = changed earlier run []
-settled earlier run (next ∷ runs) =
-    if next.day.0 == run.day.0 then changed earlier next runs else changed earlier run (next ∷ runs)
+-- which of two lists begins with the earlier day
+abbrev pub earlier_of : List Run → List Run → Ordering
+earlier_of [] others = Greater
+earlier_of (run ∷ runs) [] = Less
+earlier_of (run ∷ runs) (other ∷ others) = nat_cmp run.day.0 other.day.0
 
--- an amount added to the sums from a day on
-abbrev pub with_amount : ℤ → Day → ℤ → List Run → List Run
-with_amount earlier day amount [] = settled earlier (record { day = day; sum = int_wrap w128 (earlier +ℤ amount) }) []
-with_amount earlier day amount (run ∷ runs) =
-    if nat_lt run.day.0 day.0 then run ∷ with_amount run.sum day amount runs
-    else settled earlier (record { day = day; sum = int_wrap w128 (earlier +ℤ amount) }) (raised amount (run ∷ runs))
+-- the sums of two lists of amounts
+abbrev pub AreTogether : List Run → List Run → List Run → Type 0
+AreTogether first second both = (end : ℕ) → before both end ≡ int_wrap w128 (before first end +ℤ before second end)
 
 -- a sum to which an amount is added where a test says so
 abbrev pub raise : Bool → ℤ → ℤ → ℤ
-raise true amount sum = int_wrap w128 (sum +ℤ amount)
+raise true amount sum = sum +ℤ amount
 raise false amount sum = sum
-
--- a day among the days from it on
-abbrev pub stood : Run → List Run → List Run
-stood run [] = run ∷ []
-stood run (next ∷ runs) = if next.day.0 == run.day.0 then next ∷ runs else run ∷ next ∷ runs
-
--- the days from one on, without it where its sum doesn't change
-abbrev pub left_out : ℤ → List Run → List Run
-left_out earlier [] = []
-left_out earlier (run ∷ runs) = changed earlier run runs
 
 -- no day's sum is that of the day before it
 abbrev pub EachChanges : ℤ → List Run → Type 0
@@ -87,4 +67,3 @@ EachChanges earlier (run ∷ runs) = (int_eq run.sum earlier ≡ false) × EachC
 pub record AreRuns (runs : List Run) : Type 0 where
   pub rising : IsRising 0 runs
   pub changes : EachChanges (pos 0) runs
-  pub numbers : AllByRecursion (λ run. FitsSigned w128 run.sum) runs

@@ -1,21 +1,26 @@
 //! An index of rows.
-ghost use Rattle.std.specs.Prelude.{◌≡◌, ◌+◌, ◌*◌, ◌^◌, ◌≤◌, ◌++◌, IfOk, [], List, map};
-ghost use Rattle.std.specs.Arc.{arc_value};
+ghost use Rattle.std.specs.Prelude.{◌≡◌, ◌+◌, ◌*◌, ◌^◌, ◌≤◌, ◌++◌, ◌-ℤ◌, IfOk, [], List};
+ghost use Rattle.std.specs.Option.{option_copied};
+ghost use Rattle.std.specs.Int.{int_wrap, w128};
+ghost use Rattle.live_index.specs.Cells.{runs_in, told_by};
+ghost use Rattle.live_index.specs.Runs.{before};
 ghost use Rattle.live_index.specs.Rows.{TurnoverFits, node_sum};
 ghost use Rattle.live_index.specs.Standing.{Preparing, standing};
 ghost use Rattle.live_index.specs.Told.{IsSum};
 
 use crate::cell::Cell;
-use crate::cells::{add_row, cell_of, shared, sum_between};
+use crate::cells::sums_of;
 use crate::nodes::{Nodes, sum_of};
 use crate::puts::Puts;
 use crate::row::Row;
+#[cfg(test)]
+use crate::tree::count;
+use crate::tree::{Tree, find, with_all};
 use hl_base::{Memory, Steps, Text};
 use hl_num::Dec;
 use std::alloc::Global;
 use std::marker::Model;
 use std::snapshot::Snapshot;
-use std::sync::Arc;
 use std::sync::ledger::Ledger;
 
 /// Sums of rows by account, symbol and day. Contracts see the rows that were put in, in turn.
@@ -23,12 +28,12 @@ use std::sync::ledger::Ledger;
 pub struct Index {
     alloc: Global,
     puts: Puts,
-    cells: Vec<Arc<Cell>>,
+    cells: Tree,
 }
 
 impl Model for Index {
-    ghost use Rattle.std.specs.Prelude.{List, map};
-    ghost use Rattle.std.specs.Arc.{arc_value};
+    ghost use Rattle.std.specs.Prelude.{List};
+    ghost use Rattle.live_index.specs.Trees.{cells_of};
     ghost use Rattle.live_index.specs.declared.row.Row.{Row};
     ghost use Rattle.live_index.specs.Kept.{IsKept};
     ghost use Rattle.live_index.specs.Puts.{rows_put};
@@ -37,7 +42,7 @@ impl Model for Index {
 
     ghost view = { λ i. rows_put i.puts };
 
-    ghost invariant = { λ i. IsKept (rows_put i.puts) (map arc_value i.cells.items) };
+    ghost invariant = { λ i. IsKept (rows_put i.puts) (cells_of i.cells) };
 }
 
 /// Rows that were prepared for an index. Contracts see the rows that it had, and those that it will have.
@@ -45,12 +50,11 @@ impl Model for Index {
 pub struct Prepared {
     from: Snapshot<Index>,
     puts: Puts,
-    cells: Vec<Arc<Cell>>,
+    cells: Tree,
 }
 
 impl Model for Prepared {
-    ghost use Rattle.std.specs.Prelude.{map};
-    ghost use Rattle.std.specs.Arc.{arc_value};
+    ghost use Rattle.live_index.specs.Trees.{cells_of};
     ghost use Rattle.live_index.specs.Standing.{Preparing};
     ghost use Rattle.live_index.specs.Kept.{IsKept};
     ghost use Rattle.live_index.specs.Puts.{rows_put};
@@ -59,7 +63,7 @@ impl Model for Prepared {
 
     ghost view = { λ p. record { before = p.from.value; after = rows_put p.puts } };
 
-    ghost invariant = { λ p. IsKept (rows_put p.puts) (map arc_value p.cells.items) };
+    ghost invariant = { λ p. IsKept (rows_put p.puts) (cells_of p.cells) };
 }
 
 impl Index {
@@ -70,7 +74,7 @@ impl Index {
         Ok(Index {
             alloc,
             puts: Puts::new(),
-            cells: Vec::new(alloc),
+            cells: Tree::Leaf,
         })
     }
 
@@ -78,18 +82,15 @@ impl Index {
     /// ones cancelled, keep the bound on the turnover of each symbol.
     pub fn prepare(&mut self, rows: &[Row]) -> Result<Prepared, Memory>
         requires { TurnoverFits (standing (self.old ++ rows.now)) }
-        ensures made { IfOk result (λ p. p ≡ record { before = self.old; after = self.old ++ rows.now }) }
+        ensures made { IfOk result (λ p. p
+            ≡ record { before = self.old; after = self.old ++ rows.now }) }
         ensures stays { self.new ≡ self.old }
     {
-        let mut cells = shared(self.alloc, &self.cells)?;
-        let mut puts = self.puts.same();
-        for row in rows {
-            add_row(self.alloc, &mut cells, row)?;
-            puts = puts.with(row);
-        }
+        let sums = sums_of(self.alloc, rows)?;
+        let cells = with_all(self.alloc, &self.cells, &sums)?;
         Ok(Prepared {
             from: Snapshot::of(self),
-            puts,
+            puts: self.puts.with_all(rows),
             cells,
         })
     }
@@ -111,7 +112,7 @@ impl Index {
     /// How many accounts have sums.
     #[cfg(test)]
     pub(crate) fn kept(&self) -> usize {
-        self.cells.len()
+        count(&self.cells)
     }
 
     /// The sum of the rows of a node.
@@ -123,7 +124,7 @@ impl Index {
     {
         let start = first_day(u64::from(at), level);
         let end = first_day(u64::from(at) + 1, level);
-        let cell = cell_of(&self.cells, account.as_bytes(), symbol, below);
+        let cell = find(&self.cells, account.as_bytes(), symbol, below);
         let mut sum = Dec::zero();
         for places in 0..37u8 {
             let mantissa = sum_between(cell, places, start, end);
@@ -160,5 +161,17 @@ impl Nodes for Index {
     ) -> Dec {
         steps.ask_node();
         self.sum(account, symbol, below, level, at)
+    }
+}
+
+/// The sum of a cell's amounts with a number of decimals from a day to before another, modulo 2^128.
+fn sum_between(found: Option<&Cell>, places: u8, start: u64, end: u64) -> i128
+    ensures { result ≡ int_wrap w128
+        (before (runs_in (told_by (option_copied found.entry)) places) end
+        -ℤ before (runs_in (told_by (option_copied found.entry)) places) start) }
+{
+    match found {
+        Some(cell) => cell.sum_between(places, start, end),
+        None => 0,
     }
 }

@@ -10,6 +10,7 @@ pub mod row;
 mod runs;
 #[cfg(test)]
 mod tests;
+mod tree;
 
 pub use index::{Index, Prepared};
 pub use nodes::{Nodes, upto};

@@ -1,5 +1,6 @@
 //! The rows that were put in, which only contracts see.
 ghost use Rattle.std.specs.Prelude.{◌≡◌, ◌++◌, ◌∷◌, []};
+ghost use Rattle.live_index.specs.Puts.{rows_put};
 
 use crate::row::Row;
 use std::marker::Model;
@@ -67,5 +68,16 @@ impl Puts {
                 row: Some(Snapshot::of(row)),
             }),
         }
+    }
+
+    /// These rows, and some more.
+    pub(crate) fn with_all(&self, rows: &[Row]) -> Puts
+        ensures { rows_put result ≡ rows_put self.now ++ rows.now }
+    {
+        let mut puts = self.same();
+        for row in rows {
+            puts = puts.with(row);
+        }
+        puts
     }
 }

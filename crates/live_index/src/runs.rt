@@ -1,11 +1,12 @@
 //! Sums of amounts by day.
-ghost use Rattle.std.specs.Prelude.{◌≡◌, ◌<◌, ◌≤◌, ◌++◌, ◌+ℤ◌, ◌-ℤ◌, [], pos, take, drop, length, vec_len, IfOk, OnOk, OnErr, IsTrue, ◌↔◌};
+ghost use Rattle.std.specs.Prelude.{◌≡◌, ◌<◌, ◌≤◌, ◌++◌, ◌+ℤ◌, ◌-ℤ◌, ◌⊎◌, [], pos, drop, length, IfOk, OnOk, IsTrue, ◌↔◌};
 ghost use Rattle.std.specs.Int.{int_wrap, w128};
-ghost use Rattle.live_index.specs.Runs.{IsRising, before, place_in, with_amount, stood, left_out, sum_at, raised_from, begins_on, AreRuns};
+ghost use Rattle.live_index.specs.Runs.{IsRising, before, place_in, sum_at, changed, one_run, earlier_of, AreTogether, AreRuns};
 
 use hl_base::Memory;
 use hl_time::Day;
 use std::alloc::Global;
+use std::cmp::Ordering;
 use std::marker::Model;
 
 /// The sum of the amounts up to a day, modulo 2^128.
@@ -43,12 +44,23 @@ impl Runs {
         }
     }
 
-    /// A copy.
-    pub(crate) fn copy(&self, alloc: Global) -> Result<Runs, Memory>
-        ensures { IfOk result (λ copy. copy ≡ self.now) }
+    /// An amount on a day, or none where it is zero.
+    pub(crate) fn of(alloc: Global, day: Day, amount: i128) -> Result<Runs, Memory>
+        ensures { IfOk result (λ runs. runs ≡ one_run day amount) }
     {
         Ok(Runs {
-            items: Vec::from_slice(alloc, self.items.as_slice())?,
+            items: one(alloc, day, amount)?,
+        })
+    }
+
+    /// The sums of two lists of amounts.
+    pub(crate) fn sum(alloc: Global, first: &[Run], second: &[Run]) -> Result<Runs, Memory>
+        requires first { AreRuns first.now }
+        requires second { AreRuns second.now }
+        ensures { IfOk result (λ both. AreTogether first.now second.now both) }
+    {
+        Ok(Runs {
+            items: together(alloc, first, second)?,
         })
     }
 
@@ -58,6 +70,14 @@ impl Runs {
         self.items.is_empty()
     }
 
+    /// The days on which the sum changes.
+    pub(crate) fn items(&self) -> &[Run]
+        ensures all { result.now ≡ self.now }
+        ensures kept { AreRuns self.now }
+    {
+        &self.items
+    }
+
     /// The sum of the amounts before a day, modulo 2^128.
     pub(crate) fn before(&self, end: u64) -> i128
         ensures { result ≡ before self.now end }
@@ -65,14 +85,86 @@ impl Runs {
         let at = place_of(&self.items, end);
         sum_at(&self.items, at)
     }
+}
 
-    /// Adds an amount on a day.
-    pub(crate) fn add(&mut self, day: Day, amount: i128) -> Result<(), Memory>
-        ensures value { OnOk result (self.new ≡ with_amount (pos 0) day amount self.old) }
-        ensures rising { IsRising 0 self.old }
-    {
-        add_to(&mut self.items, day, amount)
+/// An amount on a day, or none where it is zero.
+fn one(alloc: Global, day: Day, amount: i128) -> Result<Vec<Run>, Memory>
+    ensures value { IfOk result (λ runs. runs.items ≡ one_run day amount) }
+    ensures kept { IfOk result (λ runs. AreRuns runs.items) }
+{
+    let mut runs = Vec::new(alloc);
+    push_changed(&mut runs, Run { day, sum: amount }, 0)?;
+    Ok(runs)
+}
+
+/// Puts a day last, unless its sum is that of the day before it.
+fn push_changed(runs: &mut Vec<Run>, run: Run, earlier: i128) -> Result<(), Memory>
+    ensures { OnOk result (runs.new.items ≡ runs.old.items ++ changed earlier run []) }
+{
+    if run.sum != earlier {
+        runs.push(run)?;
     }
+    Ok(())
+}
+
+/// The sums of two lists of amounts, by one walk along both.
+fn together(alloc: Global, first: &[Run], second: &[Run]) -> Result<Vec<Run>, Memory>
+    requires first { AreRuns first.now }
+    requires second { AreRuns second.now }
+    ensures sums { IfOk result (λ both. AreTogether first.now second.now both.items) }
+    ensures kept { IfOk result (λ both. AreRuns both.items) }
+{
+    let mut both = Vec::with_capacity(alloc, first.len().max(second.len()))?;
+    let mut at = 0;
+    let mut other = 0;
+    while at < first.len() || other < second.len() {
+        let earlier = sum_of_both(first, at, second, other);
+        match earlier_of(first, at, second, other) {
+            Ordering::Less => {
+                let day = first[at].day;
+                at += 1;
+                let sum = sum_of_both(first, at, second, other);
+                push_changed(&mut both, Run { day, sum }, earlier)?;
+            }
+            Ordering::Equal => {
+                let day = first[at].day;
+                at += 1;
+                other += 1;
+                let sum = sum_of_both(first, at, second, other);
+                push_changed(&mut both, Run { day, sum }, earlier)?;
+            }
+            Ordering::Greater => {
+                let day = second[other].day;
+                other += 1;
+                let sum = sum_of_both(first, at, second, other);
+                push_changed(&mut both, Run { day, sum }, earlier)?;
+            }
+        }
+    }
+    Ok(both)
+}
+
+/// Which of two lists has the earlier day next.
+fn earlier_of(first: &[Run], at: usize, second: &[Run], other: usize) -> Ordering
+    ensures { result ≡ earlier_of (drop at first.now) (drop other second.now) }
+{
+    if first.len() <= at {
+        Ordering::Greater
+    } else if second.len() <= other {
+        Ordering::Less
+    } else {
+        first[at].day.0.cmp(&second[other].day.0)
+    }
+}
+
+/// The sum of two lists up to places of theirs, modulo 2^128.
+fn sum_of_both(first: &[Run], at: usize, second: &[Run], other: usize) -> i128
+    requires first { at ≤ length first.now }
+    requires second { other ≤ length second.now }
+    ensures { result ≡ int_wrap w128
+        (sum_at (pos 0) first.now at +ℤ sum_at (pos 0) second.now other) }
+{
+    wrapped_sum(sum_at(first, at), sum_at(second, other))
 }
 
 /// How many of the days come before a day.
@@ -99,61 +191,6 @@ fn sum_at(runs: &[Run], place: usize) -> i128
     ensures { result ≡ sum_at (pos 0) runs.now place }
 {
     if place == 0 { 0 } else { runs[place - 1].sum }
-}
-
-/// Adds an amount on a day.
-fn add_to(runs: &mut Vec<Run>, day: Day, amount: i128) -> Result<(), Memory>
-    requires { AreRuns runs.old.items }
-    ensures value { OnOk result (runs.new.items ≡ with_amount (pos 0) day amount runs.old.items) }
-    ensures kept { AreRuns runs.new.items }
-{
-    let at = place_of(runs, u64::from(day.0));
-    let earlier = sum_at(runs, at);
-    let run = Run { day, sum: earlier };
-    stand(runs, at, run)?;
-    raise_from(runs, at, amount);
-    leave_out(runs, at, earlier);
-    Ok(())
-}
-
-/// Adds an amount to the sums from a place on.
-fn raise_from(runs: &mut Vec<Run>, place: usize, amount: i128)
-    ensures { runs.new.items ≡ raised_from place amount runs.old.items }
-{
-    for at in place..runs.len() {
-        runs[at].sum = wrapped_sum(runs[at].sum, amount);
-    }
-}
-
-/// Puts the sum of a day at its place, unless the day stands there.
-fn stand(runs: &mut Vec<Run>, place: usize, run: Run) -> Result<(), Memory>
-    requires { place ≤ vec_len runs.old }
-    ensures ok { OnOk result (runs.new.items
-        ≡ take place runs.old.items ++ stood run (drop place runs.old.items)) }
-    ensures inside { OnOk result (place < vec_len runs.new) }
-    ensures err { OnErr result (runs.new.items ≡ runs.old.items) }
-{
-    if !is_day_at(runs, place, run.day) {
-        runs.insert(place, run)?;
-    }
-    Ok(())
-}
-
-/// Takes the day at a place away where its sum is that of the day before.
-fn leave_out(runs: &mut Vec<Run>, place: usize, earlier: i128)
-    requires { place < vec_len runs.old }
-    ensures { runs.new.items ≡ take place runs.old.items ++ left_out earlier (drop place runs.old.items) }
-{
-    if runs[place].sum == earlier {
-        let _ = runs.remove(place);
-    }
-}
-
-/// Whether a day stands at a place.
-fn is_day_at(runs: &[Run], place: usize, day: Day) -> bool
-    ensures { result ≡ begins_on day (drop place runs.now) }
-{
-    place < runs.len() && runs[place].day.0 == day.0
 }
 
 /// The sum modulo 2^128.

@@ -1,6 +1,6 @@
-use Rattle.std.proofs.Common.{◌≡◌, ℕ, ℤ, pos, ◌+◌, ◌*◌, ◌^◌, ◌≤◌, ◌-ℤ◌, ◌+ℤ◌, List, filter, Bool, map, refl, ap, subst, ◌∙◌, sym, arith}
+use Rattle.std.proofs.Common.{◌≡◌, ℕ, ℤ, pos, ◌+◌, ◌*◌, ◌^◌, ◌≤◌, ◌-ℤ◌, ◌+ℤ◌, List, filter, Bool, refl, ap, subst, ◌∙◌, sym, arith}
 use Rattle.std.proofs.lemmas.Int.{to_z-of_z}
-use Rattle.std.specs.Arc.{arc_value}
+use Rattle.live_index.specs.Trees.{cells_of}
 use Rattle.std.specs.Int.{int_wrap}
 use Rattle.std.specs.Option.{option_copied}
 use Rattle.std.specs.List.{AllByRecursion}
@@ -51,8 +51,8 @@ invariant_of-sum_of c =
     let fits : TurnoverFits told = subst (λ (rs : List Row). TurnoverFits (standing rs)) c.self.view_is c.self.invariant.fits in
     let clean : to_z w128 (of_z w128 c.sum_between-mantissa.result) ≡ c.sum_between-mantissa.result = to_z-of_z w128 c.sum_between-mantissa.result (record { sfits = c.sum_between-mantissa.type_inv }) in
     let is : x ≡ mantissas c.args.account.now c.args.symbol.now c.args.below c.args.level c.args.at told c.loop-places.places =
-    part-of (rows_put c.self.inside.puts) c.args.self.now (map arc_value c.deref.result.now) (map arc_value c.self.inside.cells.items) c.args.account.now c.args.symbol.now c.as_bytes.result.now c.args.below c.args.level c.args.at c.loop-places.places c.first_day-start.result c.first_day-end.result (told_by (option_copied c.cell_of-cell.result)) x
-    c.self.invariant.sums c.self.invariant.fits c.self.view_is (ap (map arc_value) c.deref.ensures.value) c.cell_of-cell.ensures c.as_bytes.ensures (c.first_day-start.ensures ∙ ap (λ (n : ℕ). n * 2 ^ c.args.level) c.from.ensures) (c.first_day-end.ensures ∙ ap (λ (n : ℕ). (n + 1) * 2 ^ c.args.level) c.from-2.ensures) c.sum_between-mantissa.ensures in
+    part-of (rows_put c.self.inside.puts) c.args.self.now (cells_of c.self.inside.cells) (cells_of c.self.inside.cells) c.args.account.now c.args.symbol.now c.as_bytes.result.now c.args.below c.args.level c.args.at c.loop-places.places c.first_day-start.result c.first_day-end.result (told_by (option_copied c.find-cell.result)) x
+    c.self.invariant.sums c.self.invariant.fits c.self.view_is refl (c.find-cell.ensures c.self.invariant.sums.cells.ordered) c.as_bytes.ensures (c.first_day-start.ensures ∙ ap (λ (n : ℕ). n * 2 ^ c.args.level) c.from.ensures) (c.first_day-end.ensures ∙ ap (λ (n : ℕ). (n + 1) * 2 ^ c.args.level) c.from-2.ensures) c.sum_between-mantissa.ensures in
     let P : ℤ → Type 0 = λ z. IsInBounds z c.loop-places.places in
     subst P (sym clean) (part-bounds c.args.account.now c.args.symbol.now c.args.below c.args.level c.args.at told c.loop-places.places x fits is c.loop-places-test.true)
 
@@ -63,8 +63,8 @@ sum_of-sum-requires c = λ few_sum few.
     let fits : TurnoverFits told = subst (λ (rs : List Row). TurnoverFits (standing rs)) c.self.view_is c.self.invariant.fits in
     let clean : to_z w128 (of_z w128 c.sum_between-mantissa.result) ≡ c.sum_between-mantissa.result = to_z-of_z w128 c.sum_between-mantissa.result (record { sfits = c.sum_between-mantissa.type_inv }) in
     let is : x ≡ mantissas c.args.account.now c.args.symbol.now c.args.below c.args.level c.args.at told c.loop-places.places =
-    part-of (rows_put c.self.inside.puts) c.args.self.now (map arc_value c.deref.result.now) (map arc_value c.self.inside.cells.items) c.args.account.now c.args.symbol.now c.as_bytes.result.now c.args.below c.args.level c.args.at c.loop-places.places c.first_day-start.result c.first_day-end.result (told_by (option_copied c.cell_of-cell.result)) x
-    c.self.invariant.sums c.self.invariant.fits c.self.view_is (ap (map arc_value) c.deref.ensures.value) c.cell_of-cell.ensures c.as_bytes.ensures (c.first_day-start.ensures ∙ ap (λ (n : ℕ). n * 2 ^ c.args.level) c.from.ensures) (c.first_day-end.ensures ∙ ap (λ (n : ℕ). (n + 1) * 2 ^ c.args.level) c.from-2.ensures) c.sum_between-mantissa.ensures in
+    part-of (rows_put c.self.inside.puts) c.args.self.now (cells_of c.self.inside.cells) (cells_of c.self.inside.cells) c.args.account.now c.args.symbol.now c.as_bytes.result.now c.args.below c.args.level c.args.at c.loop-places.places c.first_day-start.result c.first_day-end.result (told_by (option_copied c.find-cell.result)) x
+    c.self.invariant.sums c.self.invariant.fits c.self.view_is refl (c.find-cell.ensures c.self.invariant.sums.cells.ordered) c.as_bytes.ensures (c.first_day-start.ensures ∙ ap (λ (n : ℕ). n * 2 ^ c.args.level) c.from.ensures) (c.first_day-end.ensures ∙ ap (λ (n : ℕ). (n + 1) * 2 ^ c.args.level) c.from-2.ensures) c.sum_between-mantissa.ensures in
     ap (λ (z : ℤ). add_fits c.loop-places.sum (record { mantissa = z; places = c.loop-places.places })) clean
     ∙ can-add-part c.args.account.now c.args.symbol.now c.args.below c.args.level c.args.at told c.loop-places.places x c.loop-places.sum fits is (nonzero-of x c.if-mantissa-ne0.true) c.loop-places.invariant few_sum few
 
@@ -75,8 +75,8 @@ loop-places-preserved c =
     let fits : TurnoverFits told = subst (λ (rs : List Row). TurnoverFits (standing rs)) c.self.view_is c.self.invariant.fits in
     let clean : to_z w128 (of_z w128 c.sum_between-mantissa.result) ≡ c.sum_between-mantissa.result = to_z-of_z w128 c.sum_between-mantissa.result (record { sfits = c.sum_between-mantissa.type_inv }) in
     let is : x ≡ mantissas c.args.account.now c.args.symbol.now c.args.below c.args.level c.args.at told c.loop-places.places =
-    part-of (rows_put c.self.inside.puts) c.args.self.now (map arc_value c.deref.result.now) (map arc_value c.self.inside.cells.items) c.args.account.now c.args.symbol.now c.as_bytes.result.now c.args.below c.args.level c.args.at c.loop-places.places c.first_day-start.result c.first_day-end.result (told_by (option_copied c.cell_of-cell.result)) x
-    c.self.invariant.sums c.self.invariant.fits c.self.view_is (ap (map arc_value) c.deref.ensures.value) c.cell_of-cell.ensures c.as_bytes.ensures (c.first_day-start.ensures ∙ ap (λ (n : ℕ). n * 2 ^ c.args.level) c.from.ensures) (c.first_day-end.ensures ∙ ap (λ (n : ℕ). (n + 1) * 2 ^ c.args.level) c.from-2.ensures) c.sum_between-mantissa.ensures in
+    part-of (rows_put c.self.inside.puts) c.args.self.now (cells_of c.self.inside.cells) (cells_of c.self.inside.cells) c.args.account.now c.args.symbol.now c.as_bytes.result.now c.args.below c.args.level c.args.at c.loop-places.places c.first_day-start.result c.first_day-end.result (told_by (option_copied c.find-cell.result)) x
+    c.self.invariant.sums c.self.invariant.fits c.self.view_is refl (c.find-cell.ensures c.self.invariant.sums.cells.ordered) c.as_bytes.ensures (c.first_day-start.ensures ∙ ap (λ (n : ℕ). n * 2 ^ c.args.level) c.from.ensures) (c.first_day-end.ensures ∙ ap (λ (n : ℕ). (n + 1) * 2 ^ c.args.level) c.from-2.ensures) c.sum_between-mantissa.ensures in
     elim c.if-mantissa-ne0.branch [
       | then-mantissa-ne0 w ↦ rw w.sum-is (part-added c.args.account.now c.args.symbol.now c.args.below c.args.level c.args.at told c.loop-places.places x c.loop-places.sum w.sum_of-sum.result is (nonzero-of x w.if-mantissa-ne0.true) c.loop-places.invariant
           (w.sum_of-sum.ensures.value ∙ ap (λ (z : ℤ). units_of c.loop-places.sum +ℤ units_of (record { mantissa = z; places = c.loop-places.places })) clean) w.sum_of-sum.ensures.places)
