@@ -159,12 +159,6 @@ before-standing rows account symbol below end =
     standing-sum (λ row. units_of row.value) units-cancel units-zero (λ own its day places. bytes_eq its symbol && is_of account below own && nat_lt day end) rows
 
 -- After more rows a sum is the one before and theirs.
-pub node-after : (rows more : List Row) (account symbol : List ℕ) (below : Bool) (level at : ℕ) → node_sum (standing (rows ++ more)) account symbol below level at ≡ node_sum (standing rows) account symbol below level at +ℤ node_sum more account symbol below level at
-node-after rows more account symbol below level at =
-    node-standing (rows ++ more) account symbol below level at
-    ∙ sum-append (λ row. units_of row.value) (λ row. counts account symbol below row && (row.day.0 / 2 ^ level == at)) rows more
-    ∙ ap (λ (z : ℤ). z +ℤ node_sum more account symbol below level at) (sym (node-standing rows account symbol below level at))
-
 pub before-after : (rows more : List Row) (account symbol : List ℕ) (below : Bool) (end : ℕ) → sum_before (standing (rows ++ more)) account symbol below end ≡ sum_before (standing rows) account symbol below end +ℤ sum_before more account symbol below end
 before-after rows more account symbol below end =
     before-standing (rows ++ more) account symbol below end

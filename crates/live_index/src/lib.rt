@@ -4,6 +4,7 @@
 mod cell;
 mod cells;
 pub mod index;
+mod laws;
 pub mod nodes;
 mod puts;
 pub mod row;
@@ -13,5 +14,6 @@ mod tests;
 mod tree;
 
 pub use index::{Index, Prepared};
+pub use laws::standing_laws;
 pub use nodes::{Nodes, upto};
 pub use row::Row;
