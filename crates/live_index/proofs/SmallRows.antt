@@ -51,23 +51,23 @@ with_rows-bounded symbol (row ∷ rows) stood n small h k =
     let rest = with_rows-bounded symbol rows (with_row stood row) (n + 1) small.1 (omega (arith, one.turnover, value, h)) (omega (arith, one.places, places, k)) in
     (omega (arith, rest.0), rest.1)
 
-few_fit : (t p n : ℕ) → t ≤ n * (2 ^ 31 * 10 ^ 36) → p ≤ 2 → n ≤ 4000 → t < 2 ^ 127 * 10 ^ (36 - p)
+few_fit : (t p n : ℕ) → t ≤ n * (2 ^ 31 * 10 ^ 36) → p ≤ 2 → n ≤ 4000000 → t < 2 ^ 127 * 10 ^ (36 - p)
 few_fit t p n h k l =
     let power : 10 ^ 34 ≤ 10 ^ (36 - p) = pow-le-pow_right {n = 10} (lit< tt) {i = 34} {j = 36 - p} (omega arith) in
     let larger : 2 ^ 127 * 10 ^ 34 ≤ 2 ^ 127 * 10 ^ (36 - p) = mul-le-mul_left (2 ^ 127) power in
-    let whole : n * (2 ^ 31 * 10 ^ 36) ≤ 4000 * (2 ^ 31 * 10 ^ 36) = mul-le-mul_right (2 ^ 31 * 10 ^ 36) l in
-    let room : 4000 * (2 ^ 31 * 10 ^ 36) < 2 ^ 127 * 10 ^ 34 = lit< tt in
+    let whole : n * (2 ^ 31 * 10 ^ 36) ≤ 4000000 * (2 ^ 31 * 10 ^ 36) = mul-le-mul_right (2 ^ 31 * 10 ^ 36) l in
+    let room : 4000000 * (2 ^ 31 * 10 ^ 36) < 2 ^ 127 * 10 ^ 34 = lit< tt in
     omega (arith, larger, whole, room, h)
 
-small-append : (rows more : List Row) → AllSmall rows → AllSmall more → AllSmall (rows ++ more)
+pub small-append : (rows more : List Row) → AllSmall rows → AllSmall more → AllSmall (rows ++ more)
 small-append [] more h k = k
 small-append (row ∷ rows) more h k = (h.0, small-append rows more h.1 k)
 
-length-both : (rows more : List Row) → length (rows ++ more) ≡ length rows + length more
+pub length-both : (rows more : List Row) → length (rows ++ more) ≡ length rows + length more
 length-both [] more = omega arith
 length-both (row ∷ rows) more = omega (arith, length-both rows more)
 
-fits : (rows : List Row) → AllSmall rows → length rows ≤ 4000 → TurnoverFits (standing rows)
+fits : (rows : List Row) → AllSmall rows → length rows ≤ 4000000 → TurnoverFits (standing rows)
 fits rows small few = λ symbol.
     let bound = with_rows-bounded symbol rows [] 0 small (omega arith) (omega arith) in
     few_fit _ _ (0 + length rows) bound.0 bound.1 (omega (arith, few))

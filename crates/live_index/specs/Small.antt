@@ -11,7 +11,7 @@ abbrev pub AllSmall : List Row → Type 0
 AllSmall [] = Unit {0}
 AllSmall (row ∷ rows) = IsSmall row × AllSmall rows
 
--- at most a thousand such rows
+-- at most a million such rows
 pub record AreSmall (rows : List Row) : Type 0 where
-  pub few : length rows ≤ 1000
+  pub few : length rows ≤ 1000000
   pub small : AllSmall rows

@@ -1,8 +1,10 @@
 //! Sums of an index against plain sums.
-ghost use Rattle.std.specs.Prelude.{◌≡◌, ◌<◌, ◌≤◌, ◌^◌, IfOk};
+ghost use Rattle.std.specs.Prelude.{◌≡◌, ◌<◌, ◌≤◌, ◌^◌, ◌++◌, IfOk};
+ghost use Rattle.live_index.specs.Rows.{TurnoverFits};
+ghost use Rattle.live_index.specs.Standing.{standing};
 ghost use Rattle.live_index.specs.Small.{IsSmall, AreSmall};
 
-use crate::{Index, Nodes, Row, upto};
+use crate::{Index, Nodes, Row, standing_laws, upto};
 use hl_base::{Memory, Steps, Text};
 use hl_num::Dec;
 use hl_time::Day;
@@ -14,8 +16,16 @@ use std::test::Fail;
 
 const ACCOUNTS: [&str; 4] = ["assets", "assets:cash", "assets:cash:purse", "assetsless"];
 
-/// A row of a number of cents.
-fn row(alloc: Global, account: &str, symbol: &str, day: u32, cents: i32) -> Result<Row, Memory>
+/// A row of a number of units of 10^-places.
+fn row(
+    alloc: Global,
+    account: &str,
+    symbol: &str,
+    day: u32,
+    units: i32,
+    places: u8,
+) -> Result<Row, Memory>
+    requires { places ≤ 2 }
     ensures { IfOk result (λ row. IsSmall row) }
 {
     Ok(Row {
@@ -23,27 +33,38 @@ fn row(alloc: Global, account: &str, symbol: &str, day: u32, cents: i32) -> Resu
         symbol: Text::copied(alloc, symbol)?,
         day: Day(day),
         value: Dec {
-            mantissa: i128::from(cents),
-            places: 2,
+            mantissa: i128::from(units),
+            places,
         },
     })
 }
 
-/// Rows of random accounts, days and values, or the same negated.
+/// The day of a row: of the first ones the last day of a first node of each level and the one behind it, and then
+/// random days.
+fn day_of(next: u32, seed: u64) -> u32 {
+    if next < 44 {
+        let end = 1u32.wrapping_shl(next / 2);
+        end.saturating_sub(next % 2).max(1)
+    } else {
+        ((seed >> 20) % 3_652_059) as u32 + 1
+    }
+}
+
+/// Rows of random accounts, values and numbers of decimals, at the ends of levels and on random days, or the same negated.
 fn some_rows(alloc: Global, negated: bool) -> Result<Vec<Row>, Memory>
     ensures { IfOk result (λ rows. AreSmall rows.items) }
 {
     let mut rows = Vec::new(alloc);
     let mut seed = 7_u64;
-    for next in 0..40u32 {
-        let _ = next;
+    for next in 0..84u32 {
         seed = seed.wrapping_mul(6_364_136_223_846_793_005).wrapping_add(1);
         let account = ACCOUNTS[((seed >> 40) % 4) as usize];
         let symbol = if (seed >> 50) % 3 == 0 { "USD" } else { "EUR" };
-        let day = ((seed >> 20) % 3_652_059) as u32 + 1;
-        let cents = ((seed >> 45) % 10_000) as i32 - 5_000;
-        let cents = if negated { -cents } else { cents };
-        let row = row(alloc, account, symbol, day, cents)?;
+        let day = day_of(next, seed);
+        let units = ((seed >> 45) % 10_000) as i32 - 5_000;
+        let units = if negated { -units } else { units };
+        let places = ((seed >> 33) % 3) as u8;
+        let row = row(alloc, account, symbol, day, units, places)?;
         rows.push(row)?;
     }
     Ok(rows)
@@ -66,12 +87,21 @@ fn is_asked(row: &Row, below: bool) -> bool {
     row.symbol.as_str() == "EUR" && (account == "assets" || (below && account != "assetsless"))
 }
 
+/// A value of at most two decimals in cents.
+fn cents(value: Dec) -> i128 {
+    match value.places {
+        0 => value.mantissa.wrapping_mul(100),
+        1 => value.mantissa.wrapping_mul(10),
+        _ => value.mantissa,
+    }
+}
+
 /// The plain sum of the cents of `assets`, with or without its subaccounts, before a day.
 fn plain_sum(rows: &[Row], end: u32, below: bool) -> i128 {
     let mut sum = 0_i128;
     for row in rows {
         if row.day.0 < end && is_asked(row, below) {
-            sum = sum.wrapping_add(row.value.mantissa);
+            sum = sum.wrapping_add(cents(row.value));
         }
     }
     sum
@@ -155,7 +185,16 @@ fn names(alloc: Global) -> Result<(Text, Text), Memory> {
     Ok((Text::copied(alloc, "assets")?, Text::copied(alloc, "EUR")?))
 }
 
-/// Puts rows in, prepares their negations, asks for the sums, and puts the negations in.
+/// Prepares rows and drops what was prepared.
+fn only_prepared(index: &mut Index, rows: &[Row]) -> Result<(), Memory>
+    requires { TurnoverFits (standing (index.old ++ rows.now)) }
+    ensures { index.new ≡ index.old }
+{
+    let _dropped = index.prepare(rows)?;
+    Ok(())
+}
+
+/// Puts rows in, prepares their negations and drops them, asks for the sums, and prepares and puts the negations in.
 fn in_and_out<L: Ledger>(alloc: Global, blank: Blank) -> Result<(bool, bool), Memory>
     requires name { blank.name ≡ L.name }
     requires parts { blank.parts ≡ L.parts }
@@ -166,8 +205,9 @@ fn in_and_out<L: Ledger>(alloc: Global, blank: Blank) -> Result<(bool, bool), Me
     let rows = some_rows(alloc, false)?;
     let negated = some_rows(alloc, true)?;
     let mut index = index_of(alloc, rows.as_slice())?;
-    let prepared = index.prepare(negated.as_slice())?;
+    only_prepared(&mut index, negated.as_slice())?;
     let stays = are_plain(&index, rows.as_slice(), &names, &mut steps);
+    let prepared = index.prepare(negated.as_slice())?;
     index.put(prepared);
     let goes = are_zero(&index, rows.as_slice(), &names, &mut steps) && index.kept() == 0;
     Ok((stays, goes))
@@ -175,8 +215,9 @@ fn in_and_out<L: Ledger>(alloc: Global, blank: Blank) -> Result<(bool, bool), Me
 
 #[test]
 fn sums_at_the_ends_of_levels(rt: HostRuntime) -> Result<(), Fail> {
+    standing_laws();
     let (stays, goes) = in_and_out::<Brand>(rt.alloc(), Blank::new(3))?;
-    assert!(rt; stays, "a prepared row changes no sum");
+    assert!(rt; stays, "rows that were prepared and dropped change no sum");
     assert!(rt; goes, "negated rows leave nothing");
     Ok(())
 }
