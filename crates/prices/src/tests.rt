@@ -192,6 +192,37 @@ fn a_product_that_is_too_great(rt: HostRuntime) -> Result<(), Fail> {
     Ok(())
 }
 
+/// Prices whose product with the last is just below 2^127, and 2^127.
+const NEAR: [Row; 3] = [
+    Row(
+        1,
+        "A",
+        85_070_591_730_234_615_865_843_651_857_942_052_863,
+        0,
+        "C",
+    ),
+    Row(
+        1,
+        "B",
+        85_070_591_730_234_615_865_843_651_857_942_052_864,
+        0,
+        "C",
+    ),
+    Row(1, "C", 2, 0, "T"),
+];
+
+#[test]
+fn a_product_just_below_the_bound_and_at_it(rt: HostRuntime) -> Result<(), Fail> {
+    let below = 170_141_183_460_469_231_731_687_303_715_884_105_726;
+    let so_far = RateRange {
+        num: 85_070_591_730_234_615_865_843_651_857_942_052_864,
+        den: 1,
+    };
+    assert_eq!(rt; rate_of(rt.alloc(), &NEAR, "A", "T", 1)?, rate(below, 1));
+    assert_eq!(rt; rate_of(rt.alloc(), &NEAR, "B", "T", 1)?, Err(so_far));
+    Ok(())
+}
+
 #[test]
 fn values_are_rounded_once(rt: HostRuntime) -> Result<(), Fail> {
     let amount = Dec::new(125, 2).ok_or("a number")?;
@@ -247,5 +278,30 @@ fn a_denominator_at_the_bound(rt: HostRuntime) -> Result<(), Fail> {
         worth(1, 1, Rate { num: 1, den: next }),
         Some(Err(DivRange { num: 1, den: next }))
     );
+    Ok(())
+}
+
+/// What a whole number of a symbol is worth in a target by a table, with two decimals.
+fn worth_by_table(
+    alloc: Global,
+    units: i128,
+    from: &str,
+    target: &str,
+) -> Result<Option<Result<Dec, DivRange>>, Memory> {
+    match rate_of(alloc, &WORKED, from, target, 1)? {
+        Ok(Some(rate)) => Ok(worth(units, 0, rate)),
+        _ => Ok(None),
+    }
+}
+
+#[test]
+fn worked_amounts_by_the_rates_of_a_table(rt: HostRuntime) -> Result<(), Fail> {
+    let six = Dec::new(600, 2).ok_or("a number")?;
+    let half = Dec::new(50, 2).ok_or("a number")?;
+    let ten = Dec::new(1000, 2).ok_or("a number")?;
+    assert_eq!(rt; worth_by_table(rt.alloc(), 3, "A", "EUR")?, Some(Ok(six)));
+    assert_eq!(rt; worth_by_table(rt.alloc(), 2, "B", "EUR")?, Some(Ok(half)));
+    assert_eq!(rt; worth_by_table(rt.alloc(), 1, "C", "EUR")?, Some(Ok(ten)));
+    assert_eq!(rt; worth_by_table(rt.alloc(), 1, "X", "EUR")?, None);
     Ok(())
 }
