@@ -1,0 +1,9 @@
+use Rattle.std.proofs.Common.{◌≡◌, drop}
+use Rattle.std.specs.List.{flat_map}
+use Rattle.report_table.specs.Cells.{widest}
+use Rattle.report_table.specs.Tables.{cells_at, column_width}
+use Rattle.report_table.proofs.widths.column_width.Given as goal
+
+abbrev pub invariant-loop-line : goal.invariant-loop-line
+invariant-loop-line l =
+    widest l.width (flat_map (cells_at l.at) (drop l.line-index l.lines)) ≡ column_width l.lines l.at
