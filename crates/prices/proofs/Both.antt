@@ -1,13 +1,12 @@
 -- Each pair stands in both directions.
-use Rattle.std.proofs.Common.{◌≡◌, ℕ, zero, suc, ◌+◌, ◌<◌, Bool, true, false, ◌&&◌, ◌||◌, not, List, [], ◌∷◌, ◌++◌, length, take, get_or, Option, Some, None, Result, Ok, Err, ◌⊎◌, inl, inr, refl, sym, ap, subst, ◌∙◌, arith, add-one}
+use Rattle.std.proofs.Common.{◌≡◌, ℕ, zero, suc, ◌+◌, ◌<◌, Bool, true, false, ◌||◌, not, List, [], ◌∷◌, ◌++◌, length, take, get_or, Option, Some, None, Result, Ok, Err, ◌⊎◌, inl, inr, refl, sym, ap, subst, ◌∙◌, arith, add-one}
 use Rattle.std.specs.Prelude.{OnOk}
-use Rattle.std.specs.List.{list_any}
 use Rattle.std.specs.List.Sorted.{IsPermutation}
 use Rattle.std.proofs.lemmas.List.Folds.{list_any-append}
 use Rattle.std.proofs.lemmas.List.Sorted.{list_any-IsPermutation}
 use Rattle.prices.specs.declared.quote.Quote.{Quote}
 use Rattle.prices.specs.Index.{is_pair, has_pair, HasBoth, Stands, is_new, turned_round, with_both}
-use Rattle.prices.proofs.Texts.{told, true≢false}
+use Rattle.prices.proofs.Texts.{true≢false}
 use Rattle.prices.proofs.Keys.{pair_symbol, pair_target, pair_from}
 
 or_first : (a b : Bool) → a ≡ true → (a || b) ≡ true

@@ -1,12 +1,11 @@
 -- The way that is chosen goes along a least chain.
-use Rattle.std.proofs.Common.{◌≡◌, ℕ, zero, suc, ◌+◌, ◌<◌, ◌≤◌, Bool, true, false, ◌&&◌, cond, List, [], ◌∷◌, ◌++◌, length, Option, Some, None, Result, Ok, Err, ◌⊎◌, inl, inr, refl, sym, ap, subst, ◌∙◌, arith}
-use Rattle.std.specs.Prelude.{MatchOption, is_some, nat_le, option_and_then}
+use Rattle.std.proofs.Common.{◌≡◌, ℕ, zero, suc, ◌<◌, ◌≤◌, Bool, true, false, cond, List, [], ◌∷◌, ◌++◌, length, Option, Some, None, Result, Ok, Err, inl, inr, refl, sym, ap, subst, ◌∙◌, arith}
+use Rattle.std.specs.Prelude.{is_some, nat_le, option_and_then}
 use Rattle.std.specs.Option.{option_or, option_map, option_to_list}
 use Rattle.std.specs.declared.cmp.Ordering.{Ordering}
-use Rattle.std.specs.declared.cmp.Ordering.TheVariants.{Less, Equal, Greater}
+use Rattle.std.specs.declared.cmp.Ordering.TheVariants.{Less}
 use Rattle.std.specs.Ordering.{nat_cmp, is_gt, ordering_then}
 use Rattle.std.specs.Cmp.Lexicographic.{slice_cmp, nat_list_cmp_total}
-use Rattle.std.specs.Str.{bytes_eq}
 use Rattle.std.proofs.lemmas.Cmp.{tied_itself, nat_cmp_total, lists_total}
 use Rattle.std.proofs.lemmas.Bool.Decides.{nat_tests}
 use Rattle.prices.specs.declared.quote.Quote.{Quote}
@@ -14,9 +13,9 @@ use Rattle.prices.specs.Fraction.{Fraction}
 use Rattle.prices.specs.declared.rate.RateRange.{RateRange}
 use Rattle.prices.specs.declared.search.Found.{Found}
 use Rattle.prices.specs.Fractions.{declared_rate, product_of}
-use Rattle.prices.specs.Chains.{Pricing, declared, turned, reverse, either, leads, is_chain, rates_along, class_of, list_cmp, chain_cmp, IsLeast, IsAlong, IsRate}
+use Rattle.prices.specs.Chains.{Pricing, declared, turned, reverse, either, leads, is_chain, rates_along, class_of, list_cmp, chain_cmp, IsLeast, IsRate}
 use Rattle.prices.specs.Search.{chosen, worth}
-use Rattle.prices.proofs.Texts.{same_text, equal_text, told, true≢false, both_first, both_second, both_true, there, le_from, le_to}
+use Rattle.prices.proofs.Texts.{same_text, told, true≢false, both_first, both_second, both_true, there, le_from, le_to}
 use Rattle.prices.proofs.Least.{IsUpto, Best, NoChain, Stands}
 
 -- a lesser class decides

@@ -1,5 +1,5 @@
 -- Where the price of a pair stands among prices in their order.
-use Rattle.std.proofs.Common.{◌≡◌, ℕ, zero, suc, ◌+◌, ◌-◌, ◌<◌, ◌≤◌, Bool, true, false, ◌&&◌, cond, List, [], ◌∷◌, ◌++◌, length, take, drop, get_or, filter, Option, Some, None, ◌⊎◌, inl, inr, refl, sym, ap, subst, ◌∙◌, arith}
+use Rattle.std.proofs.Common.{◌≡◌, ℕ, zero, suc, ◌<◌, ◌≤◌, Bool, true, false, cond, List, [], ◌∷◌, ◌++◌, length, take, drop, get_or, filter, Option, Some, None, inl, inr, refl, sym, ap, subst, ◌∙◌, arith}
 use Rattle.std.specs.List.{AllByRecursion}
 use Rattle.std.specs.List.Sorted.{IsSorted}
 use Rattle.std.specs.Option.{option_or}
@@ -14,7 +14,7 @@ use Rattle.prices.specs.declared.quote.Quote.{Quote}
 use Rattle.prices.specs.Index.{key_cmp, quote_cmp, is_pair, IsBound}
 use Rattle.prices.specs.Quotes.{last, is_on, latest}
 use Rattle.prices.specs.Order.{quote_total}
-use Rattle.prices.proofs.Texts.{told, true≢false}
+use Rattle.prices.proofs.Texts.{true≢false}
 use Rattle.prices.proofs.Keys.{on_pair, on_day, on_from, day_past, day_order, day_upto, pair_between, far}
 
 none_filter : (p : Quote → Bool) (qs : List Quote) → AllByRecursion (λ q. p q ≡ false) qs → filter p qs ≡ []

@@ -1,5 +1,5 @@
 -- What the search finds within so many levels is the least chain of so many steps.
-use Rattle.std.proofs.Common.{◌≡◌, ℕ, zero, suc, ◌+◌, ◌<◌, ◌≤◌, Bool, true, false, ◌&&◌, cond, List, [], ◌∷◌, ◌++◌, length, Option, Some, None, ◌⊎◌, inl, inr, refl, sym, ap, subst, ◌∙◌, arith}
+use Rattle.std.proofs.Common.{◌≡◌, ℕ, zero, suc, ◌<◌, ◌≤◌, Bool, true, false, cond, List, [], ◌∷◌, ◌++◌, length, Option, Some, None, ◌⊎◌, inl, inr, refl, sym, ap, subst, ◌∙◌, arith}
 use Rattle.std.specs.Prelude.{MatchOption, is_some}
 use Rattle.std.specs.Option.{option_or, option_to_list}
 use Rattle.std.specs.declared.cmp.Ordering.{Ordering}
@@ -13,8 +13,8 @@ use Rattle.prices.specs.declared.search.Found.{Found}
 use Rattle.prices.specs.Step.{Step}
 use Rattle.prices.specs.Search.{first_on, found_within}
 use Rattle.prices.specs.Chains.{leads, rates_along}
-use Rattle.prices.proofs.Texts.{text_ties, same_text, equal_text, true≢false, both_first, both_second, both_true, there}
-use Rattle.prices.proofs.Ways.{Member, Rising, GoesOn, FirstWay, NoneOn, first_is}
+use Rattle.prices.proofs.Texts.{text_ties, true≢false, both_first, both_second, both_true, there}
+use Rattle.prices.proofs.Ways.{Member, Rising, FirstWay, NoneOn, first_is}
 
 -- shorter, or cs long and no later in the order of lists
 abbrev pub IsUpto : List (List ℕ) → List (List ℕ) → Type 0

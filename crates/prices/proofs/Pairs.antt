@@ -1,7 +1,7 @@
 -- The steps of the pairs that are kept are those of a rate, in order.
-use Rattle.std.proofs.Common.{◌≡◌, ℕ, zero, suc, ◌+◌, ◌<◌, ◌≤◌, Bool, true, false, ◌&&◌, ◌||◌, cond, List, [], ◌∷◌, ◌++◌, length, filter, Option, Some, None, ◌⊎◌, inl, inr, refl, sym, ap, subst, ◌∙◌, arith}
-use Rattle.std.specs.Prelude.{is_some, option_and_then}
-use Rattle.std.specs.List.{AllByRecursion, flat_map}
+use Rattle.std.proofs.Common.{◌≡◌, ℕ, Bool, true, false, ◌||◌, cond, List, [], ◌∷◌, ◌++◌, filter, Option, Some, None, ◌⊎◌, inl, inr, refl, sym, ap, subst, ◌∙◌, arith}
+use Rattle.std.specs.Prelude.{option_and_then}
+use Rattle.std.specs.List.{AllByRecursion}
 use Rattle.std.specs.List.Sorted.{IsSorted}
 use Rattle.std.specs.Option.{option_or, option_map, option_to_list}
 use Rattle.std.specs.Ordering.{nat_cmp, is_lt, is_gt}
@@ -11,10 +11,10 @@ use Rattle.prices.specs.declared.quote.Quote.{Quote}
 use Rattle.prices.specs.Fraction.{Fraction}
 use Rattle.prices.specs.Fractions.{declared_rate}
 use Rattle.prices.specs.Index.{quote_cmp, is_pair, has_pair, HasBoth}
-use Rattle.prices.specs.Quotes.{last, is_on, latest}
+use Rattle.prices.specs.Quotes.{is_on, latest}
 use Rattle.prices.specs.Chains.{Pricing, priced_on, declared, turned, reverse, either}
 use Rattle.prices.specs.Step.{Step}
-use Rattle.prices.specs.Search.{step_of, steps_of}
+use Rattle.prices.specs.Search.{steps_of}
 use Rattle.prices.proofs.Texts.{told, true≢false}
 use Rattle.prices.proofs.Keys.{pair_symbol, pair_target, on_pair, target_order, Rises, rises}
 use Rattle.prices.proofs.Latest.{nothing}

@@ -1,5 +1,5 @@
 -- Prices in their order tell the same as in the order of the text.
-use Rattle.std.proofs.Common.{◌≡◌, ℕ, zero, suc, Bool, true, false, ◌&&◌, not, cond, List, [], ◌∷◌, filter, pos, Option, None, refl, sym, ap, ◌∙◌, arith}
+use Rattle.std.proofs.Common.{◌≡◌, ℕ, zero, suc, Bool, true, false, ◌&&◌, not, cond, List, filter, pos, Option, None, refl, sym, ap, ◌∙◌, arith}
 use Rattle.std.specs.Prelude.{◌==◌}
 use Rattle.std.specs.List.Sorted.{IsStable, ties}
 use Rattle.std.specs.Option.{option_or}
@@ -12,11 +12,10 @@ use Rattle.std.specs.Str.{bytes_eq}
 use Rattle.std.proofs.lemmas.Bool.Decides.{nat_tests}
 use Rattle.std.proofs.lemmas.Cmp.{nat_list_eq_equiv}
 use Rattle.std.proofs.lemmas.Map.Text.{is_eq-slice_cmp}
-use Rattle.hl_num.specs.Decimal.{Decimal}
 use Rattle.prices.specs.declared.quote.Quote.{Quote}
 use Rattle.prices.specs.Index.{quote_cmp}
 use Rattle.prices.specs.Quotes.{last, is_on, latest}
-use Rattle.prices.specs.Chains.{Pricing, priced_on}
+use Rattle.prices.specs.Chains.{priced_on}
 use Rattle.prices.specs.Order.{quote_total}
 
 neither_less : (o : Ordering) → (not (is_lt o) && not (is_lt (ordering_reverse o))) ≡ is_eq o

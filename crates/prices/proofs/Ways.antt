@@ -1,5 +1,5 @@
 -- The first way on from a symbol goes by the least symbol that was found.
-use Rattle.std.proofs.Common.{◌≡◌, ℕ, ◌+◌, ◌≤◌, Bool, true, false, cond, List, [], ◌∷◌, Option, Some, None, ◌⊎◌, inl, inr, refl, sym, ap, subst, ◌∙◌}
+use Rattle.std.proofs.Common.{◌≡◌, ℕ, ◌+◌, ◌≤◌, true, false, cond, List, [], ◌∷◌, Option, Some, None, ◌⊎◌, inl, inr, refl, sym, ap, subst, ◌∙◌}
 use Rattle.std.specs.Prelude.{MatchOption, nat_le}
 use Rattle.std.specs.Option.{option_or}
 use Rattle.std.specs.Ordering.{nat_cmp, is_gt}
@@ -9,7 +9,7 @@ use Rattle.std.proofs.lemmas.Cmp.{tied_itself}
 use Rattle.prices.specs.declared.search.Found.{Found}
 use Rattle.prices.specs.Step.{Step}
 use Rattle.prices.specs.Search.{onward, first_on}
-use Rattle.prices.proofs.Texts.{same_text, equal_text, told, true≢false, le_to}
+use Rattle.prices.proofs.Texts.{same_text, equal_text, true≢false, le_to}
 
 -- a step stands in a list
 abbrev pub Member : Step → List Step → Type 0

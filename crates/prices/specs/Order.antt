@@ -1,8 +1,5 @@
 -- The order of prices.
-use Rattle.std.proofs.Common.{ℕ, List}
-use Rattle.std.specs.Ordering.{nat_cmp}
 use Rattle.std.specs.Cmp.{IsTotalOrder}
-use Rattle.std.specs.Cmp.Lexicographic.{slice_cmp}
 use Rattle.std.proofs.lemmas.Cmp.{on_total, then_total, nat_list_cmp_total, nat_cmp_total}
 use Rattle.prices.specs.declared.quote.Quote.{Quote}
 use Rattle.prices.specs.Index.{quote_cmp}

@@ -1,8 +1,12 @@
 -- What the search for chains keeps.
-use Rattle.std.specs.Prelude.{ℕ, zero, suc, ◌+◌, Bool, nat_le, if◌then◌else◌, List, [], ◌∷◌, length, Option, Some, None, Result, Ok, Err, option_and_then}
+use Rattle.std.specs.Prelude.{◌≡◌, ℕ, zero, suc, ◌+◌, nat_le, if◌then◌else◌, List, [], ◌∷◌, length, Option, Some, None, Result, Ok, Err}
 use Rattle.std.specs.Option.{option_or, option_map, option_to_list}
 use Rattle.std.specs.List.{flat_map}
 use Rattle.std.specs.Str.{bytes_eq}
+use Rattle.std.specs.Ordering.{nat_cmp}
+use Rattle.std.specs.Cmp.Lexicographic.{slice_cmp}
+use Rattle.std.specs.BTreeMap.{is_at}
+use Rattle.std.specs.Map.{lookup}
 use Rattle.prices.specs.declared.quote.Quote.{Quote}
 use Rattle.prices.specs.Fraction.{Fraction}
 use Rattle.prices.specs.declared.rate.RateRange.{RateRange}
@@ -17,6 +21,14 @@ step_of rate pair =
 
 abbrev pub steps_of : (List ℕ → List ℕ → Option Fraction) → List Quote → List Step
 steps_of rate pairs = flat_map (step_of rate) pairs
+
+-- the way of a symbol among those that are kept
+abbrev pub way_in : List (List ℕ × Found) → List ℕ → Option Found
+way_in kept symbol = lookup (is_at (slice_cmp nat_cmp symbol)) kept
+
+-- what is kept of each symbol is what is known of it
+abbrev pub AreWays : List (List ℕ × Found) → (List ℕ → Option Found) → Type 0
+AreWays kept known = (symbol : List ℕ) → way_in kept symbol ≡ known symbol
 
 -- what goes on by a step to a symbol that was found at that level or below
 abbrev pub onward : ℕ → Step → Option Found → Option Found

@@ -83,7 +83,8 @@ pub(crate) fn power_of_ten(exponent: u8) -> u128
 
 /// The product, where it stays below 2^127.
 pub(crate) fn bounded_product(a: i128, b: i128) -> Option<i128>
-    ensures { result ≡ (if nat_lt (unsigned_abs a * unsigned_abs b) (2 ^ 127) then Some (a *ℤ b) else None) }
+    ensures { result ≡ (if nat_lt (unsigned_abs a * unsigned_abs b) (2 ^ 127)
+        then Some (a *ℤ b) else None) }
 {
     match a.checked_mul(b) {
         Some(product) if product != i128::MIN => Some(product),
@@ -103,7 +104,8 @@ pub(crate) fn bounded_natural(a: u128, b: u128) -> Option<u128>
 
 /// The product in lowest terms.
 fn product(a: Rate, b: Rate) -> Result<Rate, RateRange>
-    ensures { result ≡ (if product_fits a b then Ok (product a b) else Err (record { num = a.num; den = a.den })) }
+    ensures { result ≡ (if product_fits a b
+        then Ok (product a b) else Err (record { num = a.num; den = a.den })) }
 {
     match product_of_parts(
         a.numerator(),
@@ -120,7 +122,8 @@ fn product(a: Rate, b: Rate) -> Result<Rate, RateRange>
 fn product_of_parts(a_num: i128, a_den: u128, b_num: i128, b_den: u128) -> Option<Rate>
     requires first { 0 < a_den }
     requires second { 0 < b_den }
-    ensures { result ≡ (if nat_lt (unsigned_abs a_num * unsigned_abs b_num) (2 ^ 127) && nat_lt (a_den * b_den) (2 ^ 127)
+    ensures { result ≡ (if nat_lt (unsigned_abs a_num * unsigned_abs b_num) (2 ^ 127)
+        && nat_lt (a_den * b_den) (2 ^ 127)
         then Some (reduced (a_num *ℤ b_num) (a_den * b_den)) else None) }
 {
     match bounded_product(a_num, b_num) {
@@ -134,7 +137,8 @@ fn reduced_over(num: i128, a_den: u128, b_den: u128) -> Option<Rate>
     requires numerator { unsigned_abs num < 2 ^ 127 }
     requires first { 0 < a_den }
     requires second { 0 < b_den }
-    ensures { result ≡ (if nat_lt (a_den * b_den) (2 ^ 127) then Some (reduced num (a_den * b_den)) else None) }
+    ensures { result ≡ (if nat_lt (a_den * b_den) (2 ^ 127)
+        then Some (reduced num (a_den * b_den)) else None) }
 {
     match bounded_natural(a_den, b_den) {
         Some(den) => Some(reduced(num, den)),

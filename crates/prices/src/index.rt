@@ -69,7 +69,9 @@ fn add_pair(
     before: Option<&Quote>,
     quote: &Quote,
 ) -> Result<(), Memory>
-    ensures { OnOk result ((done : List Quote) → HasBoth done pairs.old.items → Stands (option_copied before.entry) done → HasBoth (done ++ quote.now ∷ []) pairs.new.items) }
+    ensures { OnOk result ((done : List Quote) → HasBoth done pairs.old.items
+        → Stands (option_copied before.entry) done
+        → HasBoth (done ++ quote.now ∷ []) pairs.new.items) }
 {
     if is_new(before, quote) {
         push_both(alloc, pairs, quote)

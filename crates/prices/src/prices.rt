@@ -1,9 +1,9 @@
 //! The prices of a journal.
-ghost use Rattle.std.specs.Prelude.{◌≡◌, ℕ, IfOk, MatchOption, List, [], filter};
+ghost use Rattle.std.specs.Prelude.{◌≡◌, IfOk, MatchOption, [], filter};
 ghost use Rattle.std.specs.Option.{option_copied};
 ghost use Rattle.prices.specs.Quotes.{quotes_in, newer, newest, is_of, with_quote, target_on, IsLastDay};
-ghost use Rattle.prices.specs.Chains.{priced_on, IsRate};
-ghost use Rattle.prices.specs.Tables.{rate_in};
+ghost use Rattle.prices.specs.Chains.{priced_on};
+ghost use Rattle.prices.specs.Tables.{AreRates};
 
 use crate::index::{latest, pairs_of, sorted};
 use crate::quote::{Quote, quotes_in};
@@ -71,7 +71,7 @@ impl Prices {
 
     /// What each symbol is worth in a target on a day.
     pub fn table(&self, alloc: Global, target: &Text, day: Day) -> Result<Table, Memory>
-        ensures { IfOk result (λ table. (from : List ℕ) → IsRate (priced_on self.now day.0) target.now from (rate_in table from)) }
+        ensures { IfOk result (AreRates (priced_on self.now day.0) target.now) }
     {
         make_table(alloc, &self.sorted, &self.pairs, target, day)
     }
@@ -97,7 +97,8 @@ fn better<'a>(
     symbol: &Text,
     day: Day,
 ) -> Option<&'a Quote>
-    ensures { option_copied result ≡ with_quote symbol.now day.0 quote.now (option_copied best.entry) }
+    ensures { option_copied result
+        ≡ with_quote symbol.now day.0 quote.now (option_copied best.entry) }
 {
     if is_of(quote, symbol, day) {
         Some(newer(quote, best))

@@ -112,7 +112,8 @@ pub(crate) fn make_quote(
     day: Day,
     value: Dec,
 ) -> Result<Quote, Memory>
-    ensures { IfOk result (λ quote. quote ≡ record { symbol = symbol.now; target = target.now; day = day; value = value }) }
+    ensures { IfOk result (λ quote. quote
+        ≡ record { symbol = symbol.now; target = target.now; day = day; value = value }) }
 {
     Ok(Quote {
         symbol: Text::copied(alloc, symbol.as_str())?,

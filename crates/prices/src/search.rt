@@ -1,11 +1,6 @@
 //! The search for least chains, in levels from the target.
-ghost use Rattle.std.specs.Prelude.{◌≡◌, ℕ, ◌<◌, ◌≤◌, List, [], ◌∷◌, if◌then◌else◌, IfOk, OnOk};
-ghost use Rattle.std.specs.Ordering.{nat_cmp};
-ghost use Rattle.std.specs.Cmp.Lexicographic.{slice_cmp};
-ghost use Rattle.std.specs.Str.{bytes_eq};
-ghost use Rattle.std.specs.BTreeMap.{is_at};
-ghost use Rattle.std.specs.Map.{lookup};
-ghost use Rattle.prices.specs.Search.{onward, with_step, after_steps, found_within};
+ghost use Rattle.std.specs.Prelude.{◌≡◌, ◌<◌, ◌≤◌, [], ◌∷◌, IfOk, OnOk};
+ghost use Rattle.prices.specs.Search.{AreWays, after_steps, found_within, onward, way_in, with_step};
 
 use crate::rate::Rate;
 use crate::steps::Step;
@@ -30,7 +25,7 @@ pub(crate) fn find_all<'a>(
     target: &'a Text,
     steps: &[Step<'a>],
 ) -> Result<BTreeMap<SymbolKey<'a>, Found>, Memory>
-    ensures { IfOk result (λ found. (symbol : List ℕ) → lookup (is_at (slice_cmp nat_cmp symbol)) found.entries ≡ found_within steps.now target.now 16 symbol) }
+    ensures { IfOk result (λ found. AreWays found.entries (found_within steps.now target.now 16)) }
 {
     let mut found = at_target(alloc, target)?;
     for level in 0..MOST_STEPS {
@@ -41,7 +36,7 @@ pub(crate) fn find_all<'a>(
 
 /// The way of the target itself, which has no step.
 fn at_target<'a>(alloc: Global, target: &'a Text) -> Result<BTreeMap<SymbolKey<'a>, Found>, Memory>
-    ensures { IfOk result (λ found. (symbol : List ℕ) → lookup (is_at (slice_cmp nat_cmp symbol)) found.entries ≡ (if bytes_eq symbol target.now then Some (record { level = 0; rates = [] }) else None)) }
+    ensures { IfOk result (λ found. AreWays found.entries (found_within [] target.now 0)) }
 {
     let mut found = BTreeMap::new(alloc);
     let way = Found {
@@ -60,7 +55,8 @@ fn add_level<'a>(
     level: u8,
 ) -> Result<(), Memory>
     requires { level < 255 }
-    ensures { OnOk result ((symbol : List ℕ) → lookup (is_at (slice_cmp nat_cmp symbol)) found.new.entries ≡ after_steps level (λ s. lookup (is_at (slice_cmp nat_cmp s)) found.old.entries) steps.now symbol) }
+    ensures { OnOk result (AreWays found.new.entries
+        (after_steps level (way_in found.old.entries) steps.now)) }
 {
     for step in steps {
         add_step(alloc, found, step, level)?;
@@ -76,7 +72,8 @@ fn add_step<'a>(
     level: u8,
 ) -> Result<(), Memory>
     requires { level < 255 }
-    ensures { OnOk result ((symbol : List ℕ) → lookup (is_at (slice_cmp nat_cmp symbol)) found.new.entries ≡ with_step level (λ s. lookup (is_at (slice_cmp nat_cmp s)) found.old.entries) step.now symbol) }
+    ensures { OnOk result (AreWays found.new.entries
+        (with_step level (way_in found.old.entries) step.now)) }
 {
     if found.contains_key(&SymbolKey::new(step.from)) {
         return Ok(());
@@ -98,7 +95,7 @@ fn onward<'a>(
     level: u8,
 ) -> Result<Option<Found>, Memory>
     requires { level < 255 }
-    ensures { IfOk result (λ way. way ≡ onward level step.now (lookup (is_at (slice_cmp nat_cmp step.now.to)) found.now.entries)) }
+    ensures { IfOk result (λ way. way ≡ onward level step.now (way_in found.now.entries step.now.to)) }
 {
     match found.get(&SymbolKey::new(step.to)) {
         Some(next) if next.level <= level => Ok(Some(Found {

@@ -40,7 +40,8 @@ pub(crate) fn declared_steps<'a>(
     day: Day,
 ) -> Result<Vec<Step<'a>>, Memory>
     requires { IsSorted quote_cmp sorted.now }
-    ensures { IfOk result (λ steps. steps.items ≡ steps_of (declared (priced_on sorted.now day.0)) pairs.now) }
+    ensures { IfOk result (λ steps. steps.items
+        ≡ steps_of (declared (priced_on sorted.now day.0)) pairs.now) }
 {
     let mut steps = Vec::new(alloc);
     for pair in pairs {
@@ -63,7 +64,8 @@ pub(crate) fn either_steps<'a>(
     day: Day,
 ) -> Result<Vec<Step<'a>>, Memory>
     requires { IsSorted quote_cmp sorted.now }
-    ensures { IfOk result (λ steps. steps.items ≡ steps_of (either (priced_on sorted.now day.0)) pairs.now) }
+    ensures { IfOk result (λ steps. steps.items
+        ≡ steps_of (either (priced_on sorted.now day.0)) pairs.now) }
 {
     let mut steps = Vec::new(alloc);
     for pair in pairs {

@@ -3,10 +3,10 @@ ghost use Rattle.std.specs.Prelude.{◌≡◌, ℕ, List, ◌∷◌, ◌++◌, [
 ghost use Rattle.std.specs.Option.{option_copied};
 ghost use Rattle.std.specs.List.Sorted.{IsSorted};
 ghost use Rattle.prices.specs.Index.{quote_cmp, HasBoth};
-ghost use Rattle.prices.specs.Chains.{priced_on, IsRate};
+ghost use Rattle.prices.specs.Chains.{priced_on};
 ghost use Rattle.prices.specs.Search.{chosen, worth};
 ghost use Rattle.prices.specs.Answers.{answer_by, IsTold};
-ghost use Rattle.prices.specs.Tables.{rate_in};
+ghost use Rattle.prices.specs.Tables.{AreRates, rate_in};
 
 use crate::fractions::product_of;
 use crate::quote::Quote;
@@ -53,7 +53,7 @@ pub(crate) fn make_table<'a>(
     requires ordered { IsSorted quote_cmp sorted.now }
     requires pairs_ordered { IsSorted quote_cmp pairs.now }
     requires both { HasBoth sorted.now pairs.now }
-    ensures { IfOk result (λ table. (from : List ℕ) → IsRate (priced_on sorted.now day.0) target.now from (rate_in table from)) }
+    ensures { IfOk result (AreRates (priced_on sorted.now day.0) target.now) }
 {
     let declared = declared_steps(alloc, sorted, pairs, day)?;
     let either = either_steps(alloc, sorted, pairs, day)?;
@@ -71,7 +71,9 @@ fn answers<'a>(
     by_declared: &BTreeMap<SymbolKey<'a>, Found>,
     by_either: &BTreeMap<SymbolKey<'a>, Found>,
 ) -> Result<BTreeMap<String, Answer>, Memory>
-    ensures { IfOk result (λ answers. IsTold answers (target.now ∷ map (λ step. step.from) steps.now) (answer_by by_declared.now.entries by_either.now.entries)) }
+    ensures { IfOk result (λ answers. IsTold answers
+        (target.now ∷ map (λ step. step.from) steps.now)
+        (answer_by by_declared.now.entries by_either.now.entries)) }
 {
     let mut answers = BTreeMap::new(alloc);
     tell(alloc, &mut answers, target, by_declared, by_either)?;
@@ -89,8 +91,10 @@ fn tell<'a>(
     by_declared: &BTreeMap<SymbolKey<'a>, Found>,
     by_either: &BTreeMap<SymbolKey<'a>, Found>,
 ) -> Result<(), Memory>
-    ensures { OnOk result ((symbols : List (List ℕ)) → IsTold answers.old symbols (answer_by by_declared.now.entries by_either.now.entries)
-        → IsTold answers.new (symbols ++ symbol.now ∷ []) (answer_by by_declared.now.entries by_either.now.entries)) }
+    ensures { OnOk result ((symbols : List (List ℕ))
+        → IsTold answers.old symbols (answer_by by_declared.now.entries by_either.now.entries)
+        → IsTold answers.new (symbols ++ symbol.now ∷ [])
+        (answer_by by_declared.now.entries by_either.now.entries)) }
 {
     if answers.contains_key(symbol.as_str()) {
         return Ok(());
@@ -114,7 +118,8 @@ fn answer_of<'a>(
 
 /// Of the way by declared prices and the way by prices of either kind, the one that is taken.
 fn chosen<'m>(declared: Option<&'m Found>, either: Option<&'m Found>) -> Option<&'m Found>
-    ensures { option_copied result ≡ chosen (option_copied declared.entry) (option_copied either.entry) }
+    ensures { option_copied result
+        ≡ chosen (option_copied declared.entry) (option_copied either.entry) }
 {
     match either {
         Some(any) if any.rates.len() <= 1 => Some(any),

@@ -223,6 +223,37 @@ fn a_product_just_below_the_bound_and_at_it(rt: HostRuntime) -> Result<(), Fail>
     Ok(())
 }
 
+/// Prices whose first is 2^126: with the second, their product is past the bound before it is reduced, and their
+/// product's denominator is.
+const UNREDUCED: [Row; 4] = [
+    Row(
+        1,
+        "A",
+        85_070_591_730_234_615_865_843_651_857_942_052_864,
+        0,
+        "B",
+    ),
+    Row(1, "B", 15, 1, "T"),
+    Row(1, "C", 2, 0, "U"),
+    Row(
+        1,
+        "U",
+        85_070_591_730_234_615_865_843_651_857_942_052_864,
+        0,
+        "A",
+    ),
+];
+
+#[test]
+fn a_product_is_judged_before_it_is_reduced(rt: HostRuntime) -> Result<(), Fail> {
+    let great = 85_070_591_730_234_615_865_843_651_857_942_052_864;
+    let above = RateRange { num: great, den: 1 };
+    let below = RateRange { num: 1, den: great };
+    assert_eq!(rt; rate_of(rt.alloc(), &UNREDUCED, "A", "T", 1)?, Err(above));
+    assert_eq!(rt; rate_of(rt.alloc(), &UNREDUCED, "A", "C", 1)?, Err(below));
+    Ok(())
+}
+
 #[test]
 fn values_are_rounded_once(rt: HostRuntime) -> Result<(), Fail> {
     let amount = Dec::new(125, 2).ok_or("a number")?;

@@ -37,7 +37,8 @@ fn value_of_parts(number: i128, num: i128, den: u128, scale: u128, places: u8) -
     requires few { places ≤ 18 }
     requires first { 0 < den }
     requires second { 0 < scale }
-    ensures { result ≡ (if nat_lt (unsigned_abs number * unsigned_abs num * 10 ^ places) (2 ^ 127) && nat_lt (den * scale) (2 ^ 127)
+    ensures { result ≡ (if nat_lt (unsigned_abs number * unsigned_abs num * 10 ^ places) (2 ^ 127)
+        && nat_lt (den * scale) (2 ^ 127)
         then Some (record { mantissa = signed_half_even (number *ℤ num *ℤ pos (10 ^ places)) (den * scale); places = places })
         else None) }
 {
@@ -52,7 +53,8 @@ fn over(product: i128, den: u128, scale: u128, places: u8) -> Option<Dec>
     requires few { places ≤ 18 }
     requires first { 0 < den }
     requires second { 0 < scale }
-    ensures { result ≡ (if nat_lt (unsigned_abs product * 10 ^ places) (2 ^ 127) && nat_lt (den * scale) (2 ^ 127)
+    ensures { result ≡ (if nat_lt (unsigned_abs product * 10 ^ places) (2 ^ 127)
+        && nat_lt (den * scale) (2 ^ 127)
         then Some (record { mantissa = signed_half_even (product *ℤ pos (10 ^ places)) (den * scale); places = places })
         else None) }
 {

@@ -1,4 +1,4 @@
-use Rattle.std.proofs.Common.{List, ◌∷◌, map, take}
+use Rattle.std.proofs.Common.{◌∷◌, map, take}
 use Rattle.prices.specs.Answers.{answer_by, IsTold}
 use Rattle.prices.proofs.table.answers.Given as goal
 
