@@ -31,7 +31,8 @@ pub fn check_one<S: Sums, L: Ledger>(
     sums: &S,
     steps: &mut Steps<L>,
 ) -> Result<Txn, CheckFault>
-    ensures answer { IsChecked (told_before (S.txns sums.now) (S.place sums.now)) (others_before (S.txns sums.now) (S.place sums.now)) txn result }
+    ensures answer { IsChecked (told_before (S.txns sums.now) (S.place sums.now))
+        (others_before (S.txns sums.now) (S.place sums.now)) txn result }
     ensures steps { IsOneChecked steps.old steps.new }
 {
     steps.check_one();
@@ -56,7 +57,8 @@ fn check_sums<S: Sums, L: Ledger>(
 ) -> Result<Result<Txn, Fault>, TallyFault>
     ensures answer { IfOk result (λ answer. answer
         ≡ checked (told_before (S.txns sums.now) (S.place sums.now)) (others_before (S.txns sums.now) (S.place sums.now)) txn) }
-    ensures range { IfErr result (λ e. IsRange e → AreBeyond (told_before (S.txns sums.now) (S.place sums.now))
+    ensures range { IfErr result (λ e. IsRange e
+        → AreBeyond (told_before (S.txns sums.now) (S.place sums.now))
         (settled (made (told_before (S.txns sums.now) (S.place sums.now)) txn)).postings) }
     ensures steps { OnlyAsked steps.old steps.new }
 {
