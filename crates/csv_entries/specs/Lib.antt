@@ -1,0 +1,11 @@
+pub mod Amounts
+pub mod Blocks
+pub mod Conversion
+pub mod Dates
+pub mod Judging
+pub mod Numbered
+pub mod Ordering
+pub mod Places
+pub mod Records
+pub mod Spaces
+pub mod Values
