@@ -1,0 +1,11 @@
+//! Bank files of many countries with their rules, and the entries that they become.
+#![tactic(auto)]
+
+#[cfg(test)]
+mod continental;
+#[cfg(test)]
+mod imports;
+#[cfg(test)]
+mod overseas;
+#[cfg(test)]
+mod shown;
