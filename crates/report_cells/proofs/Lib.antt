@@ -1,0 +1,10 @@
+pub mod Choosing
+pub mod Counting
+pub mod Ending
+pub mod Gathering
+pub mod Holding
+pub mod Joining
+pub mod Keeping
+pub mod Sizes
+pub mod Standing
+pub mod Walking

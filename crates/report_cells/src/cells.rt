@@ -1,0 +1,90 @@
+//! The sums of a report by account and column.
+ghost use Rattle.std.specs.Prelude.{◌≡◌, None, OnOk, IfOk, IfErr, map};
+ghost use Rattle.report_cells.specs.Faults.{IsFault};
+ghost use Rattle.report_cells.specs.Follows.{Follow};
+ghost use Rattle.report_cells.specs.Kept.{FinishFits, finished_row};
+ghost use Rattle.report_cells.specs.Report.{row_seen, rows_in, seen, totals_in};
+ghost use Rattle.std.specs.List.{AllByRecursion};
+ghost use Rattle.report_cells.specs.Bounds.{first_out};
+
+use crate::account_key::AccountKey;
+use crate::fault::ReportFault;
+use crate::gather::add_taking;
+use crate::place::place_of;
+use crate::reach::Reach;
+use crate::row::Row;
+use crate::running::finished;
+use crate::taking::Taking;
+use crate::turnover::check_range;
+use book::Mixed;
+use hl_base::{List, Memory, Text};
+use hl_time::Span;
+use std::alloc::Global;
+use std::collections::BTreeMap;
+
+/// An account's sums, one for each column.
+#[derive(Debug, Drop)]
+pub struct CellRow {
+    pub account: Text,
+    pub cells: List<Mixed>,
+}
+
+/// The columns of a report, its rows in the order of their accounts, and the total of each column.
+#[derive(Debug, Drop)]
+pub struct Cells {
+    pub columns: List<Span>,
+    pub rows: List<CellRow>,
+    pub totals: List<Mixed>,
+}
+
+/// The sums of takings by account and column. `Range` names the least symbol whose amounts are too large.
+pub fn make_cells(
+    alloc: Global,
+    takings: &[Taking],
+    columns: List<Span>,
+    reach: Reach,
+) -> Result<Cells, ReportFault>
+    requires { Follow columns }
+    ensures columns { IfOk result (λ c. c.columns ≡ columns) }
+    ensures rows { IfOk result (λ c. map row_seen c.rows ≡ rows_in reach columns takings.now) }
+    ensures totals { IfOk result (λ c. map seen c.totals ≡ totals_in reach columns takings.now) }
+    ensures within { OnOk result (first_out takings.now ≡ None) }
+    ensures fault { IfErr result (IsFault takings.now) }
+{
+    check_range(alloc, takings)?;
+    let mut rows = BTreeMap::new(alloc);
+    let mut totals = Row::empty(alloc, columns.len())?;
+    for taking in takings {
+        let place = place_of(columns.as_slice(), reach, taking.day);
+        add_taking(alloc, &mut rows, columns.len(), place, taking)?;
+        totals.add(alloc, place, &taking.amount)?;
+    }
+    let rows = cell_rows(alloc, rows, reach)?;
+    let totals = finished(alloc, totals, reach)?;
+    Ok(Cells {
+        columns,
+        rows,
+        totals,
+    })
+}
+
+/// The rows of a report, from the sums of its accounts.
+fn cell_rows<'a>(
+    alloc: Global,
+    rows: BTreeMap<AccountKey<'a>, Row>,
+    reach: Reach,
+) -> Result<List<CellRow>, Memory>
+    requires { AllByRecursion (λ row. FinishFits reach row.1) rows.entries }
+    ensures { IfOk result (λ cells. cells ≡ map (finished_row reach) rows.entry.entries) }
+{
+    let mut cells = Vec::new(alloc);
+    for (key, row) in rows {
+        let account = Text::copied(alloc, key.account())?;
+        let sums = finished(alloc, row, reach)?;
+        cells.push(CellRow {
+            account,
+            cells: sums,
+        })?;
+    }
+    Ok(List::from_vec(cells))
+}

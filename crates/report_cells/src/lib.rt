@@ -1,0 +1,22 @@
+//! The sums of a report by account and column, exact.
+#![tactic(auto)]
+
+mod account_key;
+pub mod cells;
+mod compare;
+pub mod fault;
+mod gather;
+mod place;
+pub mod reach;
+mod row;
+mod running;
+mod symbol_key;
+pub mod taking;
+#[cfg(test)]
+mod tests;
+mod turnover;
+
+pub use cells::{CellRow, Cells, make_cells};
+pub use fault::ReportFault;
+pub use reach::Reach;
+pub use taking::{Share, Taking};
