@@ -1,0 +1,11 @@
+pub mod Entries
+pub mod Days
+pub mod Asking
+pub mod Spans
+pub mod Columns
+pub mod Cuts
+pub mod Costs
+pub mod Takings
+pub mod Ended
+pub mod Walked
+pub mod Fronts

@@ -1,0 +1,17 @@
+//! What a report takes from a book: its span and its columns, and what of each posting.
+#![tactic(auto)]
+
+pub mod columns;
+mod costs;
+mod cuts;
+mod ends;
+mod entries;
+pub mod scope;
+mod spans;
+pub mod takings;
+#[cfg(test)]
+mod tests;
+
+pub use columns::{COLUMN_LIMIT, columns_of};
+pub use scope::Scope;
+pub use takings::take;

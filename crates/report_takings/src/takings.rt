@@ -1,0 +1,94 @@
+//! What a report takes of the postings of its book.
+ghost use Rattle.std.specs.Prelude.{◌≡◌, true, map, IfOk, IfErr, OnOk};
+ghost use Rattle.std.specs.Option.{option_copied};
+ghost use Rattle.entry_balance.specs.Entry.{amount_cost_fits};
+ghost use Rattle.report_takings.specs.Costs.{is_at_cost};
+ghost use Rattle.report_takings.specs.Takings as spec;
+
+use crate::costs::{first_out, is_at_cost, moved};
+use crate::cuts::cut_to;
+use crate::entries::{Entry, taken_entries};
+use crate::scope::Scope;
+use hl_base::{Memory, Text};
+use hl_time::Span;
+use report_cells::{ReportFault, Taking};
+use std::alloc::Global;
+
+/// What a report with these columns takes of its postings, in their order: those on the days of the columns that
+/// the query means, for historical sums all before the columns' end that it means whatever their days; each with its
+/// account cut to the query's depth, its day, and its amount, or with `-B` or `--value=cost` what that costs. `Range`
+/// comes exactly where a product is out of range, and tells the least symbol of such an amount.
+pub fn take<'a>(
+    alloc: Global,
+    scope: &Scope<'a>,
+    columns: &[Span],
+) -> Result<Vec<Taking<'a>>, ReportFault>
+    ensures taken { IfOk result (λ takings. takings.items ≡ spec.takings_of scope.now columns.now) }
+    ensures within { OnOk result (spec.out_of scope.now columns.now ≡ None) }
+    ensures fault { IfErr result (spec.IsOut scope.now columns.now) }
+{
+    let entries = taken_entries(alloc, scope, shown_in(columns))?;
+    match out_of(scope, &entries) {
+        Some(symbol) => {
+            let symbol = Text::copied(alloc, symbol.as_str())?;
+            Err(ReportFault::Range { symbol })
+        }
+        None => Ok(takings_of(alloc, scope, &entries)?),
+    }
+}
+
+/// The days that some columns show.
+fn shown_in(columns: &[Span]) -> Span
+    ensures { result ≡ spec.shown_in columns.now }
+{
+    match columns.last() {
+        Some(last) => Span {
+            from: columns[0].from,
+            end: last.end,
+        },
+        None => Span { from: 0, end: 0 },
+    }
+}
+
+/// The least symbol of an amount whose cost is asked for and out of range.
+fn out_of<'a>(scope: &Scope<'a>, entries: &[Entry<'a>]) -> Option<&'a Text>
+    ensures { option_copied result ≡ spec.out_among scope.now.options.now entries.now }
+{
+    if is_at_cost(scope.options) {
+        first_out(entries)
+    } else {
+        None
+    }
+}
+
+/// What is taken of a posting.
+fn taking<'a>(scope: &Scope<'a>, entry: &Entry<'a>, costs: bool) -> Taking<'a>
+    requires at_cost { costs ≡ is_at_cost scope.now.options.now }
+    requires told { costs ≡ true → amount_cost_fits entry.now.0.amount entry.now.0.cost ≡ true }
+    ensures { result ≡ spec.taken scope.now entry.now }
+{
+    let posting = entry.posting();
+    Taking {
+        account: cut_to(posting.account.as_str(), scope.query.depth()),
+        day: entry.day(),
+        amount: moved(posting, costs),
+    }
+}
+
+/// What is taken of some postings.
+#[tactic(auto, using(crate::proofs::Outs::told_at))]
+fn takings_of<'a>(
+    alloc: Global,
+    scope: &Scope<'a>,
+    entries: &[Entry<'a>],
+) -> Result<Vec<Taking<'a>>, Memory>
+    requires { spec.out_among scope.now.options.now entries.now ≡ None }
+    ensures { IfOk result (λ takings. takings.items ≡ map (spec.taken scope.now) entries.now) }
+{
+    let costs = is_at_cost(scope.options);
+    let mut takings = Vec::with_capacity(alloc, entries.len())?;
+    for entry in entries {
+        takings.push(taking(scope, entry, costs))?;
+    }
+    Ok(takings)
+}
