@@ -1,0 +1,5 @@
+pub mod Noting
+pub mod Pairing
+pub mod Ranges
+pub mod Stars
+pub mod Whole

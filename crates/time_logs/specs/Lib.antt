@@ -1,0 +1,15 @@
+pub mod Bounds
+pub mod ClockLines
+pub mod ClockSteps
+pub mod Days
+pub mod DotLines
+pub mod DotSteps
+pub mod Faults
+pub mod Limits
+pub mod Moments
+pub mod Quantities
+pub mod Said
+pub mod Sessions
+pub mod Timeclock
+pub mod Timedot
+pub mod Walks
