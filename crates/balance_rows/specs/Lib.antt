@@ -1,0 +1,12 @@
+pub mod Fitting
+pub mod Groups
+pub mod Kept
+pub mod Layouts
+pub mod Orders
+pub mod Ranks
+pub mod Rows
+pub mod Shortest
+pub mod Standing
+pub mod Sums
+pub mod Trees
+pub mod Walks
