@@ -1,0 +1,10 @@
+pub mod Lists
+pub mod Rates
+pub mod Keeping
+pub mod Valuing
+pub mod Numbering
+pub mod Spreading
+pub mod Greatest
+pub mod Summing
+pub mod Leaving
+pub mod Composing

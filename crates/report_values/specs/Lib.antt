@@ -1,0 +1,12 @@
+pub mod Cells
+pub mod DayKeys
+pub mod Days
+pub mod Known
+pub mod Numbers
+pub mod Rates
+pub mod Refusals
+pub mod Sale
+pub mod Spread
+pub mod Totals
+pub mod ValueDays
+pub mod Worth
