@@ -5,3 +5,4 @@ pub mod Matching
 pub mod Meaning
 pub mod OwnLetters
 pub mod Types
+pub mod Words

@@ -4,12 +4,12 @@
 mod account_types;
 mod building;
 mod faults;
+mod law;
 mod matching;
 mod queries;
-#[cfg(test)]
-mod tests;
 
 pub use account_types::Types;
 pub use faults::QueryFault;
+pub use law::means_its_terms;
 pub use queries::{Query, Search, make_query};
 pub use query_terms::{ListMaker, MakeFault, Maker, RegexMaker};

@@ -1,5 +1,5 @@
 -- What a pattern finds in a text.
-use Rattle.std.specs.Prelude.{ℕ, Bool, false, not, ◌||◌, ◌==◌, List, [], ◌∷◌, ◌++◌, map, chars, codes, nat_eq, Option, Some, None, is_some, if◌then◌else◌}
+use Rattle.std.specs.Prelude.{ℕ, ◌%◌, Bool, false, not, ◌||◌, ◌==◌, List, [], ◌∷◌, ◌++◌, map, chars, codes, nat_eq, Option, Some, None, is_some, if◌then◌else◌}
 use Rattle.std.specs.List.{starts_with, list_any, list_all}
 use Rattle.std.specs.Map.{lookup}
 use Rattle.std.specs.Str.{bytes_eq}
@@ -33,9 +33,13 @@ Known = List (List ℕ × Re)
 abbrev pub re_of : Known → List ℕ → Option Re
 re_of known source = lookup (λ s. bytes_eq s source) known
 
+-- a text as bytes
+abbrev pub as_bytes : List ℕ → List ℕ
+as_bytes text = map (λ b. b % 256) text
+
 abbrev pub is_found : Option Re → List ℕ → Bool
 is_found None text = false
-is_found (Some re) text = is_some (find_str re text 0)
+is_found (Some re) text = is_some (find_str re (as_bytes text) 0)
 
 -- it is found somewhere in the text: a word by simple folding, any other as regex says
 abbrev pub finds : Known → Pattern → List ℕ → Bool

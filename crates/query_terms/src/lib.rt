@@ -10,8 +10,6 @@ mod makers;
 mod making;
 mod patterns;
 mod reading;
-#[cfg(test)]
-mod tests;
 
 pub use faults::MakeFault;
 pub use finding::Finder;

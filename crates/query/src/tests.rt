@@ -1,6 +1,0 @@
-//! Rows of terms, postings and answers, worked out by hand from the rules.
-mod letters;
-mod making;
-mod postings;
-mod samples;
-mod txns;
