@@ -7,6 +7,7 @@ use Rattle.report_options.specs.Values.{bare_value, written_value}
 use Rattle.report_options.specs.declared.command.Command.{Command}
 use Rattle.report_options.specs.declared.fault.OptionFault.{OptionFault}
 use Rattle.report_options.specs.declared.items.Item.{Item}
+use Rattle.report_options.specs.declared.names.Place.{Place}
 
 -- items before those that are read
 abbrev pub behind : List Item → Result (List Item) OptionFault → Result (List Item) OptionFault
@@ -38,33 +39,33 @@ pieces_end : (word : List ℕ) (rest : List (List ℕ)) → is_end word ≡ true
 pieces_end word [] end = rw end refl
 pieces_end word (next ∷ rest) end = rw end refl
 
-pub items_step : (command : Command) (day : ℕ) (word : List ℕ) (rest : List (List ℕ)) → is_end word ≡ false → items_in command day (word ∷ rest) ≡ put_first (item_of command day (piece_of word (next_of word rest))) (items_in command day (left_of word rest))
+pub items_step : (place : Place) (command : Command) (day : ℕ) (word : List ℕ) (rest : List (List ℕ)) → is_end word ≡ false → items_in place command day (word ∷ rest) ≡ put_first (item_of place command day (piece_of word (next_of word rest))) (items_in place command day (left_of word rest))
 unfolding items_in
-items_step command day word rest goes = ap (λ ps. all_read (map (item_of command day) ps)) (pieces_step word rest goes)
+items_step place command day word rest goes = ap (λ ps. all_read (map (item_of place command day) ps)) (pieces_step word rest goes)
 
-words_read : (command : Command) (day : ℕ) (rest : List (List ℕ)) → all_read (map (item_of command day) (map words rest)) ≡ Ok (map query_word rest)
-words_read command day [] = refl
-words_read command day (word ∷ rest) = ap (put_first (Ok (query_word word))) (words_read command day rest)
+words_read : (place : Place) (command : Command) (day : ℕ) (rest : List (List ℕ)) → all_read (map (item_of place command day) (map words rest)) ≡ Ok (map query_word rest)
+words_read place command day [] = refl
+words_read place command day (word ∷ rest) = ap (put_first (Ok (query_word word))) (words_read place command day rest)
 
-items_end : (command : Command) (day : ℕ) (word : List ℕ) (rest : List (List ℕ)) → is_end word ≡ true → items_in command day (word ∷ rest) ≡ Ok (map query_word rest)
+items_end : (place : Place) (command : Command) (day : ℕ) (word : List ℕ) (rest : List (List ℕ)) → is_end word ≡ true → items_in place command day (word ∷ rest) ≡ Ok (map query_word rest)
 unfolding items_in
-items_end command day word rest end =
-    ap (λ ps. all_read (map (item_of command day) ps)) (pieces_end word rest end) ∙ words_read command day rest
+items_end place command day word rest end =
+    ap (λ ps. all_read (map (item_of place command day) ps)) (pieces_end word rest end) ∙ words_read place command day rest
 
 -- the ways to go on and to end, over what is left
-module _ (command : Command) (day : ℕ) (whole : Result (List Item) OptionFault) (items : List Item) (left : List (List ℕ)) (so_far : whole ≡ behind items (items_in command day left)) where
+module _ (place : Place) (command : Command) (day : ℕ) (whole : Result (List Item) OptionFault) (items : List Item) (left : List (List ℕ)) (so_far : whole ≡ behind items (items_in place command day left)) where
   pub read_end : (word : List ℕ) (rest : List (List ℕ)) → left ≡ word ∷ rest → is_end word ≡ true → whole ≡ Ok (items ++ map query_word rest)
-  read_end word rest here end = rw (so_far, here, items_end command day word rest end) refl
+  read_end word rest here end = rw (so_far, here, items_end place command day word rest end) refl
 
-  pub read_more : (word : List ℕ) (rest : List (List ℕ)) (item : Item) → left ≡ word ∷ rest → is_end word ≡ false → item_of command day (piece_of word (next_of word rest)) ≡ Ok item → whole ≡ behind (items ++ item ∷ []) (items_in command day (left_of word rest))
+  pub read_more : (word : List ℕ) (rest : List (List ℕ)) (item : Item) → left ≡ word ∷ rest → is_end word ≡ false → item_of place command day (piece_of word (next_of word rest)) ≡ Ok item → whole ≡ behind (items ++ item ∷ []) (items_in place command day (left_of word rest))
   read_more word rest item here goes read =
-      rw (so_far, here, items_step command day word rest goes, read) (behind_more items item (items_in command day (left_of word rest)))
+      rw (so_far, here, items_step place command day word rest goes, read) (behind_more items item (items_in place command day (left_of word rest)))
 
-  pub read_bad : (word : List ℕ) (rest : List (List ℕ)) (fault : OptionFault) → left ≡ word ∷ rest → is_end word ≡ false → item_of command day (piece_of word (next_of word rest)) ≡ Err fault → whole ≡ Err fault
-  read_bad word rest fault here goes read = rw (so_far, here, items_step command day word rest goes, read) refl
+  pub read_bad : (word : List ℕ) (rest : List (List ℕ)) (fault : OptionFault) → left ≡ word ∷ rest → is_end word ≡ false → item_of place command day (piece_of word (next_of word rest)) ≡ Err fault → whole ≡ Err fault
+  read_bad word rest fault here goes read = rw (so_far, here, items_step place command day word rest goes, read) refl
 
   -- the fault of a word that doesn't read is that of all, if it is told
-  pub bad_told : (word : List ℕ) (rest : List (List ℕ)) → left ≡ word ∷ rest → is_end word ≡ false → (cause : Option OptionFault) → IfSome cause (λ fault. item_of command day (piece_of word (next_of word rest)) ≡ Err fault) → IfSome cause (λ fault. whole ≡ Err fault)
+  pub bad_told : (word : List ℕ) (rest : List (List ℕ)) → left ≡ word ∷ rest → is_end word ≡ false → (cause : Option OptionFault) → IfSome cause (λ fault. item_of place command day (piece_of word (next_of word rest)) ≡ Err fault) → IfSome cause (λ fault. whole ≡ Err fault)
   bad_told word rest here goes None told = tt
   bad_told word rest here goes (Some fault) told = read_bad word rest fault here goes told
 

@@ -1,10 +1,10 @@
 -- Items that are walked for the fields of the options.
-use Rattle.std.proofs.Common.{◌≡◌, ℕ, ◌+◌, ◌<◌, Bool, true, false, List, [], ◌∷◌, ◌++◌, find, reverse, take, length, get_or, Some, None, Ok, Err, refl, sym, ap, ◌∙◌}
+use Rattle.std.proofs.Common.{◌≡◌, ℕ, ◌+◌, ◌<◌, Bool, true, false, List, [], ◌∷◌, ◌++◌, find, reverse, take, length, get_or, Some, None, Result, Ok, Err, refl, sym, ap, ◌∙◌}
 use Rattle.std.proofs.lemmas.List.{take_more, reverse-append}
 use Rattle.report_options.specs.Names.{is_among, is_same_name}
-use Rattle.report_options.specs.Items.{items_of}
 use Rattle.report_options.specs.Conflicts.{conflict_in}
-use Rattle.report_options.specs.Options.{latest, query_words, options_of, reading}
+use Rattle.report_options.specs.Options.{latest, query_words, options_of, judged, reading_of}
+use Rattle.report_options.specs.Programs.{given_of, program_reading_of}
 use Rattle.report_options.specs.declared.command.Command.{Command}
 use Rattle.report_options.specs.declared.fault.OptionFault.{OptionFault}
 use Rattle.report_options.specs.declared.items.Item.{Item}
@@ -49,13 +49,27 @@ pub word_passed : (items : List Item) (i : ℕ) (item : Item) (found : List (Lis
 word_passed items i item found so_far lt is other =
     so_far ∙ sym (passed_last (take i items) item other) ∙ ap query_words (sym (taken items i item lt is))
 
+-- the ways in which items are judged
+module _ (read : Result (List Item) OptionFault) where
+  pub judged_bad : (fault : OptionFault) → read ≡ Err fault → judged read ≡ Err fault
+  judged_bad fault e = rw e refl
+
+  pub judged_clash : (items : List Item) (fault : OptionFault) → read ≡ Ok items → conflict_in items ≡ Some fault → judged read ≡ Err fault
+  judged_clash items fault e clash = rw (e, clash) refl
+
+  pub judged_read : (items : List Item) → read ≡ Ok items → conflict_in items ≡ None → judged read ≡ Ok items
+  judged_read items e none = rw (e, none) refl
+
 -- the ways in which words read
-module _ (command : Command) (day : ℕ) (those : List (List ℕ)) where
-  pub reading_bad : (fault : OptionFault) → items_of command day those ≡ Err fault → reading command day those ≡ Err fault
+module _ (command : Command) (read : Result (List Item) OptionFault) where
+  pub reading_bad : (fault : OptionFault) → read ≡ Err fault → reading_of command read ≡ Err fault
   reading_bad fault e = rw e refl
 
-  pub reading_clash : (items : List Item) (fault : OptionFault) → items_of command day those ≡ Ok items → conflict_in items ≡ Some fault → reading command day those ≡ Err fault
-  reading_clash items fault e clash = rw (e, clash) refl
+  pub reading_read : (items : List Item) → read ≡ Ok items → reading_of command read ≡ Ok (options_of command items, query_words items)
+  reading_read items e = rw e refl
 
-  pub reading_read : (items : List Item) → items_of command day those ≡ Ok items → conflict_in items ≡ None → reading command day those ≡ Ok (options_of command items, query_words items)
-  reading_read items e none = rw (e, none) refl
+  pub program_bad : (fault : OptionFault) → read ≡ Err fault → program_reading_of command read ≡ Err fault
+  program_bad fault e = rw e refl
+
+  pub program_read : (items : List Item) → read ≡ Ok items → program_reading_of command read ≡ Ok (given_of items, options_of command items, query_words items)
+  program_read items e = rw e refl

@@ -5,3 +5,4 @@ pub mod Depths
 pub mod Fields
 pub mod OptionRows
 pub mod Pieces
+pub mod Requests

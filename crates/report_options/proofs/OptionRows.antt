@@ -7,6 +7,7 @@ use Rattle.report_options.specs.Names.{name_of, interval_name, shown_name, sum_n
 use Rattle.report_options.specs.Items.{items_in}
 use Rattle.report_options.specs.Conflicts.{conflict_in}
 use Rattle.report_options.specs.Options.{reading}
+use Rattle.report_options.specs.Programs.{program_reading}
 use Rattle.report_options.specs.declared.command.Command.TheVariants as commands
 use Rattle.report_options.specs.declared.fault.OptionFault.TheVariants as faults
 
@@ -31,3 +32,12 @@ lone_begin = refl
 pub begin_soon : reading commands.Balance 739_052 (codes "-b" ∷ codes "soon" ∷ codes "-z" ∷ []) ≡ Err (faults.BadOption (codes "soon"))
 unfolding name_of interval_name shown_name sum_name layout_name items_in is_word keyword near_word one_word many_word interval_word word_of blanks run word_start word_stop words place_of moment after ended since_moment span_of period_of_words period_of
 begin_soon = refl
+
+-- a journal is named in the program alone
+pub request_file : reading commands.Print 739_052 (codes "-f" ∷ codes "a" ∷ []) ≡ Err (faults.BadOption (codes "-f"))
+unfolding name_of items_in
+request_file = refl
+
+pub file_and_store : program_reading commands.Check 739_052 (codes "-f" ∷ codes "-" ∷ codes "--store=s" ∷ []) ≡ Err (faults.Conflict (codes "-f") (codes "--store=s"))
+unfolding name_of items_in conflict_in
+file_and_store = refl

@@ -1,6 +1,6 @@
 -- Options that exclude each other.
 use Rattle.std.specs.Prelude.{Bool, false, not, ◌&&◌, ◌||◌, List, [], ◌∷◌, ◌++◌, map, find, Option, option_map}
-use Rattle.report_options.specs.Names.{is_among, is_same_name}
+use Rattle.report_options.specs.Names.{intervals, is_among, is_same_name}
 use Rattle.report_options.specs.declared.fault.OptionFault.{OptionFault}
 use Rattle.report_options.specs.declared.fault.OptionFault.TheVariants as faults
 use Rattle.report_options.specs.declared.items.Item.{Item}
@@ -11,13 +11,14 @@ use Rattle.report_options.specs.declared.names.Name.TheVariants as names
 abbrev pub are_two : Name → Name → List Name → Bool
 are_two a b those = is_among a those && is_among b those && not (is_same_name a b)
 
--- two intervals, two beginnings of sums, two layouts, two valuations
+-- two intervals, two beginnings of sums, two layouts, two valuations, a file and a store
 abbrev pub are_rivals : Name → Name → Bool
 are_rivals a b =
-    are_two a b (names.Daily ∷ names.Weekly ∷ names.Monthly ∷ names.Quarterly ∷ names.Yearly ∷ [])
+    are_two a b intervals
     || are_two a b (names.Historical ∷ names.Cumulative ∷ names.Change ∷ [])
     || are_two a b (names.Flat ∷ names.Tree ∷ [])
     || are_two a b (names.Market ∷ names.Exchange ∷ names.Value ∷ [])
+    || are_two a b (names.File ∷ names.Store ∷ [])
 
 -- totals and averages of rows exclude sums up to a day, an order by amount and a budget a tree, a budget such sums
 abbrev pub is_excluded : Name → Name → Bool

@@ -3,6 +3,7 @@ use Rattle.std.specs.Prelude.{ℕ, Bool, not, ◌&&◌, ◌==◌, eqb, nat_eq, L
 use Rattle.std.specs.List.{list_any, starts_with, before_first, after_first}
 use Rattle.std.specs.Option.{option_or}
 use Rattle.std.specs.Str.{bytes_eq}
+use Rattle.hl_base.specs.Ascii.{equals}
 use Rattle.report_options.specs.Names.{name_of, takes_value, has_option, is_sheet}
 use Rattle.report_options.specs.Values.{value_of, bare_value, written_value, HasDays}
 use Rattle.report_options.specs.declared.command.Command.{Command}
@@ -11,6 +12,7 @@ use Rattle.report_options.specs.declared.fault.OptionFault.TheVariants as faults
 use Rattle.report_options.specs.declared.items.Item.{Item}
 use Rattle.report_options.specs.declared.names.Name.{Name}
 use Rattle.report_options.specs.declared.names.Name.TheVariants as names
+use Rattle.report_options.specs.declared.names.Place.{Place}
 use Rattle.report_options.specs.declared.values.Value.{Value}
 use Rattle.report_options.specs.declared.values.Value.TheVariants as values
 
@@ -33,7 +35,7 @@ abbrev pub is_long : List ℕ → Bool
 is_long word = starts_with nat_eq word (codes "--")
 
 abbrev pub has_equals : List ℕ → Bool
-has_equals word = list_any (λ b. b == 61) word
+has_equals word = list_any (λ b. b == equals) word
 
 -- `--name=V`
 abbrev pub has_value : List ℕ → Bool
@@ -41,11 +43,11 @@ has_value word = is_long word && has_equals word
 
 -- what stands before the first `=`, or all
 abbrev pub before_equals : List ℕ → List ℕ
-before_equals word = before_first (λ b. eqb b 61) word
+before_equals word = before_first (λ b. eqb b equals) word
 
 -- what stands after the first `=`, or nothing
 abbrev pub after_equals : List ℕ → List ℕ
-after_equals word = after_first (λ b. eqb b 61) word
+after_equals word = after_first (λ b. eqb b equals) word
 
 -- the option that a word names
 abbrev pub option_name : List ℕ → Name
@@ -94,11 +96,11 @@ valued day word next =
     with_value word (unwrap_or next word) (option_name word)
     (value_of day (option_name word) (option_or (own_value word) next))
 
--- what a piece reads as
-abbrev pub item_of : Command → ℕ → Piece → Result Item OptionFault
-item_of command day (words word) = Ok (query_word word)
-item_of command day (option word next) =
-    if has_option command (option_name word) then valued day word next else bad_option word
+-- what a piece of words at a place reads as
+abbrev pub item_of : Place → Command → ℕ → Piece → Result Item OptionFault
+item_of place command day (words word) = Ok (query_word word)
+item_of place command day (option word next) =
+    if has_option place command (option_name word) then valued day word next else bad_option word
 
 abbrev pub put_first : Result Item OptionFault → Result (List Item) OptionFault → Result (List Item) OptionFault
 put_first (Err fault) items = Err fault
@@ -111,8 +113,8 @@ all_read [] = Ok []
 all_read (item ∷ items) = put_first item (all_read items)
 
 -- the items of the words, or the fault of the first that doesn't read
-unfoldable pub items_in : Command → ℕ → List (List ℕ) → Result (List Item) OptionFault
-items_in command day those = all_read (map (item_of command day) (pieces those))
+unfoldable pub items_in : Place → Command → ℕ → List (List ℕ) → Result (List Item) OptionFault
+items_in place command day those = all_read (map (item_of place command day) (pieces those))
 
 -- the command balancesheet, which stands last
 abbrev pub sheet_item : Item
@@ -122,8 +124,8 @@ abbrev pub with_sheet : Command → Result (List Item) OptionFault → Result (L
 with_sheet command (Ok items) = Ok (if is_sheet command then items ++ sheet_item ∷ [] else items)
 with_sheet command (Err fault) = Err fault
 
-abbrev pub items_of : Command → ℕ → List (List ℕ) → Result (List Item) OptionFault
-items_of command day those = with_sheet command (items_in command day those)
+abbrev pub items_of : Place → Command → ℕ → List (List ℕ) → Result (List Item) OptionFault
+items_of place command day those = with_sheet command (items_in place command day those)
 
 -- what the next words give to a word: its value, and what is left
 abbrev pub next_of : List ℕ → List (List ℕ) → Option (List ℕ)

@@ -1,15 +1,17 @@
 -- The options by their names, and the commands that have them.
-use Rattle.std.specs.Prelude.{ℕ, Bool, true, false, not, ◌||◌, ◌==◌, List, codes, if◌then◌else◌}
+use Rattle.std.specs.Prelude.{ℕ, Bool, true, false, not, ◌||◌, ◌==◌, List, [], ◌∷◌, codes, if◌then◌else◌}
 use Rattle.std.specs.List.{list_any}
 use Rattle.std.specs.Str.{bytes_eq}
 use Rattle.report_options.specs.declared.command.Command.{Command}
 use Rattle.report_options.specs.declared.command.Command.TheVariants as commands
 use Rattle.report_options.specs.declared.names.Name.{Name}
 use Rattle.report_options.specs.declared.names.Name.TheVariants as names
+use Rattle.report_options.specs.declared.names.Place.{Place}
+use Rattle.report_options.specs.declared.names.Place.TheVariants as places
 use Rattle.report_options.specs.declared.names.Reach.{Reach}
 use Rattle.report_options.specs.declared.names.Reach.TheVariants as reaches
 
--- a short and a long name of one option
+-- a short and a long name of one option or command
 abbrev pub is_either : List ℕ → List ℕ → List ℕ → Bool
 is_either word short long = bytes_eq word short || bytes_eq word long
 
@@ -67,7 +69,12 @@ name_of word =
     else if is_either word (codes "-X") (codes "--exchange") then names.Exchange
     else if bytes_eq word (codes "--value") then names.Value
     else if bytes_eq word (codes "--forecast") then names.Forecast
+    else if bytes_eq word (codes "-f") then names.File
+    else if bytes_eq word (codes "--store") then names.Store
     else interval_name word
+
+abbrev pub intervals : List Name
+intervals = names.Daily ∷ names.Weekly ∷ names.Monthly ∷ names.Quarterly ∷ names.Yearly ∷ []
 
 -- a value has to be written
 abbrev pub takes_value : Name → Bool
@@ -77,6 +84,8 @@ takes_value names.Period = true
 takes_value names.Depth = true
 takes_value names.Exchange = true
 takes_value names.Value = true
+takes_value names.File = true
+takes_value names.Store = true
 takes_value _ = false
 
 -- the reports with columns
@@ -141,21 +150,29 @@ reach_of names.Cumulative = reaches.Balance
 reach_of names.Change = reaches.Balance
 reach_of names.Budget = reaches.Balance
 reach_of names.Explicit = reaches.Print
+reach_of names.File = reaches.Program
+reach_of names.Store = reaches.Program
 reach_of _ = reaches.Columns
 
-abbrev pub is_reached : Command → Reach → Bool
-is_reached command reaches.Nowhere = false
-is_reached command reaches.Reports = not (is_check command)
-is_reached command reaches.Columns = has_columns command
-is_reached command reaches.Depths = has_depth command
-is_reached command reaches.Values = has_values command
-is_reached command reaches.Sums = has_sums command
-is_reached command reaches.Balance = is_balance command
-is_reached command reaches.Print = is_print command
+-- words of the program name a journal, and those of a request don't
+abbrev pub is_program : Place → Bool
+is_program places.Program = true
+is_program places.Request = false
 
--- the option is one of the command's
-abbrev pub has_option : Command → Name → Bool
-has_option command name = is_reached command (reach_of name)
+abbrev pub is_reached : Place → Command → Reach → Bool
+is_reached place command reaches.Nowhere = false
+is_reached place command reaches.Reports = not (is_check command)
+is_reached place command reaches.Columns = has_columns command
+is_reached place command reaches.Depths = has_depth command
+is_reached place command reaches.Values = has_values command
+is_reached place command reaches.Sums = has_sums command
+is_reached place command reaches.Balance = is_balance command
+is_reached place command reaches.Print = is_print command
+is_reached place command reaches.Program = is_program place
+
+-- the option is one of the command's, in words that stand at a place
+abbrev pub has_option : Place → Command → Name → Bool
+has_option place command name = is_reached place command (reach_of name)
 
 -- the place of a name in the table
 abbrev pub number_of : Name → ℕ
@@ -192,6 +209,8 @@ number_of names.Average = 29
 number_of names.RowTotal = 30
 number_of names.NoTotal = 31
 number_of names.SortAmount = 32
+number_of names.File = 33
+number_of names.Store = 34
 
 abbrev pub is_same_name : Name → Name → Bool
 is_same_name a b = number_of a == number_of b

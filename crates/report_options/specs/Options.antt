@@ -5,7 +5,7 @@ use Rattle.std.specs.Option.{option_or}
 use Rattle.hl_time.specs.Periods.{IsPeriod}
 use Rattle.hl_time.specs.declared.spans.Interval.{Interval}
 use Rattle.hl_time.specs.declared.spans.Period.{Period}
-use Rattle.report_options.specs.Names.{is_among, is_same_name, has_columns, is_sheet}
+use Rattle.report_options.specs.Names.{intervals, is_among, is_same_name, has_columns, is_sheet}
 use Rattle.report_options.specs.Values.{IsWhen}
 use Rattle.report_options.specs.Items.{items_of}
 use Rattle.report_options.specs.Conflicts.{conflict_in}
@@ -14,6 +14,7 @@ use Rattle.report_options.specs.declared.fault.OptionFault.{OptionFault}
 use Rattle.report_options.specs.declared.items.Item.{Item}
 use Rattle.report_options.specs.declared.names.Name.{Name}
 use Rattle.report_options.specs.declared.names.Name.TheVariants as names
+use Rattle.report_options.specs.declared.names.Place.TheVariants as places
 use Rattle.report_options.specs.declared.options.Options.{Options}
 use Rattle.report_options.specs.declared.options.Start.{Start}
 use Rattle.report_options.specs.declared.options.Start.TheVariants as starts
@@ -55,9 +56,6 @@ end_in (Some period) = period.end
 abbrev pub interval_in : Option Period → Option Interval
 interval_in None = None
 interval_in (Some period) = period.interval
-
-abbrev pub intervals : List Name
-intervals = names.Daily ∷ names.Weekly ∷ names.Monthly ∷ names.Quarterly ∷ names.Yearly ∷ []
 
 -- The interval of the columns, of a report that has some: that of the last of `-p` and the options of intervals, and where
 -- this is a `-p` without an interval, that of the last of the latter.
@@ -117,18 +115,23 @@ options_of command items = record {
 abbrev pub query_words : List Item → List (List ℕ)
 query_words items = map (λ item. item.word) (filter (λ item. is_same_name item.name names.Word) items)
 
-abbrev pub judged : Command → List Item → Option OptionFault → Result (Options × List (List ℕ)) OptionFault
-judged command items (Some fault) = Err fault
-judged command items None = Ok (options_of command items, query_words items)
+abbrev pub unless_conflict : List Item → Option OptionFault → Result (List Item) OptionFault
+unless_conflict items (Some fault) = Err fault
+unless_conflict items None = Ok items
+
+-- items that read, or the fault of the first two that exclude each other
+abbrev pub judged : Result (List Item) OptionFault → Result (List Item) OptionFault
+judged (Ok items) = unless_conflict items (conflict_in items)
+judged (Err fault) = Err fault
 
 abbrev pub reading_of : Command → Result (List Item) OptionFault → Result (Options × List (List ℕ)) OptionFault
-reading_of command (Ok items) = judged command items (conflict_in items)
+reading_of command (Ok items) = Ok (options_of command items, query_words items)
 reading_of command (Err fault) = Err fault
 
--- What the words of a command say on a day: its options and the words of its query, or the fault of the first word that is
--- no option or no value, or else of the first two words that exclude each other.
+-- What the words of a command in a request say on a day: its options and the words of its query, or the fault of the first
+-- word that is no option or no value, or else of the first two words that exclude each other.
 abbrev pub reading : Command → ℕ → List (List ℕ) → Result (Options × List (List ℕ)) OptionFault
-reading command day those = reading_of command (items_of command day those)
+reading command day those = reading_of command (judged (items_of places.Request command day those))
 
 -- all days are days, and an interval has a unit
 pub record IsValid (options : Options) : Type 0 where

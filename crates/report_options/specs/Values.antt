@@ -35,6 +35,8 @@ bare_value names.Period = None
 bare_value names.Depth = None
 bare_value names.Exchange = None
 bare_value names.Value = None
+bare_value names.File = None
+bare_value names.Store = None
 bare_value names.Daily = Some (every units.Day)
 bare_value names.Weekly = Some (every units.Week)
 bare_value names.Monthly = Some (every units.Month)
@@ -107,6 +109,10 @@ worth_in text = worth_with (when_in (before_comma text)) (target_in (after_comma
 abbrev pub exchange_in : List ℕ → Option Value
 exchange_in text = Some (values.Worth (record { when = whens.End; target = Some text }))
 
+-- the name of a file or a store, whatever it is
+abbrev pub name_in : List ℕ → Option Value
+name_in text = Some (values.Named text)
+
 -- The value that a text writes for an option, if it reads. A moment begins the days since it and ends those until it.
 abbrev pub written_value : ℕ → Name → List ℕ → Option Value
 written_value day names.Begin text = period_in (codes "since " ++ text) day
@@ -116,6 +122,8 @@ written_value day names.Forecast text = period_in text day
 written_value day names.Depth text = depth_in text
 written_value day names.Exchange text = exchange_in text
 written_value day names.Value text = worth_in text
+written_value day names.File text = name_in text
+written_value day names.Store text = name_in text
 written_value day _ text = None
 
 -- the value of an option by what is written for it

@@ -1,6 +1,9 @@
 //! The report commands.
-ghost use Rattle.std.specs.Prelude.{◌≡◌};
+ghost use Rattle.std.specs.Prelude.{◌≡◌, codes};
+ghost use Rattle.report_options.specs.Commands as commands;
 ghost use Rattle.report_options.specs.Names as spec;
+
+use crate::texts::{is_either, is_same};
 
 /// A report over a journal.
 #[derive(Clone, Copy, Debug, PartialEq, Eq)]
@@ -19,6 +22,31 @@ pub enum Command {
     Accounts,
     /// Nothing, of a journal without a fault.
     Check,
+}
+
+/// The command that a word names: one of the seven, or `bal`, `reg`, `is` or `bs`.
+#[tactic(auto, unfolding(crate::specs::Commands::command_named))]
+pub fn command_named(word: &str) -> Option<Command>
+    ensures { result ≡ commands.command_named word.now }
+{
+    let word = word.as_bytes();
+    if is_either(word, b"bal", b"balance") {
+        Some(Command::Balance)
+    } else if is_same(word, b"print") {
+        Some(Command::Print)
+    } else if is_either(word, b"reg", b"register") {
+        Some(Command::Register)
+    } else if is_either(word, b"is", b"incomestatement") {
+        Some(Command::IncomeStatement)
+    } else if is_either(word, b"bs", b"balancesheet") {
+        Some(Command::BalanceSheet)
+    } else if is_same(word, b"accounts") {
+        Some(Command::Accounts)
+    } else if is_same(word, b"check") {
+        Some(Command::Check)
+    } else {
+        None
+    }
 }
 
 /// Whether a report has columns: balance and the two statements.

@@ -6,7 +6,7 @@ ghost use Rattle.report_options.specs.Items.{fault_cause};
 
 use crate::fault::OptionFault;
 use crate::items::Item;
-use crate::names::{Name, is_among, is_same_name};
+use crate::names::{Name, intervals, is_among, is_same_name};
 use hl_base::{Memory, Text};
 use std::alloc::Global;
 
@@ -21,19 +21,11 @@ fn are_two(a: Name, b: Name, names: &[Name]) -> bool
 fn are_rivals(a: Name, b: Name) -> bool
     ensures { result ≡ spec.are_rivals a b }
 {
-    are_two(
-        a,
-        b,
-        &[
-            Name::Daily,
-            Name::Weekly,
-            Name::Monthly,
-            Name::Quarterly,
-            Name::Yearly,
-        ],
-    ) || are_two(a, b, &[Name::Historical, Name::Cumulative, Name::Change])
+    are_two(a, b, intervals())
+        || are_two(a, b, &[Name::Historical, Name::Cumulative, Name::Change])
         || are_two(a, b, &[Name::Flat, Name::Tree])
         || are_two(a, b, &[Name::Market, Name::Exchange, Name::Value])
+        || are_two(a, b, &[Name::File, Name::Store])
 }
 
 /// Whether an option excludes another one.

@@ -9,7 +9,7 @@ ghost use Rattle.report_options.specs.Values as values;
 
 use crate::command::{Command, is_sheet};
 use crate::fault::OptionFault;
-use crate::names::{Name, has_option, name_of, takes_value};
+use crate::names::{Name, Place, has_option, name_of, takes_value};
 use crate::values::{Value, bare_value, written_value};
 use hl_base::{Memory, Text};
 use hl_time::Day;
@@ -179,10 +179,11 @@ fn valued(alloc: Global, word: &Text, rest: &[Text], day: Day) -> Result<Item, O
     }
 }
 
-/// What a word is, before the words that follow it.
+/// What a word of a report at a place is, before the words that follow it.
 #[tactic(auto, using(crate::proofs::Pieces::item_word, crate::proofs::Pieces::item_option, crate::proofs::Pieces::item_bad))]
 fn item_of(
     alloc: Global,
+    place: Place,
     command: Command,
     word: &Text,
     rest: &[Text],
@@ -190,13 +191,14 @@ fn item_of(
 ) -> Result<Item, OptionFault>
     requires { IsDay day.0 }
     ensures answer { Gives (λ item. item) spec.fault_cause result
-        (spec.item_of command day.0 (spec.piece_of word.now (spec.next_of word.now rest.now))) }
+        (spec.item_of place command day.0
+        (spec.piece_of word.now (spec.next_of word.now rest.now))) }
     ensures days { IfOk result (λ item. values.HasDays item.value) }
 {
     if !is_option(word) {
         return Ok(query_word(alloc, word)?);
     }
-    if has_option(command, option_name(word.as_str())) {
+    if has_option(place, command, option_name(word.as_str())) {
         valued(alloc, word, rest, day)
     } else {
         bad_option(alloc, word)
@@ -244,10 +246,16 @@ fn push_words(alloc: Global, items: &mut Vec<Item>, words: &[Text]) -> Result<()
 
 /// The items of the words, or the fault of the first that doesn't read.
 #[tactic(auto, using(crate::proofs::Cutting::behind_nothing, crate::proofs::Cutting::read_end, crate::proofs::Cutting::read_more, crate::proofs::Cutting::read_bad, crate::proofs::Cutting::read_all, crate::proofs::Cutting::left_shorter))]
-fn cut(alloc: Global, command: Command, words: &[Text], day: Day) -> Result<Vec<Item>, OptionFault>
+fn cut(
+    alloc: Global,
+    place: Place,
+    command: Command,
+    words: &[Text],
+    day: Day,
+) -> Result<Vec<Item>, OptionFault>
     requires { IsDay day.0 }
     ensures answer { Gives (λ items. items.items) spec.fault_cause result
-        (spec.items_in command day.0 words.now) }
+        (spec.items_in place command day.0 words.now) }
     ensures days { IfOk result (λ items. All spec.IsDated items.items) }
 {
     let mut items = Vec::new(alloc);
@@ -257,7 +265,7 @@ fn cut(alloc: Global, command: Command, words: &[Text], day: Day) -> Result<Vec<
             push_words(alloc, &mut items, rest)?;
             return Ok(items);
         }
-        let item = item_of(alloc, command, word, rest, day)?;
+        let item = item_of(alloc, place, command, word, rest, day)?;
         push_item(&mut items, item)?;
         left = left_of(word, rest);
     }
@@ -275,20 +283,21 @@ fn sheet_item(alloc: Global) -> Result<Item, Memory>
     Ok(Item { word, name, value })
 }
 
-/// The items of a command's words; balancesheet itself stands last.
+/// The items of a command's words at a place; balancesheet itself stands last.
 #[tactic(auto, using(crate::proofs::Cutting::with_sheet_last, crate::proofs::Cutting::without_sheet, crate::proofs::Cutting::fault_stays))]
 pub(crate) fn read_items(
     alloc: Global,
+    place: Place,
     command: Command,
     words: &[Text],
     day: Day,
 ) -> Result<Vec<Item>, OptionFault>
     requires { IsDay day.0 }
     ensures answer { Gives (λ items. items.items) spec.fault_cause result
-        (spec.items_of command day.0 words.now) }
+        (spec.items_of place command day.0 words.now) }
     ensures days { IfOk result (λ items. All spec.IsDated items.items) }
 {
-    let mut items = cut(alloc, command, words, day)?;
+    let mut items = cut(alloc, place, command, words, day)?;
     if is_sheet(command) {
         let item = sheet_item(alloc)?;
         push_item(&mut items, item)?;

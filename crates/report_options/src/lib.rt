@@ -7,12 +7,15 @@ mod fault;
 mod items;
 mod names;
 mod options;
+mod program;
 mod reading;
-#[cfg(test)]
-mod tests;
+mod terms;
+mod texts;
 mod values;
 
-pub use command::Command;
+pub use command::{Command, command_named};
 pub use fault::OptionFault;
 pub use options::{Options, Start, Valuation, When};
+pub use program::{Given, read_program_options};
 pub use reading::read_options;
+pub use terms::option_terms;

@@ -1,9 +1,18 @@
 //! The options by their names, and the commands that have them.
 ghost use Rattle.std.specs.Prelude.{◌≡◌, codes};
-ghost use Rattle.std.specs.Str.{bytes_eq};
 ghost use Rattle.report_options.specs.Names as spec;
 
 use crate::command::{Command, has_columns};
+use crate::texts::{is_either, is_same};
+
+/// Where the words of a report stand.
+#[derive(Clone, Copy)]
+pub(crate) enum Place {
+    /// Behind the program's name, where they name the journal too.
+    Program,
+    /// In a request, over the journal that is served.
+    Request,
+}
 
 /// What a word is by its name.
 #[derive(Clone, Copy)]
@@ -43,6 +52,8 @@ pub(crate) enum Name {
     RowTotal,
     NoTotal,
     SortAmount,
+    File,
+    Store,
 }
 
 /// The commands that have an option.
@@ -61,18 +72,25 @@ pub(crate) enum Reach {
     Sums,
     Balance,
     Print,
+    /// All, in words of the program.
+    Program,
 }
 
-fn is_same(a: &[u8], b: &[u8]) -> bool
-    ensures { result ≡ bytes_eq a.now b.now }
-{
-    a == b
-}
+/// The option of periods, and behind it those of intervals.
+pub(crate) const PERIODS: [Name; 6] = [
+    Name::Period,
+    Name::Daily,
+    Name::Weekly,
+    Name::Monthly,
+    Name::Quarterly,
+    Name::Yearly,
+];
 
-fn is_either(word: &[u8], short: &[u8], long: &[u8]) -> bool
-    ensures { result ≡ spec.is_either word.now short.now long.now }
+/// The options of intervals.
+pub(crate) fn intervals() -> &'static [Name]
+    ensures { result.now ≡ spec.intervals }
 {
-    is_same(word, short) || is_same(word, long)
+    &PERIODS[1..]
 }
 
 /// The options of lines, columns and totals.
@@ -182,6 +200,10 @@ pub(crate) fn name_of(word: &[u8]) -> Name
         Name::Value
     } else if is_same(word, b"--forecast") {
         Name::Forecast
+    } else if is_same(word, b"-f") {
+        Name::File
+    } else if is_same(word, b"--store") {
+        Name::Store
     } else {
         interval_name(word)
     }
@@ -193,6 +215,7 @@ pub(crate) fn takes_value(name: Name) -> bool
 {
     match name {
         Name::Begin | Name::End | Name::Period | Name::Depth | Name::Exchange | Name::Value => true,
+        Name::File | Name::Store => true,
         _ => false,
     }
 }
@@ -211,6 +234,7 @@ fn reach_of(name: Name) -> Reach
         Name::Historical => Reach::Sums,
         Name::Cumulative | Name::Change | Name::Budget => Reach::Balance,
         Name::Explicit => Reach::Print,
+        Name::File | Name::Store => Reach::Program,
         _ => Reach::Columns,
     }
 }
@@ -233,9 +257,18 @@ fn has_values(command: Command) -> bool
     }
 }
 
-/// Whether a command is among those that have an option.
-fn is_reached(command: Command, reach: Reach) -> bool
-    ensures { result ≡ spec.is_reached command reach }
+fn is_program(place: Place) -> bool
+    ensures { result ≡ spec.is_program place }
+{
+    match place {
+        Place::Program => true,
+        Place::Request => false,
+    }
+}
+
+/// Whether a command is among those that have an option, in words that stand at a place.
+fn is_reached(place: Place, command: Command, reach: Reach) -> bool
+    ensures { result ≡ spec.is_reached place command reach }
 {
     match reach {
         Reach::Nowhere => false,
@@ -246,6 +279,7 @@ fn is_reached(command: Command, reach: Reach) -> bool
         Reach::Sums => has_sums(command),
         Reach::Balance => is_balance(command),
         Reach::Print => is_print(command),
+        Reach::Program => is_program(place),
     }
 }
 
@@ -285,11 +319,11 @@ fn is_print(command: Command) -> bool
     }
 }
 
-/// Whether an option is one of a command's.
-pub(crate) fn has_option(command: Command, name: Name) -> bool
-    ensures { result ≡ spec.has_option command name }
+/// Whether an option is one of a command's, in words that stand at a place.
+pub(crate) fn has_option(place: Place, command: Command, name: Name) -> bool
+    ensures { result ≡ spec.has_option place command name }
 {
-    is_reached(command, reach_of(name))
+    is_reached(place, command, reach_of(name))
 }
 
 /// The place of a name in the table, by which names are told apart.
@@ -330,6 +364,8 @@ fn number_of(name: Name) -> u8
         Name::RowTotal => 30,
         Name::NoTotal => 31,
         Name::SortAmount => 32,
+        Name::File => 33,
+        Name::Store => 34,
     }
 }
 

@@ -4,7 +4,7 @@ ghost use Rattle.std.specs.Option.{option_copied, option_or};
 ghost use Rattle.hl_base.specs.Gives.{Gives};
 ghost use Rattle.hl_time.specs.Calendar.{IsDay};
 ghost use Rattle.hl_time.specs.Periods.{IsPeriod};
-ghost use Rattle.report_options.specs.Items.{fault_cause, IsDated};
+ghost use Rattle.report_options.specs.Items.{fault_cause, items_of, IsDated};
 ghost use Rattle.report_options.specs.Options as spec;
 ghost use Rattle.report_options.specs.Values.{IsWhen};
 ghost use Rattle.report_options.specs.declared.names.Name.TheVariants as names;
@@ -13,7 +13,7 @@ use crate::command::{Command, has_columns, is_sheet};
 use crate::conflicts::refuse_conflicts;
 use crate::fault::OptionFault;
 use crate::items::{Item, read_items};
-use crate::names::{Name, is_among, is_same_name};
+use crate::names::{Name, PERIODS, Place, intervals, is_among, is_same_name};
 use crate::options::{Options, Start, Valuation};
 use crate::values::Value;
 use hl_base::{List, Memory, Text};
@@ -29,7 +29,7 @@ fn has(items: &[Item], name: Name) -> bool
 
 /// The last of some options.
 #[tactic(auto, using(crate::proofs::Fields::latest_found, crate::proofs::Fields::latest_older))]
-fn latest<'a>(items: &'a [Item], names: &[Name]) -> Option<&'a Item>
+pub(crate) fn latest<'a>(items: &'a [Item], names: &[Name]) -> Option<&'a Item>
     ensures value { option_copied result ≡ spec.latest items.now names.now }
     ensures days { All IsDated items.now → IfSome result (λ item. IsDated item.now) }
 {
@@ -104,28 +104,9 @@ fn interval(command: Command, items: &[Item]) -> Option<Interval>
     if !has_columns(command) {
         return None;
     }
-    match interval_in(days(
-        items,
-        &[
-            Name::Period,
-            Name::Daily,
-            Name::Weekly,
-            Name::Monthly,
-            Name::Quarterly,
-            Name::Yearly,
-        ],
-    )) {
+    match interval_in(days(items, &PERIODS)) {
         Some(interval) => Some(interval),
-        None => interval_in(days(
-            items,
-            &[
-                Name::Daily,
-                Name::Weekly,
-                Name::Monthly,
-                Name::Quarterly,
-                Name::Yearly,
-            ],
-        )),
+        None => interval_in(days(items, intervals())),
     }
 }
 
@@ -203,7 +184,7 @@ fn start(command: Command, items: &[Item]) -> Start
 }
 
 /// What the options say.
-fn options_of(alloc: Global, command: Command, items: &[Item]) -> Result<Options, Memory>
+pub(crate) fn options_of(alloc: Global, command: Command, items: &[Item]) -> Result<Options, Memory>
     requires { All IsDated items.now }
     ensures value { IfOk result (λ options. options ≡ spec.options_of command items.now) }
     ensures valid { IfOk result spec.IsValid }
@@ -234,7 +215,7 @@ fn options_of(alloc: Global, command: Command, items: &[Item]) -> Result<Options
 
 /// The query's words.
 #[tactic(auto, using(crate::proofs::Fields::word_more, crate::proofs::Fields::word_passed))]
-fn query_words(alloc: Global, items: &[Item]) -> Result<List<Text>, Memory>
+pub(crate) fn query_words(alloc: Global, items: &[Item]) -> Result<List<Text>, Memory>
     ensures { IfOk result (λ words. words ≡ spec.query_words items.now) }
 {
     let mut words = Vec::new(alloc);
@@ -246,11 +227,31 @@ fn query_words(alloc: Global, items: &[Item]) -> Result<List<Text>, Memory>
     Ok(List::from_vec(words))
 }
 
-/// What the words of a report command say on a day: its options, and the words of the query. A `BadOption` names the first
-/// word that begins with `-` and is no option of the command, lacks its value, or is or holds a value that doesn't read. A
-/// `Conflict` names two options that exclude each other, the pair whose later word stands first, and of these the one whose
-/// earlier word does; balancesheet itself stands last, as `bs`. The options' days are days, and intervals have a unit.
-#[tactic(auto, using(crate::proofs::Fields::reading_read, crate::proofs::Fields::reading_bad, crate::proofs::Fields::reading_clash))]
+/// The items of a command's words at a place, if they read and none excludes another.
+#[tactic(auto, using(crate::proofs::Fields::judged_read, crate::proofs::Fields::judged_bad, crate::proofs::Fields::judged_clash))]
+pub(crate) fn judged_items(
+    alloc: Global,
+    place: Place,
+    command: Command,
+    words: &[Text],
+    day: Day,
+) -> Result<Vec<Item>, OptionFault>
+    requires { IsDay day.0 }
+    ensures answer { Gives (λ items. items.items) fault_cause result
+        (spec.judged (items_of place command day.0 words.now)) }
+    ensures days { IfOk result (λ items. All IsDated items.items) }
+{
+    let items = read_items(alloc, place, command, words, day)?;
+    refuse_conflicts(alloc, &items)?;
+    Ok(items)
+}
+
+/// What the words of a report command in a request say on a day: its options, and the words of the query. A `BadOption` names
+/// the first word that begins with `-` and is no option of the command, lacks its value, or is or holds a value that doesn't
+/// read; `-f` and `--store` are none. A `Conflict` names two options that exclude each other, the pair whose later word stands
+/// first, and of these the one whose earlier word does; balancesheet itself stands last, as `bs`. The options' days are days,
+/// and intervals have a unit.
+#[tactic(auto, using(crate::proofs::Fields::reading_read, crate::proofs::Fields::reading_bad))]
 pub fn read_options(
     alloc: Global,
     command: Command,
@@ -262,8 +263,7 @@ pub fn read_options(
         (spec.reading command day.0 words.now) }
     ensures valid { IfOk result (λ read. spec.IsValid read.0) }
 {
-    let items = read_items(alloc, command, words, day)?;
-    refuse_conflicts(alloc, &items)?;
+    let items = judged_items(alloc, Place::Request, command, words, day)?;
     let options = options_of(alloc, command, &items)?;
     let query = query_words(alloc, &items)?;
     Ok((options, query))

@@ -1,7 +1,6 @@
 //! The values of options.
 ghost use Rattle.std.specs.Prelude.{◌≡◌, ◌++◌, ◌≤◌, true, IfOk, IfSome, min, length, codes, option_map};
 ghost use Rattle.std.specs.List.{list_all, before_first, after_first};
-ghost use Rattle.std.specs.Str.{bytes_eq};
 ghost use Rattle.std.specs.Str.Parse.{digits_value};
 ghost use Rattle.hl_num.specs.Reading.{is_digit};
 ghost use Rattle.hl_time.specs.Calendar.{IsDay};
@@ -10,6 +9,7 @@ ghost use Rattle.report_options.specs.Values as spec;
 
 use crate::names::Name;
 use crate::options::{Valuation, When};
+use crate::texts::is_same;
 use hl_base::{Memory, Text};
 use hl_time::{Day, Interval, Period, Unit, read_date, read_period};
 use std::alloc::Global;
@@ -21,12 +21,8 @@ pub(crate) enum Value {
     Days(Period),
     Depth(u64),
     Worth(Valuation),
-}
-
-fn is_same(a: &[u8], b: &[u8]) -> bool
-    ensures { result ≡ bytes_eq a.now b.now }
-{
-    a == b
+    /// The name of a file or a store.
+    Named(Text),
 }
 
 /// A period without bounds.
@@ -56,6 +52,7 @@ pub(crate) fn bare_value(name: Name) -> Option<Value>
     match name {
         Name::Begin | Name::End | Name::Period => None,
         Name::Depth | Name::Exchange | Name::Value => None,
+        Name::File | Name::Store => None,
         Name::Daily => Some(every(Unit::Day)),
         Name::Weekly => Some(every(Unit::Week)),
         Name::Monthly => Some(every(Unit::Month)),
@@ -224,6 +221,14 @@ fn exchange_of(alloc: Global, text: &str) -> Result<Option<Value>, Memory>
     Ok(Some(Value::Worth(Valuation { when, target })))
 }
 
+/// The name that a text is.
+fn name_of(alloc: Global, text: &str) -> Result<Option<Value>, Memory>
+    ensures value { IfOk result (λ value. value ≡ spec.name_in text.now) }
+    ensures days { IfOk result (λ value. IfSome value spec.HasDays) }
+{
+    Ok(Some(Value::Named(Text::copied(alloc, text)?)))
+}
+
 /// The value of an option that a text writes, if it reads.
 pub(crate) fn written_value(
     alloc: Global,
@@ -242,6 +247,7 @@ pub(crate) fn written_value(
         Name::Depth => Ok(depth_of(text.as_bytes())),
         Name::Exchange => exchange_of(alloc, text),
         Name::Value => worth_of(alloc, text),
+        Name::File | Name::Store => name_of(alloc, text),
         _ => Ok(None),
     }
 }

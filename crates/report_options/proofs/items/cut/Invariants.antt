@@ -5,7 +5,7 @@ use Rattle.report_options.proofs.items.cut.Given as goal
 
 abbrev pub invariant-loop-word : goal.invariant-loop-word
 invariant-loop-word l = record {
-  read : items_in l.command l.day.0 l.words ≡ behind l.items.items (items_in l.command l.day.0 l.left);
+  read : items_in l.place l.command l.day.0 l.words ≡ behind l.items.items (items_in l.place l.command l.day.0 l.left);
   days : All IsDated l.items.items;
 }
 
