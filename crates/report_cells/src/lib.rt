@@ -12,11 +12,11 @@ mod row;
 mod running;
 mod symbol_key;
 pub mod taking;
-#[cfg(test)]
-mod tests;
 mod turnover;
 
 pub use cells::{CellRow, Cells, make_cells};
 pub use fault::ReportFault;
 pub use reach::Reach;
+pub use row::add_share;
 pub use taking::{Share, Taking};
+pub use turnover::check_range;

@@ -59,8 +59,8 @@ impl Row {
     }
 }
 
-/// Adds an amount, if it is there, to sums where it fits.
-fn add_share(alloc: Global, sums: &mut Mixed, amount: &Option<Share>) -> Result<(), Memory>
+/// Adds an amount, if it is there, to sums with which it stays within bounds. Fails only for want of memory.
+pub fn add_share(alloc: Global, sums: &mut Mixed, amount: &Option<Share>) -> Result<(), Memory>
     requires { ShareFits amount.now sums.old }
     ensures { OnOk result (sums.new ≡ with_share amount.now sums.old) }
 {

@@ -75,8 +75,8 @@ fn scaled(number: u128, more: u8) -> u128
 }
 
 /// Refuses takings whose absolute amounts in a symbol sum to 2^127 or more, in units of their greatest number of
-/// decimals, by the least such symbol.
-pub(crate) fn check_range(alloc: Global, takings: &[Taking]) -> Result<(), ReportFault>
+/// decimals: `Range` names the least such symbol. Of other takings any can be summed in any order.
+pub fn check_range(alloc: Global, takings: &[Taking]) -> Result<(), ReportFault>
     ensures fits { OnOk result (TurnoverFits takings.now) }
     ensures few { OnOk result (AllByRecursion (λ t. HasFewPlaces t.amount) takings.now) }
     ensures none { OnOk result (first_out takings.now ≡ None) }
