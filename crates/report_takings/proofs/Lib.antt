@@ -1,8 +1,10 @@
 pub mod Ending
 pub mod Following
+pub mod Intervals
 pub mod Keeping
 pub mod Outs
 pub mod Parts
 pub mod Steps
 pub mod Unique
 pub mod Serving
+pub mod Shortened

@@ -11,17 +11,16 @@ use Rattle.query_terms.specs.Finders.{known_in}
 use Rattle.query_terms.specs.Patterns.{Known}
 use Rattle.query_terms.specs.Sought.{known_of}
 use Rattle.query_terms.specs.declared.kinds.Term.{Term}
-use Rattle.report_takings.specs.Asking as asking
-use Rattle.report_takings.specs.Asking.{Serves}
+use Rattle.report_takings.specs.Asking.{Serves, question_of}
 use Rattle.report_takings.specs.declared.scope.Scope.{Scope}
 
 module _ (scope : Scope) (search : Search) (p : Posting) (t : Txn) (serves : Serves search scope.query.now) where
-  pub posting_is : sought_posting search scope.types.now p t ≡ asking.means scope (p, t)
+  pub posting_is : sought_posting search scope.types.now p t ≡ (question_of scope).means (p, t)
   posting_is =
       ap (λ (known : Known). means_posting known (own_in scope.types.now) search.terms.now p t) serves.known
       ∙ ap (λ (terms : List Term). means_posting (known_of scope.query.now.regexes.items) (own_in scope.types.now) terms p t) serves.terms
 
-  pub undated_is : sought_undated search scope.types.now p t ≡ asking.means_undated scope (p, t)
+  pub undated_is : sought_undated search scope.types.now p t ≡ (question_of scope).means_undated (p, t)
   undated_is =
       ap (λ (known : Known). means_undated known (own_in scope.types.now) search.terms.now p t) serves.known
       ∙ ap (λ (terms : List Term). means_undated (known_of scope.query.now.regexes.items) (own_in scope.types.now) terms p t) serves.terms

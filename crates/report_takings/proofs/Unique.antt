@@ -1,18 +1,13 @@
--- A report has one list of columns.
-use Rattle.std.proofs.Common.{◌≡◌, ℕ, zero, suc, ◌+◌, ◌-◌, ◌<◌, ◌≤◌, true, false, inl, inr, List, [], ◌∷◌, length, Option, Some, None, sym, ap, ◌∙◌, arith}
-use Rattle.std.specs.Bool.{MatchBool}
+-- A span is split in one way.
+use Rattle.std.proofs.Common.{◌≡◌, ℕ, zero, suc, ◌+◌, ◌-◌, ◌<◌, ◌≤◌, inl, inr, List, length, sym, ap, ◌∙◌, arith}
 use Rattle.std.proofs.lemmas.Bool.{cases_lt}
 use Rattle.std.proofs.lemmas.List.{ext_get_or}
-use Rattle.hl_time.specs.Periods.{is_within}
 use Rattle.hl_time.specs.Split.{begins, part_at, IsInterval, IsSplit}
 use Rattle.hl_time.specs.Units.{unit_start}
 use Rattle.hl_time.specs.declared.spans.Interval.{Interval}
 use Rattle.hl_time.specs.declared.spans.Span.{Span}
 use Rattle.hl_time.proofs.UnitLaws.{unit_start_mono}
 use Rattle.report_cells.specs.Follows.{Follow}
-use Rattle.report_takings.specs.Columns.{IsCut, AreColumns, HasTooMany}
-use Rattle.report_takings.specs.Spans.{span_of}
-use Rattle.report_takings.specs.declared.scope.Scope.{Scope}
 use Rattle.report_takings.proofs.Following.{split_follows}
 
 -- of columns that follow one another a later one ends no earlier
@@ -58,26 +53,7 @@ module _ (span : Span) (interval : Interval) where
         | inr above ↦ above
       ]
 
-  split_once : (a b : List Span) → IsSplit span interval a → IsSplit span interval b → a ≡ b
+  pub split_once : (a b : List Span) → IsSplit span interval a → IsSplit span interval b → a ≡ b
   split_once a b one two =
       let same : length a ≡ length b = omega (arith, not_shorter a b one two, not_shorter b a two one) in
       ext_get_or (record { from = 0; end = 0 }) a b same (λ at below. same_at a b one two at below (omega (arith, same)))
-
--- a span is cut in one way
-pub cut_once : (interval : Option Interval) (span : Span) (a b : List Span) → IsCut interval span a → IsCut interval span b → a ≡ b
-cut_once None span a b one two = one ∙ sym two
-cut_once (Some interval) span a b one two =
-    elim (is_within span) as (λ t. MatchBool t (IsSplit span interval a) (a ≡ span ∷ []) → MatchBool t (IsSplit span interval b) (b ≡ span ∷ []) → a ≡ b) [
-      | true ↦ λ x y. split_once span interval a b x y
-      | false ↦ λ x y. x ∙ sym y
-    ] one two
-
--- more columns than a report may have
-pub too_many : (scope : Scope) (columns : List Span) (count limit : ℕ) → AreColumns scope columns → count ≡ length columns → limit < count → limit ≡ 1200 → HasTooMany scope count limit
-too_many scope columns count limit are counted many most = record {
-  columns = columns;
-  are = are;
-  counted = λ others too. counted ∙ ap length (cut_once scope.options.now.bounds.interval (span_of scope) columns others are too);
-  many = many;
-  most = most;
-}

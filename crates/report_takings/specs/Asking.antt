@@ -1,24 +1,45 @@
--- Which postings the query of a report means.
-use Rattle.std.specs.Prelude.{◌≡◌, Bool, List}
-use Rattle.query.specs.Meaning.{of_posting, of_undated}
+-- What a report is asked over.
+use Rattle.std.specs.Prelude.{◌≡◌, ℕ, Bool, List, Option}
+use Rattle.hl_time.specs.declared.spans.Period.{Period}
+use Rattle.book.specs.declared.transaction.Txn.{Txn}
+use Rattle.query.specs.Matching.{dates_in, depth_in}
+use Rattle.query.specs.Meaning.{of_posting, of_txn, of_undated}
 use Rattle.query.specs.declared.queries.Query.{Query}
 use Rattle.query.specs.declared.queries.Search.{Search}
 use Rattle.query_terms.specs.Finders.{known_in}
 use Rattle.query_terms.specs.Sought.{known_of}
+use Rattle.report_options.specs.declared.options.Options.{Options}
 use Rattle.report_takings.specs.Entries.{Entry, entries_of}
 use Rattle.report_takings.specs.declared.scope.Scope.{Scope}
 
--- the postings of the report's book
-abbrev pub entries : Scope → List Entry
-entries scope = entries_of scope.book.now.txns
+-- the transactions of a book; which of their postings the query means, which whatever their days, and which transactions; the
+-- bounds that its terms of days have in common, and its depth; the options, and the day that is handed in
+pub record Question : Type 0 where
+  pub txns : List Txn
+  pub means : Entry → Bool
+  pub means_undated : Entry → Bool
+  pub means_txn : Txn → Bool
+  pub dates : Period
+  pub depth : Option ℕ
+  pub options : Options
+  pub day : ℕ
 
--- the query means a posting
-abbrev pub means : Scope → Entry → Bool
-means scope entry = of_posting scope.query.now scope.types.now entry.0 entry.1
+-- what a report is asked over a book by a query
+abbrev pub question_of : Scope → Question
+question_of scope = record {
+  txns = scope.book.now.txns;
+  means = λ entry. of_posting scope.query.now scope.types.now entry.0 entry.1;
+  means_undated = λ entry. of_undated scope.query.now scope.types.now entry.0 entry.1;
+  means_txn = λ txn. of_txn scope.query.now scope.types.now txn;
+  dates = dates_in scope.query.now.terms.items;
+  depth = depth_in scope.query.now.terms.items;
+  options = scope.options.now;
+  day = scope.day.0;
+}
 
--- it means the posting, whatever its day
-abbrev pub means_undated : Scope → Entry → Bool
-means_undated scope entry = of_undated scope.query.now scope.types.now entry.0 entry.1
+-- the postings of its book
+abbrev pub entries : Question → List Entry
+entries asked = entries_of asked.txns
 
 -- a search means what the query does
 pub record Serves (search : Search) (query : Query) : Type 0 where

@@ -1,15 +1,16 @@
 -- Amounts that are taken at cost.
-use Rattle.std.specs.Prelude.{ℕ, Bool, true, false, not, ◌||◌, List, filter, Option, Some, None, slice_get, if◌then◌else◌}
+use Rattle.std.specs.Prelude.{ℕ, Bool, true, false, not, ◌&&◌, ◌||◌, List, filter, Option, Some, None, is_some, slice_get, if◌then◌else◌}
 use Rattle.std.specs.List.{flat_map}
 use Rattle.std.specs.Option.{option_map}
 use Rattle.std.specs.Ordering.{nat_cmp, match_ordering}
 use Rattle.std.specs.Cmp.Lexicographic.{slice_cmp}
+use Rattle.hl_num.specs.Decimal.{units_of}
 use Rattle.book.specs.Order.{each_once}
 use Rattle.book.specs.Sums.{symbol_in}
 use Rattle.book.specs.declared.amount.Amount.{Amount}
 use Rattle.book.specs.declared.transaction.Posting.{Posting}
 use Rattle.entry_balance.specs.Entry.{amount_cost_fits}
-use Rattle.entry_balance.specs.Values.{Value, value_of, at_cost}
+use Rattle.entry_balance.specs.Values.{Value, value_of, at_cost, trimmed}
 use Rattle.report_options.specs.declared.options.Options.{Options}
 use Rattle.report_options.specs.declared.options.Valuation.{Valuation}
 use Rattle.report_options.specs.declared.options.When.{When}
@@ -28,10 +29,19 @@ values_at_cost (Some worth) = is_cost worth.when
 abbrev pub is_at_cost : Options → Bool
 is_at_cost options = options.cost || values_at_cost options.value
 
+-- balancing found what a posting moves: its cost where it moves one, else its amount
+abbrev pub is_found : Bool → Posting → Bool
+is_found costs posting = if costs && is_some posting.cost then posting.costed else posting.filled
+
+-- what is written keeps its decimals; what balancing found has as few as it needs
+abbrev pub told_as : Bool → Value → Value
+told_as found value = if found then (value.0, trimmed (units_of value.1) 36) else value
+
 -- what a posting moves: its amount, or what that costs
 abbrev pub moved : Bool → Posting → Option Value
 moved costs posting =
-    option_map (λ amount. if costs then at_cost amount posting.cost else value_of amount) posting.amount
+    option_map (λ amount. told_as (is_found costs posting) (if costs then at_cost amount posting.cost else value_of amount))
+    posting.amount
 
 -- what a posting costs is out of range
 abbrev pub is_unpriced : Entry → Bool

@@ -1,16 +1,17 @@
--- The postings that are kept, one transaction after another.
+-- The postings that are chosen, one transaction after another.
 use Rattle.std.specs.Prelude.{[], ◌∷◌, List, filter}
 use Rattle.std.specs.List.{flat_map}
 use Rattle.hl_time.specs.declared.spans.Span.{Span}
 use Rattle.book.specs.declared.transaction.Txn.{Txn}
+use Rattle.report_options.specs.declared.options.Start.{Start}
+use Rattle.report_takings.specs.Asking.{Question}
 use Rattle.report_takings.specs.Entries.{Entry}
-use Rattle.report_takings.specs.Takings.{is_taken}
-use Rattle.report_takings.specs.declared.scope.Scope.{Scope}
+use Rattle.report_takings.specs.Takings.{is_chosen}
 
--- a posting, where it is taken
-abbrev pub kept_of : Scope → Span → Entry → List Entry
-kept_of scope shown entry = filter (is_taken scope shown) (entry ∷ [])
+-- a posting, where it is chosen
+abbrev pub chosen_of : Start → Question → Span → Entry → List Entry
+chosen_of start asked shown entry = filter (is_chosen start asked shown) (entry ∷ [])
 
 -- those of a transaction
-abbrev pub kept_in : Scope → Span → Txn → List Entry
-kept_in scope shown txn = flat_map (λ posting. kept_of scope shown (posting, txn)) txn.postings
+abbrev pub chosen_in : Start → Question → Span → Txn → List Entry
+chosen_in start asked shown txn = flat_map (λ posting. chosen_of start asked shown (posting, txn)) txn.postings

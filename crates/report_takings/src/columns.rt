@@ -2,7 +2,8 @@
 ghost use Rattle.std.specs.Prelude.{◌≡◌, ◌<◌, ◌≤◌, ◌∷◌, [], length, IfOk, IfErr, IfSome};
 ghost use Rattle.hl_time.specs.Periods.{is_within};
 ghost use Rattle.report_cells.specs.Follows.{Follow};
-ghost use Rattle.report_takings.specs.Columns.{AreColumns, IsCut, IsTooWide, column_limit};
+ghost use Rattle.report_takings.specs.Asking.{question_of};
+ghost use Rattle.report_takings.specs.Columns as spec;
 
 use crate::scope::Scope;
 use crate::spans::span_of;
@@ -16,13 +17,12 @@ pub const COLUMN_LIMIT: u64 = 1_200;
 
 /// The columns of a report: its span, cut into whole intervals where it has a day and the options have an interval.
 /// `TooWide` comes exactly where there are more than `COLUMN_LIMIT`. An interval has at least one unit.
-#[tactic(auto, using(crate::proofs::Unique::too_many))]
 pub fn columns_of(alloc: Global, scope: &Scope) -> Result<List<Span>, ReportFault>
     requires { IfSome scope.now.options.now.bounds.interval (λ interval. 1 ≤ interval.n) }
-    ensures columns { IfOk result (AreColumns scope.now) }
-    ensures few { IfOk result (λ columns. length columns ≤ column_limit) }
+    ensures columns { IfOk result (λ columns. columns ≡ spec.columns_of (question_of scope.now)) }
+    ensures few { IfOk result (λ columns. length columns ≤ spec.column_limit) }
     ensures follow { IfOk result Follow }
-    ensures fault { IfErr result (IsTooWide scope.now) }
+    ensures fault { IfErr result (spec.IsTooWide (spec.columns_of (question_of scope.now))) }
 {
     let span = span_of(alloc, scope)?;
     let columns = cut(alloc, span, scope.options.bounds.interval)?;
@@ -52,10 +52,10 @@ fn alone(alloc: Global, span: Span) -> Result<List<Span>, Memory>
 }
 
 /// The parts of a span.
-#[tactic(auto, using(crate::proofs::Following::split_follows, crate::proofs::Following::alone_follows))]
+#[tactic(auto, using(crate::proofs::Following::split_follows, crate::proofs::Following::alone_follows, crate::proofs::Intervals::split_is, crate::proofs::Intervals::cut_whole, crate::proofs::Intervals::cut_alone))]
 fn cut(alloc: Global, span: Span, interval: Option<Interval>) -> Result<List<Span>, Memory>
     requires { IfSome interval (λ some. 1 ≤ some.n) }
-    ensures parts { IfOk result (IsCut interval span) }
+    ensures parts { IfOk result (λ parts. parts ≡ spec.cut_into interval span) }
     ensures follow { IfOk result Follow }
 {
     match interval {

@@ -1,14 +1,16 @@
 //! Amounts that are taken at cost.
-ghost use Rattle.std.specs.Prelude.{◌≡◌, true, false, not};
+ghost use Rattle.std.specs.Prelude.{◌≡◌, true, false, not, if◌then◌else◌};
 ghost use Rattle.std.specs.Option.{option_copied};
+ghost use Rattle.hl_num.specs.Decimal.{units_of};
 ghost use Rattle.entry_balance.specs.Entry.{amount_cost_fits, optional_cost_fits};
-ghost use Rattle.entry_balance.specs.Values.{value_of, at_cost, cost_of, cost_fits, amount_in};
+ghost use Rattle.entry_balance.specs.Values.{value_of, at_cost, cost_of, cost_fits, amount_in, trimmed};
 ghost use Rattle.report_takings.specs.Costs as spec;
 
 use crate::entries::Entry;
 use book::{Amount, Boxed, Cost, Posting};
 use entry_balance::{cost_of, costs_fit};
 use hl_base::Text;
+use hl_num::Dec;
 use report_cells::Share;
 use report_options::{Options, Valuation, When};
 use std::cmp::Ordering;
@@ -72,6 +74,53 @@ fn at_cost<'a>(amount: &'a Amount, cost: &'a Option<Boxed<Cost>>) -> Share<'a>
     }
 }
 
+/// An amount, or what it costs.
+fn taken<'a>(amount: &'a Amount, cost: &'a Option<Boxed<Cost>>, costs: bool) -> Share<'a>
+    requires { costs ≡ true → optional_cost_fits amount.now cost.now ≡ true }
+    ensures { result ≡ (if costs then at_cost amount.now cost.now else value_of amount.now) }
+{
+    if costs {
+        at_cost(amount, cost)
+    } else {
+        written(amount)
+    }
+}
+
+/// Whether balancing found what a posting moves.
+fn is_found(posting: &Posting, costs: bool) -> bool
+    ensures { result ≡ spec.is_found costs posting.now }
+{
+    if costs && posting.cost.is_some() {
+        posting.costed
+    } else {
+        posting.filled
+    }
+}
+
+/// A number with as few decimals as it needs.
+fn shortened(number: Dec) -> Dec
+    ensures { result ≡ trimmed (units_of number) 36 }
+{
+    let _decimals = number.decimals();
+    let short = number.trimmed();
+    let _places = short.decimals();
+    short
+}
+
+/// A value as it is taken, with as few decimals as it needs where balancing found it.
+fn told_as<'a>(share: Share<'a>, found: bool) -> Share<'a>
+    ensures { result ≡ spec.told_as found share.entry }
+{
+    if found {
+        Share {
+            symbol: share.symbol,
+            value: shortened(share.value),
+        }
+    } else {
+        share
+    }
+}
+
 /// What a posting moves.
 pub(crate) fn moved<'a>(posting: &'a Posting, costs: bool) -> Option<Share<'a>>
     requires { costs ≡ true → amount_cost_fits posting.now.amount posting.now.cost ≡ true }
@@ -79,11 +128,8 @@ pub(crate) fn moved<'a>(posting: &'a Posting, costs: bool) -> Option<Share<'a>>
 {
     match &posting.amount {
         Some(amount) => {
-            if costs {
-                Some(at_cost(amount, &posting.cost))
-            } else {
-                Some(written(amount))
-            }
+            let share = taken(amount, &posting.cost, costs);
+            Some(told_as(share, is_found(posting, costs)))
         }
         None => None,
     }

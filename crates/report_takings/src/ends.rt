@@ -1,6 +1,6 @@
 //! The least and the greatest day of the postings that a query means, whatever their days.
 ghost use Rattle.std.specs.Prelude.{◌≡◌, IfOk, Some};
-ghost use Rattle.report_takings.specs.Asking.{Serves};
+ghost use Rattle.report_takings.specs.Asking.{Serves, question_of};
 ghost use Rattle.report_takings.specs.Ended as spec;
 
 use crate::scope::Scope;
@@ -37,7 +37,7 @@ fn with_posting(
     txn: &Txn,
 ) -> Ends
     requires { Serves search.old scope.now.query.now }
-    ensures ends { result ≡ spec.with_entry scope.now ends (posting.now, txn.now) }
+    ensures ends { result ≡ spec.with_entry (question_of scope.now) ends (posting.now, txn.now) }
     ensures serves { Serves search.new scope.now.query.now }
 {
     if search.undated(posting, txn, scope.types) {
@@ -51,7 +51,7 @@ fn with_posting(
 #[tactic(auto, using(crate::proofs::Steps::fold_more, crate::proofs::Steps::fold_all))]
 fn with_txn(search: &mut Search, scope: &Scope, ends: Ends, txn: &Txn) -> Ends
     requires { Serves search.old scope.now.query.now }
-    ensures ends { result ≡ spec.with_txn scope.now ends txn.now }
+    ensures ends { result ≡ spec.with_txn (question_of scope.now) ends txn.now }
     ensures serves { Serves search.new scope.now.query.now }
 {
     let mut so_far = ends;
@@ -64,7 +64,7 @@ fn with_txn(search: &mut Search, scope: &Scope, ends: Ends, txn: &Txn) -> Ends
 /// The ends of the days of the postings that the query means, whatever their days.
 #[tactic(auto, using(crate::proofs::Steps::fold_more, crate::proofs::Steps::fold_all, crate::proofs::Ending::ends_are))]
 pub(crate) fn ends_of(alloc: Global, scope: &Scope) -> Result<Ends, Memory>
-    ensures { IfOk result (λ ends. ends ≡ spec.ends_of scope.now) }
+    ensures { IfOk result (λ ends. ends ≡ spec.ends_of (question_of scope.now)) }
 {
     let mut search = scope.query.search(alloc)?;
     let mut ends = Ends {

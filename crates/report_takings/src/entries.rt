@@ -1,8 +1,9 @@
 //! Postings with their transactions, and which of them a report takes.
 ghost use Rattle.std.specs.Prelude.{◌≡◌, ◌++◌, filter, IfOk, OnOk};
-ghost use Rattle.report_takings.specs.Asking.{Serves, entries};
-ghost use Rattle.report_takings.specs.Takings.{holds, is_historical, is_taken};
-ghost use Rattle.report_takings.specs.Walked.{kept_of, kept_in};
+ghost use Rattle.report_takings.specs.Asking.{Serves, entries, question_of};
+ghost use Rattle.report_takings.specs.Takings.{before, holds, is_chosen, is_historical, is_kept, names_earlier};
+ghost use Rattle.report_takings.specs.declared.entries.Part.TheVariants.{Named};
+ghost use Rattle.report_takings.specs.Walked.{chosen_in, chosen_of};
 
 use crate::scope::Scope;
 use book::{Posting, Txn};
@@ -15,7 +16,7 @@ use std::marker::Model;
 
 /// A posting with its transaction. Contracts see both.
 #[derive(Drop)]
-pub(crate) struct Entry<'a> {
+pub struct Entry<'a> {
     posting: &'a Posting,
     txn: &'a Txn,
 }
@@ -33,13 +34,22 @@ impl<'a> Entry<'a> {
     ghost use Rattle.std.specs.Prelude.{◌≡◌};
     ghost use Rattle.report_takings.specs.Entries.{day_in};
 
-    pub(crate) fn posting(&self) -> &'a Posting
+    /// The posting.
+    pub fn posting(&self) -> &'a Posting
         ensures { result.now ≡ self.now.0 }
     {
         self.posting
     }
 
-    pub(crate) fn day(&self) -> Day
+    /// The transaction.
+    pub fn txn(&self) -> &'a Txn
+        ensures { result.now ≡ self.now.1 }
+    {
+        self.txn
+    }
+
+    /// The posting's own day, else that of its transaction.
+    pub fn day(&self) -> Day
         ensures { result.0 ≡ day_in self.now }
     {
         self.posting.day_in(self.txn)
@@ -63,15 +73,31 @@ fn is_historical(start: Start) -> bool
     }
 }
 
-/// Whether a report takes a posting.
+/// What a report keeps a posting for.
+#[derive(Clone, Copy)]
+pub enum Part {
+    /// Its amount.
+    Counted,
+    /// Its account alone, as `-E` asks.
+    Named,
+}
+
+/// Whether a posting is chosen.
 #[tactic(auto, using(crate::proofs::Serving::posting_is, crate::proofs::Serving::undated_is, crate::proofs::Serving::serves_still))]
-fn is_taken(search: &mut Search, scope: &Scope, shown: Span, posting: &Posting, txn: &Txn) -> bool
+fn is_chosen(
+    search: &mut Search,
+    scope: &Scope,
+    start: Start,
+    shown: Span,
+    posting: &Posting,
+    txn: &Txn,
+) -> bool
     requires { Serves search.old scope.now.query.now }
-    ensures taken { result ≡ is_taken scope.now shown (posting.now, txn.now) }
+    ensures chosen { result ≡ is_chosen start (question_of scope.now) shown (posting.now, txn.now) }
     ensures serves { Serves search.new scope.now.query.now }
 {
     let day = posting.day_in(txn).0;
-    if is_historical(scope.options.start) {
+    if is_historical(start) {
         if day < shown.end {
             return search.undated(posting, txn, scope.types);
         }
@@ -83,57 +109,112 @@ fn is_taken(search: &mut Search, scope: &Scope, shown: Span, posting: &Posting, 
     false
 }
 
-/// Keeps a posting, if the report takes it.
+/// Keeps a posting, if it is chosen.
 fn keep<'a>(
     search: &mut Search,
     scope: &Scope<'a>,
+    start: Start,
     shown: Span,
     entry: Entry<'a>,
     kept: &mut Vec<Entry<'a>>,
 ) -> Result<(), Memory>
     requires { Serves search.old scope.now.query.now }
     ensures kept { OnOk result
-        (kept.new.items ≡ kept.old.items ++ kept_of scope.now shown entry.entry) }
+        (kept.new.items ≡ kept.old.items ++ chosen_of start (question_of scope.now) shown entry.entry) }
     ensures serves { Serves search.new scope.now.query.now }
 {
-    if is_taken(search, scope, shown, entry.posting, entry.txn) {
+    if is_chosen(search, scope, start, shown, entry.posting, entry.txn) {
         kept.push(entry)?;
     }
     Ok(())
 }
 
-/// Keeps the postings of a transaction that the report takes.
+/// Keeps the postings of a transaction that are chosen.
 fn keep_all<'a>(
     search: &mut Search,
     scope: &Scope<'a>,
+    start: Start,
     shown: Span,
     txn: &'a Txn,
     kept: &mut Vec<Entry<'a>>,
 ) -> Result<(), Memory>
     requires { Serves search.old scope.now.query.now }
     ensures kept { OnOk result
-        (kept.new.items ≡ kept.old.items ++ kept_in scope.now shown txn.now) }
+        (kept.new.items ≡ kept.old.items ++ chosen_in start (question_of scope.now) shown txn.now) }
     ensures serves { Serves search.new scope.now.query.now }
 {
     for posting in txn.postings.as_slice() {
-        keep(search, scope, shown, Entry { posting, txn }, kept)?;
+        keep(search, scope, start, shown, Entry { posting, txn }, kept)?;
     }
     Ok(())
 }
 
-/// The postings that a report takes, in order.
-pub(crate) fn taken_entries<'a>(
+/// Postings of a report's book, in order, each with its transaction: for historical sums all before the end of the span
+/// that the query means, whatever their days; for others those on the span's days that it means. Fails only for want of
+/// memory.
+pub fn chosen_entries<'a>(
     alloc: Global,
     scope: &Scope<'a>,
+    start: Start,
     shown: Span,
 ) -> Result<Vec<Entry<'a>>, Memory>
-    ensures { IfOk result
-        (λ kept. kept.items ≡ filter (is_taken scope.now shown) (entries scope.now)) }
+    ensures { IfOk result (λ kept. kept.items
+        ≡ filter (is_chosen start (question_of scope.now) shown) (entries (question_of scope.now))) }
 {
     let mut search = scope.query.search(alloc)?;
     let mut kept = Vec::new(alloc);
     for txn in scope.book.txns.as_slice() {
-        keep_all(&mut search, scope, shown, txn, &mut kept)?;
+        keep_all(&mut search, scope, start, shown, txn, &mut kept)?;
     }
     Ok(kept)
+}
+
+/// Whether the accounts of earlier postings stand too.
+fn names_earlier(scope: &Scope) -> bool
+    ensures { result ≡ names_earlier (question_of scope.now) }
+{
+    scope.options.empty && !is_historical(scope.options.start)
+}
+
+/// The days before a span.
+fn before(span: Span) -> Span
+    ensures { result ≡ before span }
+{
+    Span {
+        from: 0,
+        end: span.from,
+    }
+}
+
+/// The postings that a report keeps for their accounts alone, in order.
+#[tactic(auto, using(crate::proofs::Keeping::named_are, crate::proofs::Keeping::none_named))]
+fn named_entries<'a>(
+    alloc: Global,
+    scope: &Scope<'a>,
+    shown: Span,
+) -> Result<Vec<Entry<'a>>, Memory>
+    ensures { IfOk result (λ kept. kept.items
+        ≡ filter (is_kept Named (question_of scope.now) shown) (entries (question_of scope.now))) }
+{
+    if names_earlier(scope) {
+        chosen_entries(alloc, scope, Start::Historical, before(shown))
+    } else {
+        Ok(Vec::new(alloc))
+    }
+}
+
+/// The postings that a report keeps for a part, in order.
+pub(crate) fn kept_entries<'a>(
+    alloc: Global,
+    scope: &Scope<'a>,
+    part: Part,
+    shown: Span,
+) -> Result<Vec<Entry<'a>>, Memory>
+    ensures { IfOk result (λ kept. kept.items
+        ≡ filter (is_kept part (question_of scope.now) shown) (entries (question_of scope.now))) }
+{
+    match part {
+        Part::Counted => chosen_entries(alloc, scope, scope.options.start, shown),
+        Part::Named => named_entries(alloc, scope, shown),
+    }
 }

@@ -5,13 +5,12 @@ pub mod columns;
 mod costs;
 mod cuts;
 mod ends;
-mod entries;
+pub mod entries;
 pub mod scope;
 mod spans;
 pub mod takings;
-#[cfg(test)]
-mod tests;
 
 pub use columns::{COLUMN_LIMIT, columns_of};
+pub use entries::{Entry, chosen_entries};
 pub use scope::Scope;
-pub use takings::take;
+pub use takings::{take, take_entries};

@@ -2,6 +2,7 @@
 ghost use Rattle.std.specs.Prelude.{◌≡◌, IfOk, unwrap_or};
 ghost use Rattle.std.specs.Option.{option_map, option_or};
 ghost use Rattle.query.specs.Matching.{least, later};
+ghost use Rattle.report_takings.specs.Asking.{question_of};
 ghost use Rattle.report_takings.specs.Days.{day_after};
 ghost use Rattle.report_takings.specs.Spans as spec;
 
@@ -56,7 +57,7 @@ fn end_after(day: Option<u32>) -> Option<u32>
 
 /// The span of a report. Where both bounds are given no posting is looked at.
 pub(crate) fn span_of(alloc: Global, scope: &Scope) -> Result<Span, Memory>
-    ensures { IfOk result (λ span. span ≡ spec.span_of scope.now) }
+    ensures { IfOk result (λ span. span ≡ spec.span_of (question_of scope.now)) }
 {
     let dates = scope.query.dates();
     let from = later(scope.options.bounds.from, dates.from);

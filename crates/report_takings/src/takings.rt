@@ -1,13 +1,15 @@
 //! What a report takes of the postings of its book.
-ghost use Rattle.std.specs.Prelude.{◌≡◌, true, map, IfOk, IfErr, OnOk};
+ghost use Rattle.std.specs.Prelude.{◌≡◌, ◌++◌, true, map, IfOk, IfErr, OnOk};
 ghost use Rattle.std.specs.Option.{option_copied};
 ghost use Rattle.entry_balance.specs.Entry.{amount_cost_fits};
+ghost use Rattle.report_takings.specs.Asking.{question_of};
 ghost use Rattle.report_takings.specs.Costs.{is_at_cost};
 ghost use Rattle.report_takings.specs.Takings as spec;
+ghost use Rattle.report_takings.specs.declared.entries.Part.TheVariants.{Counted, Named};
 
 use crate::costs::{first_out, is_at_cost, moved};
 use crate::cuts::cut_to;
-use crate::entries::{Entry, taken_entries};
+use crate::entries::{Entry, Part, kept_entries};
 use crate::scope::Scope;
 use hl_base::{Memory, Text};
 use hl_time::Span;
@@ -16,24 +18,45 @@ use std::alloc::Global;
 
 /// What a report with these columns takes of its postings, in their order: those on the days of the columns that
 /// the query means, for historical sums all before the columns' end that it means whatever their days; each with its
-/// account cut to the query's depth, its day, and its amount, or with `-B` or `--value=cost` what that costs. `Range`
-/// comes exactly where a product is out of range, and tells the least symbol of such an amount.
+/// account cut to the query's depth, its day, and its amount, or with `-B` or `--value=cost` what that costs. With `-E`
+/// the accounts of earlier postings follow, with no amounts. `Range` comes exactly where a product is out of range, and
+/// tells the least symbol of such an amount.
 pub fn take<'a>(
     alloc: Global,
     scope: &Scope<'a>,
     columns: &[Span],
 ) -> Result<Vec<Taking<'a>>, ReportFault>
-    ensures taken { IfOk result (λ takings. takings.items ≡ spec.takings_of scope.now columns.now) }
-    ensures within { OnOk result (spec.out_of scope.now columns.now ≡ None) }
-    ensures fault { IfErr result (spec.IsOut scope.now columns.now) }
+    ensures taken { IfOk result (λ takings. takings.items ≡ spec.takings_of (question_of scope.now) columns.now) }
+    ensures within { OnOk result (spec.out_of (question_of scope.now) columns.now ≡ None) }
+    ensures fault { IfErr result (spec.IsOut (question_of scope.now) columns.now) }
 {
-    let entries = taken_entries(alloc, scope, shown_in(columns))?;
-    match out_of(scope, &entries) {
+    let shown = shown_in(columns);
+    let entries = kept_entries(alloc, scope, Part::Counted, shown)?;
+    let mut takings = take_entries(alloc, scope, &entries)?;
+    let others = kept_entries(alloc, scope, Part::Named, shown)?;
+    push_named(scope, &others, &mut takings)?;
+    Ok(takings)
+}
+
+/// What is taken of postings of the report's book for their amounts: of each its account cut to the query's depth, its
+/// day, and its amount, or with `-B` or `--value=cost` what that costs. `Range` comes exactly where a product is out of
+/// range, and tells the least symbol of such an amount.
+pub fn take_entries<'a>(
+    alloc: Global,
+    scope: &Scope<'a>,
+    entries: &[Entry<'a>],
+) -> Result<Vec<Taking<'a>>, ReportFault>
+    ensures taken { IfOk result (λ takings. takings.items
+        ≡ map (spec.taken Counted (question_of scope.now)) entries.now) }
+    ensures within { OnOk result (spec.out_among scope.now.options.now entries.now ≡ None) }
+    ensures fault { IfErr result (spec.IsOutAmong scope.now.options.now entries.now) }
+{
+    match out_of(scope, entries) {
         Some(symbol) => {
             let symbol = Text::copied(alloc, symbol.as_str())?;
             Err(ReportFault::Range { symbol })
         }
-        None => Ok(takings_of(alloc, scope, &entries)?),
+        None => Ok(counted_takings(alloc, scope, entries)?),
     }
 }
 
@@ -61,11 +84,11 @@ fn out_of<'a>(scope: &Scope<'a>, entries: &[Entry<'a>]) -> Option<&'a Text>
     }
 }
 
-/// What is taken of a posting.
-fn taking<'a>(scope: &Scope<'a>, entry: &Entry<'a>, costs: bool) -> Taking<'a>
+/// What is taken of a posting for its amount.
+fn counted<'a>(scope: &Scope<'a>, entry: &Entry<'a>, costs: bool) -> Taking<'a>
     requires at_cost { costs ≡ is_at_cost scope.now.options.now }
     requires told { costs ≡ true → amount_cost_fits entry.now.0.amount entry.now.0.cost ≡ true }
-    ensures { result ≡ spec.taken scope.now entry.now }
+    ensures { result ≡ spec.taken Counted (question_of scope.now) entry.now }
 {
     let posting = entry.posting();
     Taking {
@@ -75,20 +98,47 @@ fn taking<'a>(scope: &Scope<'a>, entry: &Entry<'a>, costs: bool) -> Taking<'a>
     }
 }
 
-/// What is taken of some postings.
+/// What is taken of a posting for its account alone.
+fn named<'a>(scope: &Scope<'a>, entry: &Entry<'a>) -> Taking<'a>
+    ensures { result ≡ spec.taken Named (question_of scope.now) entry.now }
+{
+    Taking {
+        account: cut_to(entry.posting().account.as_str(), scope.query.depth()),
+        day: entry.day(),
+        amount: None,
+    }
+}
+
+/// What is taken of some postings for their amounts.
 #[tactic(auto, using(crate::proofs::Outs::told_at))]
-fn takings_of<'a>(
+fn counted_takings<'a>(
     alloc: Global,
     scope: &Scope<'a>,
     entries: &[Entry<'a>],
 ) -> Result<Vec<Taking<'a>>, Memory>
     requires { spec.out_among scope.now.options.now entries.now ≡ None }
-    ensures { IfOk result (λ takings. takings.items ≡ map (spec.taken scope.now) entries.now) }
+    ensures { IfOk result (λ takings. takings.items
+        ≡ map (spec.taken Counted (question_of scope.now)) entries.now) }
 {
     let costs = is_at_cost(scope.options);
     let mut takings = Vec::with_capacity(alloc, entries.len())?;
     for entry in entries {
-        takings.push(taking(scope, entry, costs))?;
+        takings.push(counted(scope, entry, costs))?;
     }
     Ok(takings)
+}
+
+/// Puts what is taken of postings for their accounts alone.
+fn push_named<'a>(
+    scope: &Scope<'a>,
+    entries: &[Entry<'a>],
+    takings: &mut Vec<Taking<'a>>,
+) -> Result<(), Memory>
+    ensures { OnOk result (takings.new.items
+        ≡ takings.old.items ++ map (spec.taken Named (question_of scope.now)) entries.now) }
+{
+    for entry in entries {
+        takings.push(named(scope, entry))?;
+    }
+    Ok(())
 }

@@ -1,4 +1,4 @@
-use Rattle.std.proofs.Common.{◌+◌, ◌-◌, ◌<◌, length, arith}
+use Rattle.std.proofs.Common.{◌<◌, length, arith}
 use Rattle.report_takings.proofs.Parts.{front_byte, front_colon}
 use Rattle.report_takings.proofs.cuts.front_length.Goals as goal
 use Rattle.report_takings.proofs.cuts.front_length.Goals.{then-name-i-eq58+else-left-eq1, else-name-i-eq58}

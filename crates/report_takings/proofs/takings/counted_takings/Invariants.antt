@@ -1,0 +1,8 @@
+use Rattle.std.proofs.Common.{◌≡◌, map, take}
+use Rattle.report_takings.specs.Asking.{question_of}
+use Rattle.report_takings.specs.Takings.{taken}
+use Rattle.report_takings.specs.declared.entries.Part.TheVariants.{Counted}
+use Rattle.report_takings.proofs.takings.counted_takings.Given as goal
+
+abbrev pub invariant-loop-entry : goal.invariant-loop-entry
+invariant-loop-entry l = l.takings.items ≡ map (taken Counted (question_of l.scope)) (take l.entry-index l.entries)
