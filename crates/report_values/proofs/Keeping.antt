@@ -18,10 +18,9 @@ use Rattle.prices.specs.declared.table.Table.{Table}
 use Rattle.report_values.specs.DayKeys.{day_cmp, day_total}
 use Rattle.report_values.specs.Known.{kept_at, AreTables, AreExchanges, rate_by}
 use Rattle.report_values.specs.Rates.{rate_on}
-use Rattle.report_values.specs.Worth.{target_of, places_of, exchange_at, exchange_in, exchange_on}
+use Rattle.report_values.specs.Worth.{Priced, target_of, places_of, exchange_at, exchange_in, exchange_on}
 use Rattle.report_values.specs.declared.exchange.Exchange.{Exchange}
 use Rattle.report_values.specs.declared.exchange.Exchange.TheVariants.{Stays}
-use Rattle.report_values.specs.declared.market.Market.{Market}
 use Rattle.report_values.proofs.Rates.{rate_on-is}
 
 -- ---- keys
@@ -68,8 +67,8 @@ pub known_is : (o : Option Exchange) (e : Exchange) → IfSome o (λ x. x ≡ e)
 known_is None e h there = absurd (true≢false (sym there))
 known_is (Some x) e h there = ap (λ (y : Exchange). Some y) h
 
-module _ (market : Market) (day : ℕ) (symbol : List ℕ) where
-  pub exchange_is : (target : List ℕ) (places : ℕ) (rate : Result (Option Fraction) RateRange) → Some target ≡ target_of market day symbol → places ≡ places_of market target → rate ≡ rate_on market.prices.now day target symbol → exchange_at target places rate ≡ exchange_on market day symbol
+module _ (market : Priced) (day : ℕ) (symbol : List ℕ) where
+  pub exchange_is : (target : List ℕ) (places : ℕ) (rate : Result (Option Fraction) RateRange) → Some target ≡ target_of market day symbol → places ≡ places_of market target → rate ≡ rate_on market.quotes day target symbol → exchange_at target places rate ≡ exchange_on market day symbol
   exchange_is target places rate t p r =
       ap (λ (n : ℕ). exchange_at target n rate) p
       ∙ ap (exchange_at target (places_of market target)) r

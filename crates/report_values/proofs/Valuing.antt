@@ -4,23 +4,22 @@ use Rattle.std.specs.List.{fold}
 use Rattle.report_cells.specs.Taken.{Shared, Taken}
 use Rattle.report_values.specs.Known.{IsRight}
 use Rattle.report_values.specs.Refusals.{lesser, lost, first_lost, values_of}
-use Rattle.report_values.specs.Worth.{valued}
+use Rattle.report_values.specs.Worth.{Priced, valued}
 use Rattle.report_values.specs.declared.known.Known.{Known}
-use Rattle.report_values.specs.declared.market.Market.{Market}
 use Rattle.report_values.proofs.Lists.{map-push, fold-push}
 
 -- the values of some takings, and the least symbol of those that have none
-pub record Valuing (market : Market) (when : ℕ → ℕ) (known : Known) (values : List Taken) (least : Option (List ℕ)) (ts : List Taken) : Type 0 where
+pub record Valuing (market : Priced) (when : ℕ → ℕ) (known : Known) (values : List Taken) (least : Option (List ℕ)) (ts : List Taken) : Type 0 where
   pub right : IsRight market known
   pub made : values ≡ values_of market when ts
   pub first : least ≡ first_lost market when ts
 
-lost-push : (market : Market) (when : ℕ → ℕ) (ts : List Taken) (t : Taken) → first_lost market when (ts ++ t ∷ []) ≡ lesser (first_lost market when ts) (lost t.amount (valued market when t).amount)
+lost-push : (market : Priced) (when : ℕ → ℕ) (ts : List Taken) (t : Taken) → first_lost market when (ts ++ t ∷ []) ≡ lesser (first_lost market when ts) (lost t.amount (valued market when t).amount)
 lost-push market when ts t =
     ap (fold lesser None) (map-push (λ (t : Taken). lost t.amount (valued market when t).amount) ts t)
     ∙ fold-push lesser None (map (λ (t : Taken). lost t.amount (valued market when t).amount) ts) (lost t.amount (valued market when t).amount)
 
-pub valuing_more : (market : Market) (when : ℕ → ℕ) (known new : Known) (values : List Taken) (least after : Option (List ℕ)) (ts all : List Taken) (t value : Taken)
+pub valuing_more : (market : Priced) (when : ℕ → ℕ) (known new : Known) (values : List Taken) (least after : Option (List ℕ)) (ts all : List Taken) (t value : Taken)
     → Valuing market when known values least ts → IsRight market new → all ≡ ts ++ t ∷ [] → value ≡ valued market when t → after ≡ lesser least (lost t.amount value.amount)
     → Valuing market when new (values ++ value ∷ []) after all
 valuing_more market when known new values least after ts all t value h right more is lesser_is =
@@ -33,5 +32,5 @@ valuing_more market when known new values least after ts all t value h right mor
           ∙ sym (lost-push market when ts t);
     })
 
-pub valuing_none : (market : Market) (when : ℕ → ℕ) (known : Known) → IsRight market known → Valuing market when known [] None []
+pub valuing_none : (market : Priced) (when : ℕ → ℕ) (known : Known) → IsRight market known → Valuing market when known [] None []
 valuing_none market when known right = record { right = right; made = refl; first = refl }

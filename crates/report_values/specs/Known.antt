@@ -10,10 +10,9 @@ use Rattle.prices.specs.declared.rate.RateRange.{RateRange}
 use Rattle.prices.specs.declared.table.Table.{Table}
 use Rattle.report_cells.specs.Taken.{Shared}
 use Rattle.report_values.specs.DayKeys.{day_cmp}
-use Rattle.report_values.specs.Worth.{exchange_on, exchanged}
+use Rattle.report_values.specs.Worth.{Priced, exchange_on, exchanged}
 use Rattle.report_values.specs.declared.exchange.Exchange.{Exchange}
 use Rattle.report_values.specs.declared.known.Known.{Known}
-use Rattle.report_values.specs.declared.market.Market.{Market}
 
 -- what is kept under a day and a symbol
 abbrev pub kept_at : {V : Type 0} → List ((ℕ × List ℕ) × V) → ℕ → List ℕ → Option V
@@ -24,11 +23,11 @@ abbrev pub AreTables : List Quote → List ((ℕ × List ℕ) × Table) → Type
 AreTables quotes kept = (day : ℕ) → (target : List ℕ) → IfSome (kept_at kept day target) (AreRates (priced_on quotes day) target)
 
 -- each exchange that is kept is that of its symbol on its day
-abbrev pub AreExchanges : Market → List ((ℕ × List ℕ) × Exchange) → Type 0
+abbrev pub AreExchanges : Priced → List ((ℕ × List ℕ) × Exchange) → Type 0
 AreExchanges market kept = (day : ℕ) → (symbol : List ℕ) → IfSome (kept_at kept day symbol) (λ exchange. exchange ≡ exchange_on market day symbol)
 
-pub record IsRight (market : Market) (known : Known) : Type 0 where
-  pub tables : AreTables market.prices.now known.tables.entries
+pub record IsRight (market : Priced) (known : Known) : Type 0 where
+  pub tables : AreTables market.quotes known.tables.entries
   pub exchanges : AreExchanges market known.exchanges.entries
 
 -- a rate by a table, if there is one
@@ -37,11 +36,11 @@ rate_by None symbol = Ok None
 rate_by (Some table) symbol = rate_in table symbol
 
 -- the exchange of a symbol on a day is kept
-abbrev pub IsKnown : Market → Known → ℕ → List ℕ → Type 0
+abbrev pub IsKnown : Priced → Known → ℕ → List ℕ → Type 0
 IsKnown market known day symbol = kept_at known.exchanges.entries day symbol ≡ Some (exchange_on market day symbol)
 
 -- that of an amount, if it is there
-abbrev pub IsPrepared : Market → Known → ℕ → Option Shared → Type 0
+abbrev pub IsPrepared : Priced → Known → ℕ → Option Shared → Type 0
 IsPrepared market known day None = Unit {0}
 IsPrepared market known day (Some share) = IsKnown market known day share.0
 

@@ -7,8 +7,7 @@ use Rattle.report_cells.specs.Taken.{Shared, Taken}
 use Rattle.report_cells.specs.Bounds.{is_out, first_out}
 use Rattle.report_cells.specs.declared.fault.ReportFault.{ReportFault}
 use Rattle.report_cells.specs.declared.fault.ReportFault.TheVariants.{Range, TooWide, Memory}
-use Rattle.report_values.specs.Worth.{valued}
-use Rattle.report_values.specs.declared.market.Market.{Market}
+use Rattle.report_values.specs.Worth.{Priced, valued}
 
 -- the lesser of two symbols by the order of their bytes, or the one that is there
 abbrev pub lesser : Option (List ℕ) → Option (List ℕ) → Option (List ℕ)
@@ -23,16 +22,16 @@ lost (Some share) None = Some share.0
 lost (Some share) (Some worth) = None
 
 -- the least symbol of the amounts whose values are out of range
-abbrev pub first_lost : Market → (ℕ → ℕ) → List Taken → Option (List ℕ)
+abbrev pub first_lost : Priced → (ℕ → ℕ) → List Taken → Option (List ℕ)
 first_lost market when ts = fold lesser None (map (λ t. lost t.amount (valued market when t).amount) ts)
 
 -- the values of some takings
-abbrev pub values_of : Market → (ℕ → ℕ) → List Taken → List Taken
+abbrev pub values_of : Priced → (ℕ → ℕ) → List Taken → List Taken
 values_of market when ts = map (valued market when) ts
 
 -- the least symbol whose amounts are too large to sum, or have a value that is out of range, or whose values are too
 -- large to sum
-abbrev pub first_refused : Market → (ℕ → ℕ) → List Taken → Option (List ℕ)
+abbrev pub first_refused : Priced → (ℕ → ℕ) → List Taken → Option (List ℕ)
 first_refused market when ts =
     lesser (lesser (first_out ts) (first_lost market when ts)) (first_out (values_of market when ts))
 

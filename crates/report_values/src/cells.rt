@@ -5,9 +5,10 @@ ghost use Rattle.report_cells.specs.Bounds as bounds;
 ghost use Rattle.report_cells.specs.Follows.{Follow};
 ghost use Rattle.report_cells.specs.Report.{row_seen, rows_in, seen, totals_in};
 ghost use Rattle.report_values.specs.Cells as spec;
+ghost use Rattle.report_values.specs.Cells.{planned_of};
 ghost use Rattle.report_values.specs.ValueDays.{day_by};
 ghost use Rattle.report_values.specs.Refusals.{IsRefused, first_refused, values_of};
-ghost use Rattle.report_values.specs.Refusals as refusals;
+ghost use Rattle.report_values.specs.Worth.{priced_of};
 ghost use Rattle.report_values.specs.declared.dates.Dates.TheVariants as dates;
 
 use crate::dates::Dates;
@@ -56,12 +57,15 @@ pub fn value_cells<'x>(
     requires whole { AllByRecursion (λ row. length row.cells < 2 ^ 32) cells.now.rows }
     ensures columns { IfOk result (λ c. c.columns ≡ cells.now.columns) }
     ensures rows { IfOk result (λ c. spec.rows_of c
-        ≡ spec.valued_rows market.now days.now (length cells.now.columns) (spec.rows_of cells.now)) }
+        ≡ spec.valued_rows (priced_of market.now) days.now
+        (length cells.now.columns) (spec.rows_of cells.now)) }
     ensures totals { IfOk result (λ c. map seen c.totals
-        ≡ spec.valued_totals market.now days.now (length cells.now.columns) (spec.rows_of cells.now)) }
-    ensures within { OnOk result (spec.first_cell market.now days.now (spec.rows_of cells.now) ≡ None) }
+        ≡ spec.valued_totals (priced_of market.now) days.now
+        (length cells.now.columns) (spec.rows_of cells.now)) }
+    ensures within { OnOk result
+        (spec.first_cell (priced_of market.now) days.now (spec.rows_of cells.now) ≡ None) }
     ensures fault { IfErr result
-        (IsRefused (spec.first_cell market.now days.now (spec.rows_of cells.now))) }
+        (IsRefused (spec.first_cell (priced_of market.now) days.now (spec.rows_of cells.now))) }
 {
     let columns = copied(alloc, cells.columns.as_slice())?;
     let numbered = numbers(alloc, cells.columns.len())?;
@@ -89,11 +93,13 @@ pub fn cells_then<'x>(
     requires { Follow columns }
     ensures columns { IfOk result (λ c. c.columns ≡ columns) }
     ensures rows { IfOk result (λ c. map row_seen c.rows
-        ≡ rows_in reach columns (values_of market.now (day_by dates.Own) takings.now)) }
+        ≡ rows_in reach columns (values_of (priced_of market.now) (day_by dates.Own) takings.now)) }
     ensures totals { IfOk result (λ c. map seen c.totals
-        ≡ totals_in reach columns (values_of market.now (day_by dates.Own) takings.now)) }
-    ensures within { OnOk result (first_refused market.now (day_by dates.Own) takings.now ≡ None) }
-    ensures fault { IfErr result (IsRefused (first_refused market.now (day_by dates.Own) takings.now)) }
+        ≡ totals_in reach columns (values_of (priced_of market.now) (day_by dates.Own) takings.now)) }
+    ensures within { OnOk result
+        (first_refused (priced_of market.now) (day_by dates.Own) takings.now ≡ None) }
+    ensures fault { IfErr result
+        (IsRefused (first_refused (priced_of market.now) (day_by dates.Own) takings.now)) }
 {
     let plain = first_out(alloc, takings)?;
     let values = value_each(alloc, takings, &Dates::Own, market)?;
@@ -105,7 +111,8 @@ pub fn cells_then<'x>(
 fn fitting_cells(alloc: Global, takings: &[Taking], plan: &Plan) -> Result<Cells, Memory>
     requires { Follow plan.now.columns.now }
     ensures columns { IfOk result (λ c. c.columns ≡ plan.now.columns.now) }
-    ensures rows { IfOk result (λ c. spec.rows_of c ≡ spec.plain_rows plan.now (spec.fitting takings.now)) }
+    ensures rows { IfOk result (λ c. spec.rows_of c
+        ≡ spec.plain_rows (planned_of plan.now) (spec.fitting takings.now)) }
 {
     let columns = copied(alloc, plan.columns)?;
     let kept = fitting(alloc, takings)?;
@@ -127,7 +134,7 @@ fn least_fault(alloc: Global, takings: &[Taking], plan: &Plan, first: &Text) -> 
     requires follow { Follow plan.now.columns.now }
     requires few { length plan.now.columns.now < 2 ^ 32 }
     requires first { bounds.first_out takings.now ≡ Some first.now }
-    ensures { IsRefused (spec.first_on plan.now takings.now) result }
+    ensures { IsRefused (spec.first_on (planned_of plan.now) takings.now) result }
 {
     match fitting_cells(alloc, takings, plan) {
         Ok(cells) => match value_cells(alloc, &cells, plan.days, plan.market) {
@@ -152,10 +159,12 @@ pub fn cells_on(alloc: Global, takings: &[Taking], plan: &Plan) -> Result<Cells,
     requires follow { Follow plan.now.columns.now }
     requires few { length plan.now.columns.now < 2 ^ 32 }
     ensures columns { IfOk result (λ c. c.columns ≡ plan.now.columns.now) }
-    ensures rows { IfOk result (λ c. spec.rows_of c ≡ spec.rows_on plan.now takings.now) }
-    ensures totals { IfOk result (λ c. map seen c.totals ≡ spec.totals_on plan.now takings.now) }
-    ensures within { OnOk result (spec.first_on plan.now takings.now ≡ None) }
-    ensures fault { IfErr result (IsRefused (spec.first_on plan.now takings.now)) }
+    ensures rows { IfOk result (λ c. spec.rows_of c
+        ≡ spec.rows_on (planned_of plan.now) takings.now) }
+    ensures totals { IfOk result (λ c. map seen c.totals
+        ≡ spec.totals_on (planned_of plan.now) takings.now) }
+    ensures within { OnOk result (spec.first_on (planned_of plan.now) takings.now ≡ None) }
+    ensures fault { IfErr result (IsRefused (spec.first_on (planned_of plan.now) takings.now)) }
 {
     let columns = copied(alloc, plan.columns)?;
     match make_cells(alloc, takings, columns, plan.reach) {

@@ -56,7 +56,7 @@ fn greatest_price(prices: &Prices) -> Option<u32>
 
 /// The greatest day of the transactions and the prices.
 fn greatest_day(asked: &Asked) -> u32
-    ensures { result ≡ spec.greatest_day asked.now }
+    ensures { result ≡ spec.greatest_day (spec.dated_of asked.now) }
 {
     later(greatest_txn(asked.txns), greatest_price(asked.prices)).unwrap_or(asked.day.0)
 }
@@ -73,9 +73,9 @@ fn last_day(span: Span) -> u32
 }
 
 /// The day on which a column is valued, where the greatest day of all is known.
-fn day_of(asked: &Asked, when: When, greatest: u32, column: Span) -> Day
-    requires { greatest ≡ spec.greatest_day asked.now }
-    ensures { result ≡ spec.day_of asked.now when column }
+fn day_with(asked: &Asked, when: When, greatest: u32, column: Span) -> Day
+    requires { greatest ≡ spec.greatest_day (spec.dated_of asked.now) }
+    ensures { result ≡ spec.day_of (spec.dated_of asked.now) when column }
 {
     match when {
         When::Now => asked.day,
@@ -86,14 +86,21 @@ fn day_of(asked: &Asked, when: When, greatest: u32, column: Span) -> Day
 
 /// The day of a column's end, where the greatest day of all is known.
 fn end_day(asked: &Asked, greatest: u32, column: Span) -> u32
-    requires { greatest ≡ spec.greatest_day asked.now }
-    ensures { result ≡ spec.end_day asked.now column }
+    requires { greatest ≡ spec.greatest_day (spec.dated_of asked.now) }
+    ensures { result ≡ spec.end_day (spec.dated_of asked.now) column }
 {
     if asked.is_bounded {
         last_day(column)
     } else {
         greatest
     }
+}
+
+/// The day on which a column is valued, as `days_of` says.
+pub fn day_of(asked: &Asked, when: When, column: Span) -> Day
+    ensures { result ≡ spec.day_of (spec.dated_of asked.now) when column }
+{
+    day_with(asked, when, greatest_day(asked), column)
 }
 
 /// The days on which columns are valued. `now` is the day that is handed in, a date is that day, and all others mean
@@ -104,12 +111,13 @@ pub fn days_of(
     when: When,
     columns: &[Span],
 ) -> Result<Vec<Day>, Memory>
-    ensures { IfOk result (λ days. days.items ≡ map (spec.day_of asked.now when) columns.now) }
+    ensures { IfOk result (λ days.
+        days.items ≡ map (spec.day_of (spec.dated_of asked.now) when) columns.now) }
 {
     let greatest = greatest_day(asked);
     let mut days = Vec::with_capacity(alloc, columns.len())?;
     for column in columns {
-        days.push(day_of(asked, when, greatest, *column))?;
+        days.push(day_with(asked, when, greatest, *column))?;
     }
     Ok(days)
 }

@@ -3,6 +3,7 @@ ghost use Rattle.std.specs.Prelude.{◌≡◌, ◌≤◌, Some};
 ghost use Rattle.report_values.specs.Worth as spec;
 ghost use Rattle.prices.specs.Values as prices_spec;
 
+use crate::spread::shortened;
 use hl_base::Text;
 use hl_num::Dec;
 use prices::{Rate, RateRange, value};
@@ -57,7 +58,7 @@ pub(crate) fn exchange_at<'a>(
 }
 
 impl<'a> Sale<'a> {
-    /// What a number of the symbol is exchanged for.
+    /// What a number of the symbol is exchanged for, with as few decimals as it needs.
     fn value_of(&self, number: Dec) -> Option<Share<'a>>
         ensures { result ≡ spec.told_in self.now.target
             (prices_spec.valued number self.now.rate self.now.places) }
@@ -65,7 +66,7 @@ impl<'a> Sale<'a> {
         match value(number, self.rate, self.places) {
             Ok(value) => Some(Share {
                 symbol: self.target,
-                value,
+                value: shortened(value),
             }),
             Err(_) => None,
         }
@@ -82,12 +83,22 @@ pub(crate) fn same<'a>(share: &Share<'a>) -> Share<'a>
     }
 }
 
+/// An amount with as few decimals as it needs.
+fn short<'a>(share: &Share<'a>) -> Share<'a>
+    ensures { result ≡ (share.now.0, spec.shortest share.now.1) }
+{
+    Share {
+        symbol: share.symbol,
+        value: shortened(share.value),
+    }
+}
+
 /// What an amount is exchanged for.
 pub(crate) fn exchanged<'a>(exchange: &Exchange<'a>, share: &Share<'a>) -> Option<Share<'a>>
     ensures { result ≡ spec.exchanged exchange.now share.now }
 {
     match exchange {
-        Exchange::Stays => Some(same(share)),
+        Exchange::Stays => Some(short(share)),
         Exchange::Into(sale) => sale.value_of(share.value),
         Exchange::Out => None,
     }

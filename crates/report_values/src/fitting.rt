@@ -117,14 +117,16 @@ fn is_full<'a>(totals: &BTreeMap<DayKey<'a>, Option<Dec>>, symbol: &'a Text) -> 
 
 /// Whether the symbol of an amount isn't out of range.
 fn fits_share<'a>(totals: &BTreeMap<DayKey<'a>, Option<Dec>>, share: &Share<'a>) -> bool
-    ensures { (ts : List Taken) → AreTotals totals.now.entries ts → result ≡ not (is_out ts share.now.0) }
+    ensures { (ts : List Taken) → AreTotals totals.now.entries ts
+        → result ≡ not (is_out ts share.now.0) }
 {
     !is_full(totals, share.symbol)
 }
 
 /// Whether the symbol of an amount, if it is there, isn't out of range.
 fn fits<'a>(totals: &BTreeMap<DayKey<'a>, Option<Dec>>, amount: &Option<Share<'a>>) -> bool
-    ensures { (ts : List Taken) → AreTotals totals.now.entries ts → result ≡ spec.fits_in ts amount.now }
+    ensures { (ts : List Taken) → AreTotals totals.now.entries ts
+        → result ≡ spec.fits_in ts amount.now }
 {
     match amount {
         Some(share) => fits_share(totals, share),
@@ -153,7 +155,8 @@ fn keep<'a>(
     kept: &mut Vec<Taking<'a>>,
 ) -> Result<(), Memory>
     ensures { OnOk result ((ts : List Taken) → AreTotals totals.now.entries ts
-        → kept.new.items ≡ kept.old.items ++ filter (λ t. spec.fits_in ts t.amount) (taking.now ∷ [])) }
+        → kept.new.items
+        ≡ kept.old.items ++ filter (λ t. spec.fits_in ts t.amount) (taking.now ∷ [])) }
 {
     if fits(totals, &taking.amount) {
         kept.push(again(taking))?;

@@ -5,8 +5,7 @@ ghost use Rattle.std.specs.Ordering.{is_eq};
 ghost use Rattle.report_values.specs.DayKeys.{day_cmp};
 ghost use Rattle.report_values.specs.Known as spec;
 ghost use Rattle.report_values.specs.Known.{AreTables, IsRight, IsKnown, IsPrepared};
-ghost use Rattle.report_values.specs.Worth.{target_of};
-ghost use Rattle.report_values.specs.declared.market.Market.{Market};
+ghost use Rattle.report_values.specs.Worth.{Priced, priced_of, target_of};
 
 use crate::day_key::DayKey;
 use crate::exchange::{Exchange, exchange_at, exchanged};
@@ -28,7 +27,7 @@ pub(crate) struct Known<'a> {
 impl<'a> Known<'a> {
     /// Nothing, which takes no memory.
     pub fn new(alloc: Global) -> Known<'a>
-        ensures { (market : Market) → IsRight market result }
+        ensures { (market : Priced) → IsRight market result }
     {
         Known {
             tables: BTreeMap::new(alloc),
@@ -47,7 +46,8 @@ fn prepare_table<'a>(
 ) -> Result<(), Memory>
     requires { AreTables market.now.prices.now tables.old.entries }
     ensures right { OnOk result (AreTables market.now.prices.now tables.new.entries) }
-    ensures there { OnOk result (is_some (spec.kept_at tables.new.entries day.0 target.now) ≡ true) }
+    ensures there { OnOk result
+        (is_some (spec.kept_at tables.new.entries day.0 target.now) ≡ true) }
 {
     if tables.contains_key(&DayKey::new(day, target)) {
         return Ok(());
@@ -79,7 +79,8 @@ fn keep<'a>(
     symbol: &'a Text,
     exchange: Exchange<'a>,
 ) -> Result<(), Memory>
-    ensures { OnOk result ((other : ℕ) → (key : List ℕ) → spec.kept_at exchanges.new.entries other key
+    ensures { OnOk result ((other : ℕ) → (key : List ℕ) →
+        spec.kept_at exchanges.new.entries other key
         ≡ (if is_eq (day_cmp (day.0, symbol.now) (other, key)) then Some exchange.entry
         else spec.kept_at exchanges.old.entries other key)) }
 {
@@ -96,10 +97,10 @@ fn prepare_in<'a>(
     symbol: &'a Text,
     target: &'a Text,
 ) -> Result<(), Memory>
-    requires right { IsRight market.now known.old }
-    requires target { Some target.now ≡ target_of market.now day.0 symbol.now }
-    ensures right { OnOk result (IsRight market.now known.new) }
-    ensures there { OnOk result (IsKnown market.now known.new day.0 symbol.now) }
+    requires right { IsRight (priced_of market.now) known.old }
+    requires target { Some target.now ≡ target_of (priced_of market.now) day.0 symbol.now }
+    ensures right { OnOk result (IsRight (priced_of market.now) known.new) }
+    ensures there { OnOk result (IsKnown (priced_of market.now) known.new day.0 symbol.now) }
 {
     prepare_table(alloc, market, &mut known.tables, day, target)?;
     let rate = rate_by(&known.tables, day, target, symbol);
@@ -115,10 +116,10 @@ fn prepare_none<'a>(
     day: Day,
     symbol: &'a Text,
 ) -> Result<(), Memory>
-    requires right { IsRight market.now known.old }
-    requires target { None ≡ target_of market.now day.0 symbol.now }
-    ensures right { OnOk result (IsRight market.now known.new) }
-    ensures there { OnOk result (IsKnown market.now known.new day.0 symbol.now) }
+    requires right { IsRight (priced_of market.now) known.old }
+    requires target { None ≡ target_of (priced_of market.now) day.0 symbol.now }
+    ensures right { OnOk result (IsRight (priced_of market.now) known.new) }
+    ensures there { OnOk result (IsKnown (priced_of market.now) known.new day.0 symbol.now) }
 {
     keep(&mut known.exchanges, day, symbol, Exchange::Stays)?;
     Ok(())
@@ -132,9 +133,9 @@ fn prepare_symbol<'a>(
     day: Day,
     symbol: &'a Text,
 ) -> Result<(), Memory>
-    requires { IsRight market.now known.old }
-    ensures right { OnOk result (IsRight market.now known.new) }
-    ensures there { OnOk result (IsKnown market.now known.new day.0 symbol.now) }
+    requires { IsRight (priced_of market.now) known.old }
+    ensures right { OnOk result (IsRight (priced_of market.now) known.new) }
+    ensures there { OnOk result (IsKnown (priced_of market.now) known.new day.0 symbol.now) }
 {
     if known.exchanges.contains_key(&DayKey::new(day, symbol)) {
         return Ok(());
@@ -153,9 +154,9 @@ pub(crate) fn prepare<'a>(
     day: Day,
     amount: &Option<Share<'a>>,
 ) -> Result<(), Memory>
-    requires { IsRight market.now known.old }
-    ensures right { OnOk result (IsRight market.now known.new) }
-    ensures there { OnOk result (IsPrepared market.now known.new day.0 amount.now) }
+    requires { IsRight (priced_of market.now) known.old }
+    ensures right { OnOk result (IsRight (priced_of market.now) known.new) }
+    ensures there { OnOk result (IsPrepared (priced_of market.now) known.new day.0 amount.now) }
 {
     match amount {
         Some(share) => prepare_symbol(alloc, market, known, day, share.symbol),

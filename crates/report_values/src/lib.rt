@@ -12,12 +12,10 @@ pub mod market;
 mod numbers;
 mod refusals;
 mod spread;
-#[cfg(test)]
-mod tests;
 pub mod values;
 
 pub use cells::{Plan, cells_on, cells_then, value_cells};
 pub use dates::Dates;
-pub use days::{Asked, days_of};
+pub use days::{Asked, day_of, days_of};
 pub use market::Market;
 pub use values::value_takings;

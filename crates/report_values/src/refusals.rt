@@ -111,8 +111,10 @@ pub(crate) fn cells_of(
     ensures columns { IfOk result (λ c. c.columns ≡ columns) }
     ensures rows { IfOk result (λ c. map row_seen c.rows ≡ rows_in reach columns values.now) }
     ensures totals { IfOk result (λ c. map seen c.totals ≡ totals_in reach columns values.now) }
-    ensures none { OnOk result (spec.lesser (option_copied first.entry) (first_out values.now) ≡ None) }
-    ensures fault { IfErr result (IsRefused (spec.lesser (option_copied first.entry) (first_out values.now))) }
+    ensures none { OnOk result
+        (spec.lesser (option_copied first.entry) (first_out values.now) ≡ None) }
+    ensures fault { IfErr result
+        (IsRefused (spec.lesser (option_copied first.entry) (first_out values.now))) }
 {
     match make_cells(alloc, values, columns, reach) {
         Ok(cells) => match first {

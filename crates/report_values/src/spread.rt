@@ -14,7 +14,7 @@ use report_cells::{CellRow, Share, Taking};
 use std::alloc::Global;
 
 /// A number with as few decimals as it needs.
-fn shortened(number: Dec) -> Dec
+pub(crate) fn shortened(number: Dec) -> Dec
     ensures { result ≡ trimmed (units_of number) 36 }
 {
     let _decimals = number.decimals();

@@ -5,7 +5,7 @@ ghost use Rattle.report_values.specs.ValueDays.{day_by};
 ghost use Rattle.report_values.specs.Known.{IsPrepared};
 ghost use Rattle.report_values.specs.Refusals as spec;
 ghost use Rattle.report_values.specs.Refusals.{IsRefused};
-ghost use Rattle.report_values.specs.Worth.{valued, worth};
+ghost use Rattle.report_values.specs.Worth.{priced_of, valued, worth};
 
 use crate::dates::{Dates, day_by};
 use crate::known::{Known, prepare, worth_by};
@@ -23,8 +23,8 @@ fn worth_of<'a>(
     day: Day,
     amount: &Option<Share<'a>>,
 ) -> Option<Share<'a>>
-    requires { IsPrepared market.now known.now day.0 amount.now }
-    ensures { result ≡ option_and_then (worth market.now day.0) amount.now }
+    requires { IsPrepared (priced_of market.now) known.now day.0 amount.now }
+    ensures { result ≡ option_and_then (worth (priced_of market.now) day.0) amount.now }
 {
     match amount {
         Some(share) => worth_by(known, day, share),
@@ -39,8 +39,9 @@ fn value_one<'a>(
     dates: &Dates,
     taking: &Taking<'a>,
 ) -> Taking<'a>
-    requires { IsPrepared market.now known.now (day_by dates.now taking.now.day) taking.now.amount }
-    ensures { result ≡ valued market.now (day_by dates.now) taking.now }
+    requires { IsPrepared (priced_of market.now) known.now
+        (day_by dates.now taking.now.day) taking.now.amount }
+    ensures { result ≡ valued (priced_of market.now) (day_by dates.now) taking.now }
 {
     let day = day_by(dates, taking.day);
     Taking {
@@ -71,8 +72,10 @@ pub(crate) fn value_each<'a>(
     dates: &Dates,
     market: &Market<'a>,
 ) -> Result<Values<'a>, Memory>
-    ensures values { IfOk result (λ v. v.takings.items ≡ spec.values_of market.now (day_by dates.now) takings.now) }
-    ensures lost { IfOk result (λ v. option_copied v.lost ≡ spec.first_lost market.now (day_by dates.now) takings.now) }
+    ensures values { IfOk result (λ v. v.takings.items
+        ≡ spec.values_of (priced_of market.now) (day_by dates.now) takings.now) }
+    ensures lost { IfOk result (λ v. option_copied v.lost
+        ≡ spec.first_lost (priced_of market.now) (day_by dates.now) takings.now) }
 {
     let mut known = Known::new(alloc);
     let mut values = Vec::with_capacity(alloc, takings.len())?;
@@ -99,9 +102,12 @@ pub fn value_takings<'a>(
     dates: &Dates,
     market: &Market<'a>,
 ) -> Result<Vec<Taking<'a>>, ReportFault>
-    ensures values { IfOk result (λ values. values.items ≡ spec.values_of market.now (day_by dates.now) takings.now) }
-    ensures within { OnOk result (spec.first_refused market.now (day_by dates.now) takings.now ≡ None) }
-    ensures fault { IfErr result (IsRefused (spec.first_refused market.now (day_by dates.now) takings.now)) }
+    ensures values { IfOk result (λ values. values.items
+        ≡ spec.values_of (priced_of market.now) (day_by dates.now) takings.now) }
+    ensures within { OnOk result
+        (spec.first_refused (priced_of market.now) (day_by dates.now) takings.now ≡ None) }
+    ensures fault { IfErr result
+        (IsRefused (spec.first_refused (priced_of market.now) (day_by dates.now) takings.now)) }
 {
     let plain = first_out(alloc, takings)?;
     let values = value_each(alloc, takings, dates, market)?;
