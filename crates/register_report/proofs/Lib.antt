@@ -1,0 +1,4 @@
+pub mod ByDay
+pub mod Counting
+pub mod Cutting
+pub mod Stepping

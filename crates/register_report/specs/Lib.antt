@@ -1,0 +1,5 @@
+pub mod Fields
+pub mod Heads
+pub mod Lines
+pub mod Selected
+pub mod Summed
