@@ -1,0 +1,16 @@
+pub mod Answering
+pub mod AverageLaws
+pub mod Behind
+pub mod Changes
+pub mod Days
+pub mod Divisions
+pub mod Laid
+pub mod Mixing
+pub mod Named
+pub mod Parts
+pub mod Plain
+pub mod Promised
+pub mod Sums
+pub mod TablesLaws
+pub mod Turns
+pub mod Widths

@@ -1,0 +1,6 @@
+use Rattle.std.proofs.Common.{◌≡◌, drop}
+use Rattle.balance_layouts.specs.Shown.{widest}
+use Rattle.balance_layouts.proofs.printed.widest_amount.Given as goal
+
+abbrev pub invariant-loop-amount : goal.invariant-loop-amount
+invariant-loop-amount l = widest l.columns (drop l.amount-index l.amounts) ≡ widest l.fn.least l.amounts

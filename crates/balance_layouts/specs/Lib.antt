@@ -1,0 +1,9 @@
+pub mod Averages
+pub mod Balance
+pub mod KeptAverages
+pub mod Lists
+pub mod Shown
+pub mod TableRows
+pub mod Tables
+pub mod Titles
+pub mod Totals
