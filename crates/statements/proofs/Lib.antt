@@ -1,0 +1,9 @@
+pub mod Alike
+pub mod Behind
+pub mod Fitted
+pub mod Joined
+pub mod Parted
+pub mod Picking
+pub mod Promised
+pub mod Signs
+pub mod Whole
