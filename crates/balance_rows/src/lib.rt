@@ -11,8 +11,6 @@ mod rank;
 mod rows;
 mod sorted;
 mod sums;
-#[cfg(test)]
-mod tests;
 mod totals;
 mod tree;
 
