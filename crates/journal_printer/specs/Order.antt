@@ -1,5 +1,6 @@
 -- Transactions in the order of their days, and on one day of their numbers.
-use Rattle.std.specs.Prelude.{ℕ, ◌+◌, Bool, true, ◌&&◌, List, [], ◌∷◌}
+use Rattle.std.specs.Prelude.{ℕ, ◌+◌, Bool, true, false, ◌&&◌, List, [], ◌∷◌, unwrap_or}
+use Rattle.std.specs.List.{slice_get}
 use Rattle.std.specs.declared.cmp.Ordering.{Ordering}
 use Rattle.std.specs.Ordering.{nat_cmp, is_lt, ordering_then}
 use Rattle.book.specs.declared.transaction.Txn.{Txn}
@@ -29,3 +30,7 @@ rises_from a (b ∷ bs) = is_lt (name_cmp a b) && rises_from b bs
 abbrev pub is_rising : List Name → Bool
 is_rising [] = true
 is_rising (a ∷ bs) = rises_from a bs
+
+-- a transaction is chosen by the item of its number; without one it isn't
+abbrev pub is_chosen : List Bool → Name → Bool
+is_chosen chosen name = unwrap_or (slice_get chosen name.1) false

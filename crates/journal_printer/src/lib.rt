@@ -13,11 +13,9 @@ mod order;
 mod print;
 pub mod shapes;
 mod shown;
-#[cfg(test)]
-mod tests;
 mod widths;
 
 pub use detail::Detail;
 pub use entry::print_entry;
-pub use print::{print_book, print_txn};
+pub use print::{print_book, print_chosen, print_txn};
 pub use shapes::Shapes;

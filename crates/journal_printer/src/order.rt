@@ -1,5 +1,5 @@
 //! The order in which transactions are printed: by day, and on one day by number.
-ghost use Rattle.std.specs.Prelude.{◌≡◌, ◌<◌, List, length, slice_index_or, IfOk, OnOk};
+ghost use Rattle.std.specs.Prelude.{◌≡◌, ◌<◌, List, length, filter, slice_index_or, IfOk, OnOk};
 ghost use Rattle.std.specs.Ordering.{is_lt};
 ghost use Rattle.std.specs.BTreeSet.{insert_key};
 ghost use Rattle.book.specs.Order.{each_once};
@@ -98,4 +98,18 @@ fn listed(alloc: Global, set: &BTreeSet<Name>) -> Result<Vec<Name>, Memory>
         list.push(*name)?;
     }
     Ok(list)
+}
+
+/// Whether a transaction is chosen, by the item of its number.
+fn is_chosen(chosen: &[bool], name: Name) -> bool
+    ensures { result ≡ spec.is_chosen chosen.now name }
+{
+    chosen.get(name.1).copied().unwrap_or(false)
+}
+
+/// Keeps the names of the transactions that are chosen.
+pub fn keep_chosen(names: &mut Vec<Name>, chosen: &[bool])
+    ensures { names.new.items ≡ filter (spec.is_chosen chosen.now) names.old.items }
+{
+    names.retain(|name| is_chosen(chosen, *name));
 }

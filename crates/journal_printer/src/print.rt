@@ -2,7 +2,7 @@
 ghost use Rattle.std.specs.Prelude.{◌≡◌, ◌++◌, IfOk, OnOk};
 ghost use Rattle.std.specs.List.{flat_map, slice_get};
 ghost use Rattle.std.specs.Option.{option_copied};
-ghost use Rattle.journal_printer.specs.Journal.{styled, spaced_text, journal_text};
+ghost use Rattle.journal_printer.specs.Journal.{styled, spaced_text, journal_text, chosen_text};
 ghost use Rattle.journal_printer.specs.Layout.{txn_text};
 ghost use Rattle.journal_printer.specs.Order as order;
 
@@ -10,7 +10,7 @@ use crate::detail::Detail;
 use crate::fields::fields_shown;
 use crate::head::push_head;
 use crate::layout::push_postings;
-use crate::order::{Name, names_in_order};
+use crate::order::{Name, keep_chosen, names_in_order};
 use crate::shapes::Shapes;
 use book::{Book, Styles, Txn};
 use hl_base::{Bytes, Memory};
@@ -39,6 +39,33 @@ pub fn print_book(
     ensures { IfOk result (λ text. text ≡ journal_text (styled styles.now) detail book.now.txns) }
 {
     let names = names_in_order(alloc, book.txns.as_slice())?;
+    let mut out = Vec::new(alloc);
+    push_named(
+        alloc,
+        &mut out,
+        styles,
+        detail,
+        book.txns.as_slice(),
+        names.as_slice(),
+    )?;
+    Ok(Bytes::from_vec(out))
+}
+
+/// The chosen transactions of a book alone, by day and then by number, each as `print_txn` gives it and with an empty
+/// line after it. `chosen` has an item for each transaction, by number; one without an item isn't chosen. Fails only for
+/// want of memory.
+pub fn print_chosen(
+    alloc: Global,
+    book: &Book,
+    chosen: &[bool],
+    styles: &Styles,
+    detail: Detail,
+) -> Result<Bytes, Memory>
+    ensures { IfOk result
+        (λ text. text ≡ chosen_text (styled styles.now) detail book.now.txns chosen.now) }
+{
+    let mut names = names_in_order(alloc, book.txns.as_slice())?;
+    keep_chosen(&mut names, chosen);
     let mut out = Vec::new(alloc);
     push_named(
         alloc,

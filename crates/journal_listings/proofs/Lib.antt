@@ -1,0 +1,4 @@
+pub mod Shown
+pub mod Sought
+pub mod Spanned
+pub mod Whole
