@@ -40,8 +40,8 @@ use Rattle.directive_reader.specs.Rules.{auto_of, periodic_of}
 use Rattle.directive_reader.specs.declared.keyword.Keyword.{Keyword}
 use Rattle.directive_reader.specs.declared.keyword.Keyword.TheVariants as keywords
 use Rattle.journal_reader.specs.Items.{broken_line, entry_limit, items_in, reading, reading_from, said_by}
-use Rattle.report_commands.specs.declared.command.Command.{Command}
-use Rattle.report_commands.specs.Reports.{report_over, report_read}
+use Rattle.report_commands.specs.declared.asked.Asked.{Asked}
+use Rattle.report_commands.specs.Reports.{Report, report_over, report_read}
 
 -- what is answered without a year is answered with one
 abbrev Keeps : {A E : Type 0} → Result A E → Result A E → Type 0
@@ -243,14 +243,14 @@ from_kept y before text (p ∷ ps) =
     (λ i. bind_keeps (reading_from None (before ++ i ∷ []) text ps) (reading_from (Some y) (before ++ i ∷ []) text ps) _ _ (from_kept y (before ++ i ∷ []) text ps) (λ more x e. e))
 
 -- reports
-same_ok : (r s : Result (List ℕ) Fault) → s ≡ r → IfOk r (λ report. s ≡ Ok report)
+same_ok : (r s : Result Report Fault) → s ≡ r → IfOk r (λ report. s ≡ Ok report)
 same_ok (Ok report) s e = e
 same_ok (Err fault) s e = tt
 
-by_items : (command : Command) (r s : Result (List Placed) Fault) → Keeps r s → IfOk (report_read command r) (λ report. report_read command s ≡ Ok report)
-by_items command (Ok items) s h = same_ok (report_read command (Ok items)) (report_read command s) (ap (λ (q : Result (List Placed) Fault). report_read command q) (h items refl))
-by_items command (Err fault) s h = tt
+by_items : (asked : Asked) (day : ℕ) (r s : Result (List Placed) Fault) → Keeps r s → IfOk (report_read asked day r) (λ report. report_read asked day s ≡ Ok report)
+by_items asked day (Ok items) s h = same_ok (report_read asked day (Ok items)) (report_read asked day s) (ap (λ (q : Result (List Placed) Fault). report_read asked day q) (h items refl))
+by_items asked day (Err fault) s h = tt
 
 -- a text that loads without a year has the same report with any
-pub any_year : (command : Command) (y : ℕ) (text : List ℕ) → IfOk (report_over command None text) (λ report. report_over command (Some y) text ≡ Ok report)
-any_year command y text = by_items command (items_in None text) (items_in (Some y) text) (from_kept y [] text (items_of text))
+pub any_year : (asked : Asked) (day y : ℕ) (text : List ℕ) → IfOk (report_over asked day None text) (λ report. report_over asked day (Some y) text ≡ Ok report)
+any_year asked day y text = by_items asked day (items_in None text) (items_in (Some y) text) (from_kept y [] text (items_of text))

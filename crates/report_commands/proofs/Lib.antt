@@ -1,3 +1,7 @@
 pub mod AnyYear
-pub mod Styled
+pub mod Answering
+pub mod Fitting
+pub mod Questions
+pub mod Requests
+pub mod Steps
 pub mod Unmarked

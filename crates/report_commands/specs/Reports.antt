@@ -1,41 +1,64 @@
 -- What the report commands answer.
-use Rattle.std.specs.Prelude.{ℕ, List, [], Option, Result, Ok, Err}
+use Rattle.std.specs.Prelude.{◌≡◌, ℕ, List, Option, Result, Ok, Err}
 use Rattle.book.specs.declared.fault.Fault.{Fault}
 use Rattle.book.specs.declared.item.Placed.{Placed}
 use Rattle.book.specs.declared.item.Book.{Book}
-use Rattle.book.specs.declared.style.Style.{Style}
-use Rattle.book.specs.Accounts.{accounts_of}
-use Rattle.book.specs.Postings.{postings_of}
-use Rattle.book.specs.Style.{style_of}
 use Rattle.journal_reader.specs.Items.{items_in}
 use Rattle.balancing.specs.Load.{load}
-use Rattle.reports.specs.Accounts.{account_lines}
-use Rattle.reports.specs.Cells.{rows_of, totals_of}
-use Rattle.balance_report.specs.BalanceList.{balance_list}
-use Rattle.journal_printer.specs.Journal.{journal_text}
-use Rattle.journal_printer.specs.declared.detail.Detail.TheVariants.{Written}
-use Rattle.report_commands.specs.declared.command.Command.{Command}
-use Rattle.report_commands.specs.declared.command.Command.TheVariants as commands
+use Rattle.query.specs.Made.{IsPatternRefused}
+use Rattle.query_terms.specs.Making.{Stays}
+use Rattle.query_terms.specs.Reading.{terms_of}
+use Rattle.query_terms.specs.declared.kinds.Term.{Term}
+use Rattle.report_cells.specs.declared.fault.ReportFault.{ReportFault}
+use Rattle.report_options.specs.declared.options.Options.{Options}
+use Rattle.report_commands.specs.Answered.{text_by}
+use Rattle.report_commands.specs.Matters.{letters_in, matter_over}
+use Rattle.report_commands.specs.declared.asked.Asked.{Asked}
+use Rattle.report_commands.specs.declared.fault.WordsFault.{WordsFault}
+use Rattle.report_commands.specs.declared.fault.WordsFault.TheVariants as words_fault
 
--- what a command answers over a book, with each symbol's style
-abbrev pub report_by : (List ℕ → Style) → Command → Book → List ℕ
-report_by style commands.Balance book = balance_list style (rows_of (postings_of book.txns)) (totals_of (postings_of book.txns))
-report_by style commands.Print book = journal_text (λ a. (style a.symbol).shape) Written book.txns
-report_by style commands.Accounts book = account_lines (accounts_of (postings_of book.txns))
-report_by style commands.Check book = []
+-- the text of a report, or why it isn't made
+abbrev pub Report : Type 0
+Report = Result (List ℕ) WordsFault
 
--- what it answers over the items of a text and their book
-abbrev pub report_of : Command → List Placed → Book → List ℕ
-report_of command items book = report_by (style_of items) command book
+abbrev pub as_report : Result (List ℕ) ReportFault → Report
+as_report (Ok text) = Ok text
+as_report (Err fault) = Err (words_fault.Report fault)
 
-abbrev pub report_loaded : Command → List Placed → Result Book Fault → Result (List ℕ) Fault
-report_loaded command items (Ok book) = Ok (report_of command items book)
-report_loaded command items (Err fault) = Err fault
+-- what the terms of a query ask for, or the word that is none
+abbrev pub answer_by : Options → ℕ → List Placed → Book → Result (List Term) (List ℕ) → Report
+answer_by options day items book (Ok terms) =
+    as_report (text_by options.command (letters_in items) (matter_over options day items book terms))
+answer_by options day items book (Err word) = Err (words_fault.BadTerm word)
 
-abbrev pub report_read : Command → Result (List Placed) Fault → Result (List ℕ) Fault
-report_read command (Ok items) = report_loaded command items (load items)
-report_read command (Err fault) = Err fault
+-- what is asked over the items of a text and their book on a day
+unfoldable pub answer_over : Asked → ℕ → List Placed → Book → Report
+answer_over asked day items book = answer_by asked.options day items book (terms_of day asked.words)
 
--- What a command answers over a text that begins in a year, or the fault that the text has: it is read, and then loaded.
-abbrev pub report_over : Command → Option ℕ → List ℕ → Result (List ℕ) Fault
-report_over command year text = report_read command (items_in year text)
+-- ---- over a text
+
+abbrev pub report_loaded : Asked → ℕ → List Placed → Result Book Fault → Result Report Fault
+report_loaded asked day items (Ok book) = Ok (answer_over asked day items book)
+report_loaded asked day items (Err fault) = Err fault
+
+abbrev pub report_read : Asked → ℕ → Result (List Placed) Fault → Result Report Fault
+report_read asked day (Ok items) = report_loaded asked day items (load items)
+report_read asked day (Err fault) = Err fault
+
+-- What is asked over a text that begins in a year, on a day, or the fault that the text has: it is read, then loaded, and
+-- then reported.
+abbrev pub report_over : Asked → ℕ → Option ℕ → List ℕ → Result Report Fault
+report_over asked day year text = report_read asked day (items_in year text)
+
+-- ---- what a call answers
+
+-- A report is answered, or why it isn't made: a pattern may be refused by who builds them, whose count rises then, and rises
+-- for nothing else; want of memory says nothing.
+abbrev pub Answers : Asked → ℕ → List Placed → Book → ℕ → ℕ → Option (List ℕ) → Option (List ℕ) → Report → Type 0
+Answers asked day items book before now last_before last_now (Ok text) =
+    (answer_over asked day items book ≡ Ok text) × Stays before now last_before last_now
+Answers asked day items book before now last_before last_now (Err (words_fault.PatternRefused word)) =
+    IsPatternRefused day asked.words word before now last_now
+Answers asked day items book before now last_before last_now (Err words_fault.Memory) = Stays before now last_before last_now
+Answers asked day items book before now last_before last_now (Err fault) =
+    (answer_over asked day items book ≡ Err fault) × Stays before now last_before last_now

@@ -2,14 +2,16 @@
 //! journal that is kept open both call.
 #![tactic(auto)]
 
-mod command;
-mod fault;
+pub mod asked;
+mod commands;
+pub mod fault;
 mod law;
-mod reporting;
-#[cfg(test)]
-mod tests;
+mod layouts;
+mod register;
+pub mod reporting;
+mod tables;
 
-pub use command::{Command, read_command};
+pub use asked::{Asked, read_program_report, read_report};
 pub use fault::WordsFault;
-pub use law::{any_year, text_faults, text_solves};
-pub use reporting::report;
+pub use law::{any_year, request_runs, text_faults, text_solves};
+pub use reporting::{Loaded, Material, report, report_of};

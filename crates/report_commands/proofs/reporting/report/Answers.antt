@@ -1,5 +1,5 @@
-use Rattle.report_commands.proofs.Styled.{in_styles}
 use Rattle.report_commands.proofs.reporting.report.Goals as goal
 
 pub returns : goal.returns
-returns c = λ items styled. in_styles c.styled.result c.args.command c.args.book.now c.args.styles.now items c.styled.ensures styled
+returns g c =
+    c.report_of.ensures c.args.loaded.now.items.now (record { letters = c.in_ok-types.ensures; styles = c.requires.styles; quotes = c.in_ok-prices.ensures })

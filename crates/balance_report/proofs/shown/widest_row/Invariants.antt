@@ -1,8 +1,0 @@
-use Rattle.std.proofs.Common.{◌≡◌, drop}
-use Rattle.std.specs.List.{flat_map}
-use Rattle.balance_report.specs.BalanceList.{widest}
-use Rattle.balance_report.proofs.shown.widest_row.Given as goal
-
-abbrev pub invariant-loop-row : goal.invariant-loop-row
-invariant-loop-row l =
-    widest l.columns (flat_map (λ row. row.1) (drop l.row-index l.rows)) ≡ widest l.fn.least (flat_map (λ row. row.1) l.rows)

@@ -1,3 +1,0 @@
-pub mod BalanceList
-pub mod BookList
-pub mod Shown

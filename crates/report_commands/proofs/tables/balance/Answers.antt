@@ -1,0 +1,44 @@
+use Rattle.std.proofs.Common.{◌≡◌, ℕ, List, length, sym, subst}
+use Rattle.std.proofs.lemmas.Result.{err_from_is_err_and}
+use Rattle.hl_base.specs.Gives.{Gives}
+use Rattle.hl_time.specs.declared.spans.Span.{Span}
+use Rattle.book.specs.Styles.{style_in}
+use Rattle.balance_rows.specs.declared.layout.Layout.{Layout}
+use Rattle.balance_layouts.specs.Balance as balances
+use Rattle.balance_layouts.specs.Balance.{balance_text}
+use Rattle.report_sums.specs.Celled.{Celled, cause, celled_of}
+use Rattle.report_sums.specs.Matters.{matter_of}
+use Rattle.report_commands.specs.Answered.{laid_balance, sums_in}
+use Rattle.report_commands.specs.Layouts.{layout_of}
+use Rattle.report_commands.proofs.Fitting.{balance_fits}
+use Rattle.report_commands.proofs.Steps.{stop_gives, then_gives, unless_gives}
+use Rattle.report_commands.proofs.tables.balance.Goals as goal
+
+pub balance_text-requires-clause-fits : goal.balance_text-requires-clause-fits
+balance_text-requires-clause-fits c =
+    let options = c.args.job.now.scope.options.now in
+    subst (λ (layout : Layout). balances.CellsFit layout (length c.in_ok-cells.cells.columns) (celled_of c.in_ok-cells.cells).rows (celled_of c.in_ok-cells.cells).totals) (sym c.layout_of-layout.ensures)
+    (balance_fits options (length c.in_ok-cells.cells.columns) (celled_of c.in_ok-cells.cells) c.in_ok-cells.ensures.fits)
+
+pub returns : goal.returns
+returns c =
+    let options = c.args.job.now.scope.options.now in
+    let style = style_in c.args.job.now.styles.now in
+    let columns = c.in_ok-cells.cells.columns in
+    let cells = celled_of c.in_ok-cells.cells in
+    let layout = c.layout_of-layout.result in
+    then_gives (λ (text : List ℕ). text) c.balance_text.result (sums_in (matter_of c.args.job.now)) (columns, cells)
+    (λ (sums : List Span × Celled). laid_balance (layout_of options) style sums.0 sums.1)
+    c.in_ok-cells.ensures.told
+    (subst (λ (layout : Layout). Gives (λ (text : List ℕ). text) cause c.balance_text.result (laid_balance layout style columns cells)) c.layout_of-layout.ensures
+    (unless_gives (λ (text : List ℕ). text) c.balance_text.result (balances.out_of_range layout (length columns) style cells.rows cells.totals)
+    (balance_text layout style columns cells.rows cells.totals)
+    c.balance_text.ensures.text c.balance_text.ensures.told c.balance_text.ensures.fault))
+
+pub returns-in_err-cells : goal.returns-in_err-cells
+returns-in_err-cells c =
+    let options = c.args.job.now.scope.options.now in
+    let style = style_in c.args.job.now.styles.now in
+    let p = err_from_is_err_and c.from_residual.result c.from_residual.ensures.1 in
+    rw (p.1, p.2) (stop_gives c.in_err-cells.field-0.0 (sums_in (matter_of c.args.job.now))
+    (λ (sums : List Span × Celled). laid_balance (layout_of options) style sums.0 sums.1) c.in_err-cells.ensures.told)
