@@ -1,7 +1,9 @@
 mod Done
 mod Keeping
-mod Lists
 mod Opened
+pub mod Quiet
+mod Refused
+mod Reported
 mod Rooms
 pub mod Runs
 mod Served

@@ -1,5 +1,5 @@
 -- How a machine serves a request, by what it did.
-use Rattle.std.proofs.Common.{◌≡◌, ◌⊎◌, inl, inr, ℕ, ◌+◌, ◌≤◌, ◌<◌, Bool, true, false, if◌then◌else◌, nat_le, nat_lt, ◌^◌, ◌-◌, min, List, [], ◌∷◌, ◌++◌, length, take, drop, Option, Some, None, IfSome, Result, Ok, Err, refl, ap, sym, subst, ◌∙◌, arith, length-append}
+use Rattle.std.proofs.Common.{◌≡◌, ◌⊎◌, inl, inr, ℕ, ◌+◌, ◌≤◌, ◌<◌, Bool, true, false, if◌then◌else◌, nat_le, nat_lt, ◌^◌, ◌-◌, min, List, [], ◌∷◌, ◌++◌, map, length, take, drop, Option, Some, None, IfSome, Result, Ok, Err, refl, ap, sym, subst, ◌∙◌, arith, length-append}
 use Rattle.std.proofs.lemmas.Bool.Decides.{nat_tests}
 use Rattle.std.specs.Int.{w64, to_le_bytes}
 use Rattle.std.specs.Str.{bytes_eq}
@@ -26,8 +26,9 @@ use Rattle.desk.specs.declared.reply.Reply.{Reply}
 use Rattle.desk.specs.declared.reply.Reply.TheVariants as reply
 use Rattle.report_commands.specs.declared.fault.WordsFault.{WordsFault}
 use Rattle.desk.specs.Desks.{Serves, state_of}
-use Rattle.desk.specs.Reports.{words_over}
-use Rattle.desk.specs.States.{Answer, State, answer_to, as_reply, change_of, covers, edit_answer, edited_state, forbidden, image_of, is_due, journal_of, last_revision, no_room, or_done, record_size, report_reply, stays, unaccepted, unchanged}
+use Rattle.query.specs.Building.{IsOneOf}
+use Rattle.desk.specs.Reports.{refusable_words, words_over}
+use Rattle.desk.specs.States.{Answer, State, answer_to, as_reply, change_of, covers, edit_answer, edited_state, forbidden, image_of, is_due, journal_of, last_revision, no_room, or_done, record_size, refused_pattern, report_answer, report_reply, Replies, stays, unaccepted, unchanged}
 use Rattle.desk.specs.Steps.{edit_in, is_done}
 use Rattle.desk.proofs.Still.{still}
 
@@ -49,35 +50,52 @@ not_done : (revision : ℕ) (output : Result (List ℕ) WordsFault) → is_done 
 not_done revision (Ok bytes) = refl
 not_done revision (Err fault) = refl
 
-pub reported : {D : Type 0} {g : Ghosts D} (desk : Desk D g) (q : Request) (words : List (List ℕ)) (r : Reply) → q ≡ request.Report words
-    → (r ≡ reply.Memory) ⊎ (r ≡ report_reply desk.live.revision (words_over None desk.live.text words)) → Serves (answer_to (state_of desk) q) (edit_in q) desk r desk
-unfolding answer_to
-reported desk q words r is h =
-    subst (λ (x : Request). Serves (answer_to (state_of desk) x) (edit_in x) desk r desk) (sym is) (either_reply None desk _ r (not_done desk.live.revision (words_over None desk.live.text words)) h)
+-- a refused pattern is no edit that stands
+refused_undone : (words : List (List ℕ)) (r : Reply) → IsOneOf r (map refused_pattern words) → is_done r ≡ false
+refused_undone [] r among = absurd among
+refused_undone (word ∷ words) r (inl is) = sym (ap is_done is)
+refused_undone (word ∷ words) r (inr among) = refused_undone words r among
 
-pub downloaded : {D : Type 0} {g : Ghosts D} (desk : Desk D g) (q : Request) (r : Reply) → q ≡ request.Download
-    → (r ≡ reply.Memory) ⊎ (r ≡ reply.Text desk.live.revision desk.live.text) → Serves (answer_to (state_of desk) q) (edit_in q) desk r desk
-unfolding answer_to
-downloaded desk q r is h =
-    subst (λ (x : Request). Serves (answer_to (state_of desk) x) (edit_in x) desk r desk) (sym is) (either_reply None desk _ r refl h)
+by_report : {D : Type 0} {g : Ghosts D} (desk : Desk D g) (day : ℕ) (words : List (List ℕ)) (r : Reply)
+    → Replies desk.live.revision day desk.live.text words r → Serves (report_answer (state_of desk) day words) None desk r desk
+by_report desk day words r (inl h) =
+    subst (λ (x : Reply). Serves (report_answer (state_of desk) day words) None desk x desk) (sym h) (out_of_memory (report_answer (state_of desk) day words) None desk)
+by_report desk day words r (inr (inl h)) =
+    let given = report_reply desk.live.revision (words_over day None desk.live.text words) in
+    subst (λ (x : Reply). Serves (report_answer (state_of desk) day words) None desk x desk) (sym h)
+    (still (report_answer (state_of desk) day words) None desk given (inl (refl, refl, refl)) (not_done desk.live.revision (words_over day None desk.live.text words)))
+by_report desk day words r (inr (inr among)) =
+    still (report_answer (state_of desk) day words) None desk r (inr (inr (inr (among, refl, refl)))) (refused_undone (refusable_words day words) r among)
 
-pub was_add : {D : Type 0} {g : Ghosts D} (old new : Desk D g) (q : Request) (entry : List ℕ) (r : Reply) → q ≡ request.Add entry
-    → Serves (edit_answer (state_of old) allow.Add (edit.Add entry)) (Some (edit.Add entry)) old r new → Serves (answer_to (state_of old) q) (edit_in q) old r new
+pub reported : {D : Type 0} {g : Ghosts D} (desk : Desk D g) (day : ℕ) (q : Request) (words : List (List ℕ)) (r : Reply) → q ≡ request.Report words
+    → Replies desk.live.revision day desk.live.text words r → Serves (answer_to (state_of desk) day q) (edit_in q) desk r desk
 unfolding answer_to
-was_add old new q entry r is h =
-    subst (λ (x : Request). Serves (answer_to (state_of old) x) (edit_in x) old r new) (sym is) h
+reported desk day q words r is h =
+    subst (λ (x : Request). Serves (answer_to (state_of desk) day x) (edit_in x) desk r desk) (sym is) (by_report desk day words r h)
 
-pub was_change : {D : Type 0} {g : Ghosts D} (old new : Desk D g) (q : Request) (base item : ℕ) (entry : List ℕ) (r : Reply) → q ≡ request.Change base item entry
-    → Serves (edit_answer (state_of old) allow.Edit (edit.Change base item entry)) (Some (edit.Change base item entry)) old r new → Serves (answer_to (state_of old) q) (edit_in q) old r new
+pub downloaded : {D : Type 0} {g : Ghosts D} (desk : Desk D g) (day : ℕ) (q : Request) (r : Reply) → q ≡ request.Download
+    → (r ≡ reply.Memory) ⊎ (r ≡ reply.Text desk.live.revision desk.live.text) → Serves (answer_to (state_of desk) day q) (edit_in q) desk r desk
 unfolding answer_to
-was_change old new q base item entry r is h =
-    subst (λ (x : Request). Serves (answer_to (state_of old) x) (edit_in x) old r new) (sym is) h
+downloaded desk day q r is h =
+    subst (λ (x : Request). Serves (answer_to (state_of desk) day x) (edit_in x) desk r desk) (sym is) (either_reply None desk _ r refl h)
 
-pub was_replace : {D : Type 0} {g : Ghosts D} (old new : Desk D g) (q : Request) (base : ℕ) (text : List ℕ) (r : Reply) → q ≡ request.Replace base text
-    → Serves (edit_answer (state_of old) allow.Edit (edit.Replace base text)) (Some (edit.Replace base text)) old r new → Serves (answer_to (state_of old) q) (edit_in q) old r new
+pub was_add : {D : Type 0} {g : Ghosts D} (old new : Desk D g) (day : ℕ) (q : Request) (entry : List ℕ) (r : Reply) → q ≡ request.Add entry
+    → Serves (edit_answer (state_of old) allow.Add (edit.Add entry)) (Some (edit.Add entry)) old r new → Serves (answer_to (state_of old) day q) (edit_in q) old r new
 unfolding answer_to
-was_replace old new q base text r is h =
-    subst (λ (x : Request). Serves (answer_to (state_of old) x) (edit_in x) old r new) (sym is) h
+was_add old new day q entry r is h =
+    subst (λ (x : Request). Serves (answer_to (state_of old) day x) (edit_in x) old r new) (sym is) h
+
+pub was_change : {D : Type 0} {g : Ghosts D} (old new : Desk D g) (day : ℕ) (q : Request) (base item : ℕ) (entry : List ℕ) (r : Reply) → q ≡ request.Change base item entry
+    → Serves (edit_answer (state_of old) allow.Edit (edit.Change base item entry)) (Some (edit.Change base item entry)) old r new → Serves (answer_to (state_of old) day q) (edit_in q) old r new
+unfolding answer_to
+was_change old new day q base item entry r is h =
+    subst (λ (x : Request). Serves (answer_to (state_of old) day x) (edit_in x) old r new) (sym is) h
+
+pub was_replace : {D : Type 0} {g : Ghosts D} (old new : Desk D g) (day : ℕ) (q : Request) (base : ℕ) (text : List ℕ) (r : Reply) → q ≡ request.Replace base text
+    → Serves (edit_answer (state_of old) allow.Edit (edit.Replace base text)) (Some (edit.Replace base text)) old r new → Serves (answer_to (state_of old) day q) (edit_in q) old r new
+unfolding answer_to
+was_replace old new day q base text r is h =
+    subst (λ (x : Request). Serves (answer_to (state_of old) day x) (edit_in x) old r new) (sym is) h
 
 -- the same of a machine that is seen in the same parts
 pub reseen : {D : Type 0} {g : Ghosts D} (answer : State → Answer) (e : Option Edit) (old mid new : Desk D g) (r : Reply)

@@ -47,7 +47,7 @@ pub record Serves {D : Type 0} {g : Ghosts D} (answer : Answer) (e : Option Edit
 
 -- One request and its reply: a step of the machine, which counts it, with the revision after it.
 pub record IsServed {D : Type 0} {g : Ghosts D} (old : Desk D g) (entry : Entry) (new : Desk D g) : Type 0 where
-  pub serves : Serves (answer_to (state_of old) entry.request) (edit_in entry.request) old entry.reply new
+  pub serves : Serves (answer_to (state_of old) entry.day.0 entry.request) (edit_in entry.request) old entry.reply new
   pub counts : counts_of new ≡ counted (counts_of old) entry.reply
   pub revision : entry.revision ≡ new.live.revision
 

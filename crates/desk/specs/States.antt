@@ -1,5 +1,5 @@
 -- The state of the machine, and what each request makes of it.
-use Rattle.std.specs.Prelude.{ℕ, ◌+◌, ◌-◌, ◌*◌, ◌^◌, min, Bool, true, false, ◌||◌, List, [], ◌∷◌, nat_lt, Option, Some, None, Result, Ok, Err, if◌then◌else◌, length}
+use Rattle.std.specs.Prelude.{◌≡◌, ◌⊎◌, ℕ, ◌+◌, ◌-◌, ◌*◌, ◌^◌, min, Bool, true, false, ◌||◌, List, [], ◌∷◌, map, nat_lt, Option, Some, None, Result, Ok, Err, if◌then◌else◌, length}
 use Rattle.std.specs.Str.{bytes_eq}
 use Rattle.hl_base.specs.declared.change.Latest.{Latest}
 use Rattle.text_store.specs.declared.change.Change.{Change}
@@ -22,7 +22,9 @@ use Rattle.desk.specs.declared.request.Request.TheVariants as request
 use Rattle.desk.specs.declared.reply.Reply.{Reply}
 use Rattle.desk.specs.declared.reply.Reply.TheVariants as reply
 use Rattle.report_commands.specs.declared.fault.WordsFault.{WordsFault}
-use Rattle.desk.specs.Reports.{words_over}
+use Rattle.report_commands.specs.declared.fault.WordsFault.TheVariants as words_fault
+use Rattle.query.specs.Building.{IsOneOf}
+use Rattle.desk.specs.Reports.{refusable_words, words_over}
 
 -- the text, the states of its imports, its revision, what is allowed, and the size of the store and its limit
 pub record State : Type 0 where
@@ -40,10 +42,11 @@ journal_of s = record { text = s.text; year = None; revision = s.revision }
 abbrev pub image_of : State → Image
 image_of s = record { text = s.text; latest = s.latest; revision = s.revision }
 
--- a reply, and the state after it
+-- a reply and the state after it, and other replies that may be given, which leave the state as it was
 pub record Answer : Type 0 where
   pub reply : Reply
   pub state : State
+  pub others : List Reply
 
 -- what is allowed includes what is needed
 abbrev pub covers : Allow → Allow → Bool
@@ -129,10 +132,10 @@ edited_state s e =
     }
 
 abbrev pub stays : State → Reply → Answer
-stays s r = record { reply = r; state = s }
+stays s r = record { reply = r; state = s; others = [] }
 
 abbrev pub or_done : State → Edit → Option Reply → Answer
-or_done s e None = record { reply = reply.Done (s.revision + 1); state = edited_state s e }
+or_done s e None = record { reply = reply.Done (s.revision + 1); state = edited_state s e; others = [] }
 or_done s e (Some r) = stays s r
 
 -- what an edit is answered that needs so much
@@ -143,10 +146,33 @@ abbrev pub report_reply : ℕ → Result (List ℕ) WordsFault → Reply
 report_reply revision (Ok bytes) = reply.Text revision bytes
 report_reply revision (Err fault) = reply.Words fault
 
--- What a request is answered, and the state after it.
-unfoldable pub answer_to : State → Request → Answer
-answer_to s (request.Report words) = stays s (report_reply s.revision (words_over None s.text words))
-answer_to s request.Download = stays s (reply.Text s.revision s.text)
-answer_to s (request.Add entry) = edit_answer s allow.Add (edit.Add entry)
-answer_to s (request.Change base item entry) = edit_answer s allow.Edit (edit.Change base item entry)
-answer_to s (request.Replace base text) = edit_answer s allow.Edit (edit.Replace base text)
+-- what is replied to a report that came out so, where memory may have run out
+abbrev pub made_reply : ℕ → Result (List ℕ) WordsFault → Reply
+made_reply revision (Ok bytes) = reply.Text revision bytes
+made_reply revision (Err words_fault.Memory) = reply.Memory
+made_reply revision (Err fault) = reply.Words fault
+
+abbrev pub refused_pattern : List ℕ → Reply
+refused_pattern word = reply.Words (words_fault.PatternRefused word)
+
+-- what a report is replied: its text, or why there is none; or memory ran out; or a pattern of its query was refused
+abbrev pub Replies : ℕ → ℕ → List ℕ → List (List ℕ) → Reply → Type 0
+Replies revision day text words r =
+    (r ≡ reply.Memory)
+    ⊎ ((r ≡ report_reply revision (words_over day None text words)) ⊎ IsOneOf r (map refused_pattern (refusable_words day words)))
+
+-- what a report is answered; or a pattern of its query is refused
+abbrev pub report_answer : State → ℕ → List (List ℕ) → Answer
+report_answer s day words = record {
+  reply = report_reply s.revision (words_over day None s.text words);
+  state = s;
+  others = map refused_pattern (refusable_words day words);
+}
+
+-- What a request is answered on a day, and the state after it.
+unfoldable pub answer_to : State → ℕ → Request → Answer
+answer_to s day (request.Report words) = report_answer s day words
+answer_to s day request.Download = stays s (reply.Text s.revision s.text)
+answer_to s day (request.Add entry) = edit_answer s allow.Add (edit.Add entry)
+answer_to s day (request.Change base item entry) = edit_answer s allow.Edit (edit.Change base item entry)
+answer_to s day (request.Replace base text) = edit_answer s allow.Edit (edit.Replace base text)

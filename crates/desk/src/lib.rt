@@ -10,8 +10,6 @@ mod report;
 pub mod request;
 mod serving;
 mod sizes;
-#[cfg(test)]
-mod tests;
 
 pub use desk::Desk;
 pub use fault::DeskFault;

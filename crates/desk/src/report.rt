@@ -1,37 +1,39 @@
 //! The reports of a journal.
-ghost use Rattle.std.specs.Prelude.{◌≡◌, IfOk};
-ghost use Rattle.hl_base.specs.Gives.{Gives};
-ghost use Rattle.report_commands.specs.Commands.{words_cause};
-ghost use Rattle.report_commands.specs.Reports.{report_over};
-ghost use Rattle.desk.specs.Reports.{shown, words_over};
+ghost use Rattle.hl_time.specs.Calendar.{IsDay};
+ghost use Rattle.std.specs.Prelude.{◌≡◌};
+ghost use Rattle.desk.specs.Reports.{Reports};
 
-use hl_base::{Bytes, Memory, Steps, Text};
+use hl_base::{Bytes, Steps, Text};
 use hl_time::Day;
 use live_journal::Live;
-use report_commands::{Command, WordsFault, read_command, report};
+use query::Maker;
+use report_commands::{Loaded, WordsFault, read_report, report};
 use std::alloc::Global;
 use std::sync::ledger::Ledger;
 
-/// What a command answers over a journal's text.
-fn live_report(alloc: Global, live: &Live, command: Command) -> Result<Bytes, Memory>
-    ensures { IfOk result (λ text. text ≡ shown (report_over command live.now.year live.now.text)) }
-{
-    report(alloc, command, live.book(), live.styles())
-}
-
-/// The output of a report over a journal's text: the first word is the command, and those after it are its options. A
-/// word that has no place is told.
-pub fn report_text<L: Ledger>(
+/// The output of a report over a journal's text, on a day, by the patterns that a maker builds: the first word is the
+/// command, and those after it are its options and its query. Of several causes why there is none the first in the
+/// order of `WordsFault` is told.
+pub fn report_text<M: Maker, L: Ledger>(
     alloc: Global,
     live: &Live,
     words: &[Text],
     day: Day,
+    maker: &mut M,
     steps: &mut Steps<L>,
 ) -> Result<Bytes, WordsFault>
-    ensures value { Gives (λ text. text) words_cause result (words_over live.now.year live.now.text words.now) }
+    requires { IsDay day.0 }
+    ensures value { Reports day.0 live.now.year live.now.text words.now
+        (M.refusals maker.old) (M.refusals maker.new)
+        (M.last_refused maker.old) (M.last_refused maker.new) result }
     ensures steps { steps.new ≡ steps.old }
 {
-    let _ = day;
-    let command = read_command(alloc, words)?;
-    Ok(live_report(alloc, live, command)?)
+    let asked = read_report(alloc, words, day)?;
+    let loaded = Loaded {
+        items: live.items(),
+        book: live.book(),
+        styles: live.styles(),
+        day,
+    };
+    report(alloc, &asked, &loaded, maker)
 }

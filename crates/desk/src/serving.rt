@@ -13,6 +13,7 @@ use crate::sizes::{change_of, record_size, whole_size};
 use hl_base::{Bytes, Disk, Memory, Steps, Text};
 use hl_time::Day;
 use live_journal::{Edit, EditFault, Plan};
+use query::Maker;
 use report_commands::WordsFault;
 use std::alloc::Global;
 use std::sync::ledger::Ledger;
@@ -27,24 +28,30 @@ impl<D: Disk> Desk<D> {
     ghost use Rattle.live_journal.specs.Refusals.{planned};
     ghost use Rattle.desk.specs.Desks.{IsServed, Serves, counts_of, state_of};
     ghost use Rattle.desk.specs.Keeping.{room_size};
-    ghost use Rattle.desk.specs.Reports.{words_over};
-    ghost use Rattle.desk.specs.Steps.{counted};
+    ghost use Rattle.hl_time.specs.Calendar.{IsDay};
+    ghost use Rattle.desk.specs.States.{Replies};
+    ghost use Rattle.desk.specs.Steps.{TellsReply, counted};
 
-    /// Answers a request that comes on a day. It is one step of the machine. An edit is refused by the first of these
-    /// that holds: it isn't allowed; its base is above or below the revision; no item has its number; it isn't one of
-    /// transactions; the new text has too many bytes or items; the new text has a fault; the text stays the same; the
-    /// store has no room, or the revision has come to its end. Else it is put into the store, and stands. After want of
-    /// memory and after a disk fault the journal is as it was.
-    pub fn request<L: Ledger>(
+    /// Answers a request that comes on a day, with the patterns of its words built by the maker. It is one step of the
+    /// machine. An edit is refused by the first of these that holds: it isn't allowed; its base is above or below the
+    /// revision; no item has its number; it isn't one of transactions; the new text has too many bytes or items; the
+    /// new text has a fault; the text stays the same; the store has no room, or the revision has come to its end. Else
+    /// it is put into the store, and stands. After want of memory, a disk fault and a refused pattern the journal is as
+    /// it was.
+    pub fn request<M: Maker, L: Ledger>(
         &mut self,
         alloc: Global,
         request: &Request,
         day: Day,
+        maker: &mut M,
         steps: &mut Steps<L>,
     ) -> Reply
-        ensures { IsServed self.old (record { request = request.now; day = day; reply = result; revision = self.new.live.revision }) self.new }
+        requires { IsDay day.0 }
+        ensures maker { TellsReply day.0 (M.refusals maker.old) (M.refusals maker.new)
+            (M.last_refused maker.old) (M.last_refused maker.new) result }
+        ensures served { IsServed self.old (record { request = request.now; day = day; reply = result; revision = self.new.live.revision }) self.new }
     {
-        let reply = self.answer(alloc, request, day, steps);
+        let reply = self.answer(alloc, request, day, maker, steps);
         self.count(&reply);
         reply
     }
@@ -63,18 +70,22 @@ impl<D: Disk> Desk<D> {
     }
 
     /// Answers a request.
-    fn answer<L: Ledger>(
+    fn answer<M: Maker, L: Ledger>(
         &mut self,
         alloc: Global,
         request: &Request,
         day: Day,
+        maker: &mut M,
         steps: &mut Steps<L>,
     ) -> Reply
-        ensures served { Serves (state.answer_to (state_of self.old) request.now) (spec.edit_in request.now) self.old result self.new }
+        requires { IsDay day.0 }
+        ensures maker { TellsReply day.0 (M.refusals maker.old) (M.refusals maker.new)
+            (M.last_refused maker.old) (M.last_refused maker.new) result }
+        ensures served { Serves (state.answer_to (state_of self.old) day.0 request.now) (spec.edit_in request.now) self.old result self.new }
         ensures counts { counts_of self.new ≡ counts_of self.old }
     {
         match request {
-            Request::Report { words } => self.report(alloc, words.as_slice(), day, steps),
+            Request::Report { words } => self.report(alloc, words.as_slice(), day, maker, steps),
             Request::Download => self.download(alloc),
             Request::Add { entry } => self.edit(alloc, Allow::Add, add(alloc, entry), steps),
             Request::Change { base, item, entry } => {
@@ -92,23 +103,21 @@ impl<D: Disk> Desk<D> {
     }
 
     /// The reply to a report.
-    fn report<L: Ledger>(
+    fn report<M: Maker, L: Ledger>(
         &self,
         alloc: Global,
         words: &[Text],
         day: Day,
+        maker: &mut M,
         steps: &mut Steps<L>,
     ) -> Reply
-        ensures { (result ≡ Reply.Memory) ⊎ (result ≡ state.report_reply self.now.live.revision (words_over None self.now.live.text words.now)) }
+        requires { IsDay day.0 }
+        ensures maker { TellsReply day.0 (M.refusals maker.old) (M.refusals maker.new)
+            (M.last_refused maker.old) (M.last_refused maker.new) result }
+        ensures reply { Replies self.now.live.revision day.0 self.now.live.text words.now result }
     {
-        match report_text(alloc, &self.live, words, day, steps) {
-            Ok(bytes) => Reply::Text {
-                revision: self.live.revision(),
-                bytes,
-            },
-            Err(WordsFault::Memory) => Reply::Memory,
-            Err(fault) => Reply::Words(fault),
-        }
+        let made = report_text(alloc, &self.live, words, day, maker, steps);
+        report_reply(self.live.revision(), made)
     }
 
     /// The reply to a download.
@@ -257,6 +266,17 @@ impl<D: Disk> Desk<D> {
                 Reply::DiskFault { before, after }
             }
         }
+    }
+}
+
+/// The reply to a report that came out so, at a revision.
+fn report_reply(revision: u64, made: Result<Bytes, WordsFault>) -> Reply
+    ensures { result ≡ state.made_reply revision made }
+{
+    match made {
+        Ok(bytes) => Reply::Text { revision, bytes },
+        Err(WordsFault::Memory) => Reply::Memory,
+        Err(fault) => Reply::Words(fault),
     }
 }
 

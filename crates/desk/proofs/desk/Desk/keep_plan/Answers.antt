@@ -72,7 +72,7 @@ returns-clause-served g c =
     let cause = rw c.in-Err-DiskFault.field-0-is at c.in-Err-DiskFault.ensures.cause in
     let next = image_of (edited_state s e) in
     rw (c.faults-before.ensures, c.faults-after.ensures) (record {
-      gives = inr (inr (refl, refl, cause, stays_so s (Some e) _ _ c.keep.ensures.goes_on.limit sizes));
+      gives = inr (inr (inl (refl, refl, cause, stays_so s (Some e) _ _ c.keep.ensures.goes_on.limit sizes)));
       stands = λ pending stands.
           let k = rw c.in-Err-DiskFault.field-0-is at (c.in-Err-DiskFault.ensures.torn (shown_by old) next pending refl stands is) in
           (k.0, left_fault next (fault_count g.D.Disk (disks old.store)) (fault_count g.D.Disk (disks c.keep.new.store)) pending k.0 k.1, k.2);
