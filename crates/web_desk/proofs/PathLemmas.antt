@@ -12,7 +12,7 @@ use Rattle.matchit.specs.Router.{RouteOf}
 use Rattle.web_desk.specs.Paths.{resource_at, found_at, FindsEach, literal_route}
 use Rattle.web_desk.specs.declared.resource.Resource.{Resource}
 use Rattle.web_desk.specs.declared.resource.Resource.TheVariants.{Report, Download, Add}
-use Rattle.report_commands.specs.declared.command.Command.TheVariants.{Balance, Print, Accounts}
+use Rattle.report_options.specs.declared.command.Command.TheVariants.{Balance, Print, Register, IncomeStatement, BalanceSheet, Accounts}
 
 -- each route is made of bytes alone
 abbrev pub AreLiteral : {K : Type 0} → RowsOf K → Type 0
@@ -98,9 +98,12 @@ abbrev pub all_routes : RowsOf (RouteOf Resource)
 all_routes =
     (codes "/accounts", literal_route (codes "/accounts") (Report Accounts))
     ∷ (codes "/add", literal_route (codes "/add") Add)
+    ∷ (codes "/balancesheet", literal_route (codes "/balancesheet") (Report BalanceSheet))
     ∷ (codes "/balance", literal_route (codes "/balance") (Report Balance))
     ∷ (codes "/download", literal_route (codes "/download") Download)
+    ∷ (codes "/incomestatement", literal_route (codes "/incomestatement") (Report IncomeStatement))
     ∷ (codes "/journal", literal_route (codes "/journal") (Report Print))
+    ∷ (codes "/register", literal_route (codes "/register") (Report Register))
     ∷ []
 
 -- this path finds among the routes what it names
@@ -119,10 +122,30 @@ lookup_finds : (path : List ℕ) → FindsAt path
 lookup_finds path =
     by_text path (codes "/balance") refl (λ no_balance.
     by_text path (codes "/journal") refl (λ no_journal.
+    by_text path (codes "/register") refl (λ no_register.
+    by_text path (codes "/incomestatement") refl (λ no_incomestatement.
+    by_text path (codes "/balancesheet") refl (λ no_balancesheet.
     by_text path (codes "/accounts") refl (λ no_accounts.
     by_text path (codes "/download") refl (λ no_download.
     by_text path (codes "/add") refl (λ no_add.
-    rw (same_flip (codes "/accounts") path, same_flip (codes "/add") path, same_flip (codes "/balance") path, same_flip (codes "/download") path, same_flip (codes "/journal") path, no_balance, no_journal, no_accounts, no_download, no_add) refl)))))
+    rw (
+      same_flip (codes "/accounts") path,
+      same_flip (codes "/add") path,
+      same_flip (codes "/balancesheet") path,
+      same_flip (codes "/balance") path,
+      same_flip (codes "/download") path,
+      same_flip (codes "/incomestatement") path,
+      same_flip (codes "/journal") path,
+      same_flip (codes "/register") path,
+      no_balance,
+      no_journal,
+      no_register,
+      no_incomestatement,
+      no_balancesheet,
+      no_accounts,
+      no_download,
+      no_add,
+    ) refl))))))))
 
 -- none of them has a parameter
 all_literal : AreLiteral all_routes
@@ -146,7 +169,16 @@ ascii_at (b ∷ rest) h (suc i) = ascii_at rest h.1 i
 -- Bytes that are no text lead nowhere.
 pub no_text : (path : List ℕ) → (IsUtf8 path → ⊥) → None ≡ resource_at path
 no_text path h =
-    rw (differs (codes "/balance") (search rules), differs (codes "/journal") (search rules), differs (codes "/accounts") (search rules), differs (codes "/download") (search rules), differs (codes "/add") (search rules)) refl
+    rw (
+      differs (codes "/balance") (search rules),
+      differs (codes "/journal") (search rules),
+      differs (codes "/register") (search rules),
+      differs (codes "/incomestatement") (search rules),
+      differs (codes "/balancesheet") (search rules),
+      differs (codes "/accounts") (search rules),
+      differs (codes "/download") (search rules),
+      differs (codes "/add") (search rules),
+    ) refl
   where
     differs : (text : List ℕ) → AreAscii text → bytes_eq path text ≡ false
     differs text ascii = by (bytes_eq path text) refl

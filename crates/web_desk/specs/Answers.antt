@@ -6,6 +6,8 @@ use Rattle.http.specs.StatusCode.{reason_phrase}
 use Rattle.desk.specs.declared.request.Request.{Request}
 use Rattle.desk.specs.declared.reply.Reply.{Reply}
 use Rattle.desk.specs.declared.reply.Reply.TheVariants as reply
+use Rattle.report_cells.specs.declared.fault.ReportFault.{ReportFault}
+use Rattle.report_cells.specs.declared.fault.ReportFault.TheVariants as report
 use Rattle.report_commands.specs.declared.fault.WordsFault.{WordsFault}
 use Rattle.report_commands.specs.declared.fault.WordsFault.TheVariants as words
 use Rattle.web_desk.specs.declared.refusal.Refusal.{Refusal}
@@ -80,9 +82,18 @@ allow_field refusal.Body = []
 abbrev pub refusal_message : Bool → Refusal → List ℕ
 refusal_message closing r = message (refusal_status r) None (allow_field r) closing (refusal_line r)
 
+abbrev pub report_status : ReportFault → ℕ
+report_status (report.Range symbol) = 400
+report_status (report.TooWide columns limit) = 400
+report_status report.Memory = 500
+
 abbrev pub words_status : WordsFault → ℕ
 words_status (words.NoCommand word) = 400
 words_status (words.BadOption word) = 400
+words_status (words.Conflict a b) = 400
+words_status (words.BadTerm word) = 400
+words_status (words.PatternRefused word) = 400
+words_status (words.Report fault) = report_status fault
 words_status words.Memory = 500
 
 abbrev pub status_of : Reply → ℕ

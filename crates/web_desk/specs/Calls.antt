@@ -5,14 +5,17 @@ use Rattle.std.specs.Str.{bytes_eq}
 use Rattle.httparse.specs.Grammar.{RequestHead}
 use Rattle.desk.specs.declared.request.Request.{Request}
 use Rattle.desk.specs.declared.request.Request.TheVariants.{Report, Download, Add}
-use Rattle.report_commands.specs.declared.command.Command.{Command}
-use Rattle.report_commands.specs.declared.command.Command.TheVariants as commands
+use Rattle.report_options.specs.declared.command.Command.{Command}
+use Rattle.report_options.specs.declared.command.Command.TheVariants as commands
 use Rattle.web_desk.specs.declared.form.Parameter.{Parameter}
 use Rattle.web_desk.specs.declared.refusal.Refusal.{Refusal}
 use Rattle.web_desk.specs.declared.refusal.Refusal.TheVariants as refusal
+use Rattle.web_desk.specs.declared.resource.Resource.{Resource}
+use Rattle.web_desk.specs.declared.resource.Resource.TheVariants as resource
 use Rattle.web_desk.specs.declared.route.Route.{Route}
 use Rattle.web_desk.specs.declared.route.Route.TheVariants as route
 use Rattle.web_desk.specs.Forms.{parameters_of, only_value, all_values}
+use Rattle.web_desk.specs.Paths.{resource_at}
 
 -- a target is a path and, after the first question mark, a query
 abbrev pub path_of : List ℕ → List ℕ
@@ -25,15 +28,16 @@ query_of target = after_first (λ b. b == 63) target
 abbrev pub by_method : List ℕ → List ℕ → Route → Refusal → Route
 by_method method wanted found refused = if bytes_eq method wanted then found else route.Refused refused
 
+-- where a method leads at what a path names
+abbrev pub route_at : List ℕ → Option Resource → Route
+route_at method None = route.Refused refusal.Path
+route_at method (Some (resource.Report command)) = by_method method (codes "GET") (route.Report command) refusal.GetOnly
+route_at method (Some resource.Download) = by_method method (codes "GET") route.Download refusal.GetOnly
+route_at method (Some resource.Add) = by_method method (codes "POST") route.Add refusal.PostOnly
+
 -- where a method and a path lead
 abbrev pub route_of : List ℕ → List ℕ → Route
-route_of method path =
-    if bytes_eq path (codes "/balance") then by_method method (codes "GET") (route.Report commands.Balance) refusal.GetOnly
-    else if bytes_eq path (codes "/journal") then by_method method (codes "GET") (route.Report commands.Print) refusal.GetOnly
-    else if bytes_eq path (codes "/accounts") then by_method method (codes "GET") (route.Report commands.Accounts) refusal.GetOnly
-    else if bytes_eq path (codes "/download") then by_method method (codes "GET") route.Download refusal.GetOnly
-    else if bytes_eq path (codes "/add") then by_method method (codes "POST") route.Add refusal.PostOnly
-    else route.Refused refusal.Path
+route_of method path = route_at method (resource_at path)
 
 -- the parameters were as they have to be, or the form is refused
 abbrev pub formed : {X : Type 0} → Option X → (X → Request) → Result Request Refusal
@@ -49,6 +53,9 @@ if_none (p ∷ ps) call = Err refusal.Form
 abbrev pub word_of : Command → List ℕ
 word_of commands.Balance = codes "balance"
 word_of commands.Print = codes "print"
+word_of commands.Register = codes "register"
+word_of commands.IncomeStatement = codes "incomestatement"
+word_of commands.BalanceSheet = codes "balancesheet"
 word_of commands.Accounts = codes "accounts"
 word_of commands.Check = codes "check"
 
@@ -56,8 +63,8 @@ word_of commands.Check = codes "check"
 abbrev pub report_of : Command → List (List ℕ) → Request
 report_of command words = Report (word_of command ∷ words)
 
--- What a message asks: GET of a report's path has the words after its command in its parameters q, GET /download has no parameter, and POST /add
--- has the entry as the one parameter of its body.
+-- What a message asks: GET of a report's path has the words after its command in its parameters q, in order; GET /download
+-- has no parameter; and POST /add has the entry as the one parameter of its body.
 abbrev pub call_at : Route → List ℕ → List ℕ → Result Request Refusal
 call_at (route.Report command) query body = formed (all_values (codes "q") (parameters_of query)) (report_of command)
 call_at route.Download query body = if_none (parameters_of query) (Ok Download)

@@ -6,6 +6,7 @@ pub mod Fields
 pub mod Forms
 pub mod Heads
 pub mod Lines
+pub mod Makers
 pub mod Paths
 pub mod Receipt
 pub mod Served

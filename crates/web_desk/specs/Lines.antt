@@ -6,6 +6,8 @@ use Rattle.desk.specs.declared.request.Allow.{Allow}
 use Rattle.desk.specs.declared.request.Allow.TheVariants as allow
 use Rattle.desk.specs.declared.reply.Reply.{Reply}
 use Rattle.desk.specs.declared.reply.Reply.TheVariants as reply
+use Rattle.report_cells.specs.declared.fault.ReportFault.{ReportFault}
+use Rattle.report_cells.specs.declared.fault.ReportFault.TheVariants as report
 use Rattle.report_commands.specs.declared.fault.WordsFault.{WordsFault}
 use Rattle.report_commands.specs.declared.fault.WordsFault.TheVariants as words
 
@@ -26,9 +28,23 @@ abbrev pub usage_line : List ℕ → List ℕ
 usage_line [] = ended (codes "error: usage")
 usage_line (b ∷ bs) = ended (codes "error: usage: " ++ b ∷ bs)
 
+-- two words that exclude each other
+abbrev pub conflict_line : List ℕ → List ℕ → List ℕ
+conflict_line a b = ended (codes "error: usage: " ++ a ++ codes " with " ++ b)
+
+-- why the words that read make no report
+abbrev pub report_line : ReportFault → List ℕ
+report_line (report.Range symbol) = ended (codes "error: range: " ++ symbol)
+report_line (report.TooWide columns limit) = two_numbers (codes "error: limit: ") columns (codes " of ") limit
+report_line report.Memory = ended (codes "error: memory")
+
 abbrev pub words_line : WordsFault → List ℕ
 words_line (words.NoCommand word) = usage_line word
 words_line (words.BadOption word) = ended (codes "error: usage: " ++ word)
+words_line (words.Conflict a b) = conflict_line a b
+words_line (words.BadTerm word) = ended (codes "error: term: " ++ word)
+words_line (words.PatternRefused word) = ended (codes "error: pattern: " ++ word)
+words_line (words.Report fault) = report_line fault
 words_line words.Memory = ended (codes "error: memory")
 
 -- the body of a reply

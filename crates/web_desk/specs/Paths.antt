@@ -7,13 +7,16 @@ use Rattle.matchit.specs.Router.{RouteOf}
 use Rattle.matchit.specs.Seek.{first}
 use Rattle.web_desk.specs.declared.resource.Resource.{Resource}
 use Rattle.web_desk.specs.declared.resource.Resource.TheVariants.{Report, Download, Add}
-use Rattle.report_commands.specs.declared.command.Command.TheVariants.{Balance, Print, Accounts}
+use Rattle.report_options.specs.declared.command.Command.TheVariants.{Balance, Print, Register, IncomeStatement, BalanceSheet, Accounts}
 
 -- what a path names, if it leads somewhere
 abbrev pub resource_at : List ℕ → Option Resource
 resource_at path =
     if bytes_eq path (codes "/balance") then Some (Report Balance)
     else if bytes_eq path (codes "/journal") then Some (Report Print)
+    else if bytes_eq path (codes "/register") then Some (Report Register)
+    else if bytes_eq path (codes "/incomestatement") then Some (Report IncomeStatement)
+    else if bytes_eq path (codes "/balancesheet") then Some (Report BalanceSheet)
     else if bytes_eq path (codes "/accounts") then Some (Report Accounts)
     else if bytes_eq path (codes "/download") then Some Download
     else if bytes_eq path (codes "/add") then Some Add

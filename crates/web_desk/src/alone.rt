@@ -5,6 +5,7 @@ use crate::ask::{Ask, Spent};
 use desk::{Desk, Reply, Request};
 use hl_base::{Disk, Steps};
 use hl_time::Day;
+use query::Maker;
 use std::alloc::Global;
 use std::sync::ledger::Ledger;
 
@@ -28,14 +29,15 @@ impl<'a, D: Disk> Ask for Alone<'a, D> {
 
     ghost joined = { λ a b c xs ys p q. leads_on a.desk.now b.desk.now c.desk.now xs ys p q };
 
-    fn ask<L: Ledger>(
+    fn ask<M: Maker, L: Ledger>(
         &mut self,
         alloc: Global,
         request: &Request,
         day: Day,
+        maker: &mut M,
         steps: &mut Steps<L>,
     ) -> Result<(Reply, u64), Spent> {
-        let reply = self.desk.request(alloc, request, day, steps);
+        let reply = self.desk.request(alloc, request, day, maker, steps);
         let (revision, _, _) = self.desk.counts();
         Ok((reply, revision))
     }

@@ -1,7 +1,7 @@
 //! The bytes of replies.
 ghost use Rattle.std.specs.Prelude.{◌≡◌, ◌++◌, IfOk, None, []};
 ghost use Rattle.std.specs.String.{string_bytes};
-ghost use Rattle.web_desk.specs.Answers.{message, phrase_of, status_line, opening_text, head_text, revision_field, closing_field, refusal_status, refusal_line, allow_field, refusal_message, status_of, said_revision, reply_message};
+ghost use Rattle.web_desk.specs.Answers.{message, phrase_of, status_line, opening_text, head_text, revision_field, closing_field, refusal_status, refusal_line, allow_field, refusal_message, report_status, words_status, status_of, said_revision, reply_message};
 
 use crate::lines::line_of;
 use crate::refusal::Refusal;
@@ -9,6 +9,7 @@ use book::print_fault;
 use desk::Reply;
 use hl_base::{Bytes, Memory};
 use http::StatusCode;
+use report_cells::ReportFault;
 use report_commands::WordsFault;
 use std::alloc::Global;
 use std::string::ToString;
@@ -163,6 +164,31 @@ pub fn refusal_reply(alloc: Global, refusal: Refusal, closing: bool) -> Result<B
     )
 }
 
+/// The status of a report that isn't made.
+fn report_code(fault: &ReportFault) -> StatusCode
+    ensures { result ≡ report_status fault.now }
+{
+    match fault {
+        ReportFault::Range { .. } | ReportFault::TooWide { .. } => StatusCode::BAD_REQUEST,
+        ReportFault::Memory => StatusCode::INTERNAL_SERVER_ERROR,
+    }
+}
+
+/// The status of words that make no report.
+fn words_code(fault: &WordsFault) -> StatusCode
+    ensures { result ≡ words_status fault.now }
+{
+    match fault {
+        WordsFault::NoCommand { .. }
+        | WordsFault::BadOption { .. }
+        | WordsFault::Conflict { .. }
+        | WordsFault::BadTerm { .. }
+        | WordsFault::PatternRefused { .. } => StatusCode::BAD_REQUEST,
+        WordsFault::Report(fault) => report_code(fault),
+        WordsFault::Memory => StatusCode::INTERNAL_SERVER_ERROR,
+    }
+}
+
 /// The status of a reply.
 fn reply_code(reply: &Reply) -> StatusCode
     ensures { result ≡ status_of reply.now }
@@ -172,8 +198,8 @@ fn reply_code(reply: &Reply) -> StatusCode
         Reply::BadBase { .. } | Reply::NoSuchItem { .. } | Reply::NotTransactions { .. } => {
             StatusCode::BAD_REQUEST
         }
-        Reply::Words(WordsFault::Memory) | Reply::Memory => StatusCode::INTERNAL_SERVER_ERROR,
-        Reply::Words(_) => StatusCode::BAD_REQUEST,
+        Reply::Words(fault) => words_code(fault),
+        Reply::Memory => StatusCode::INTERNAL_SERVER_ERROR,
         Reply::Forbidden { .. } => StatusCode::FORBIDDEN,
         Reply::Stale { .. } => StatusCode::CONFLICT,
         Reply::Load(_) => StatusCode::UNPROCESSABLE_ENTITY,

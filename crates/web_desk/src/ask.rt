@@ -1,10 +1,13 @@
 //! Who answers the requests of a connection.
 ghost use Rattle.std.specs.Prelude.{◌≡◌, ◌∷◌, ◌++◌, ℕ, List, [], IfOk, OnErr};
 ghost use Rattle.desk.specs.Entries.{Entry};
+ghost use Rattle.hl_time.specs.Calendar.{IsDay};
+ghost use Rattle.web_desk.specs.Makers.{TellsAnswer};
 
 use desk::{Reply, Request};
 use hl_base::Steps;
 use hl_time::Day;
+use query::Maker;
 use std::alloc::Global;
 use std::sync::ledger::Ledger;
 
@@ -20,16 +23,20 @@ pub trait Ask {
     /// What a value shows that answered that it is spent.
     ghost IsSpent: { Self → Type 0 };
 
-    /// Answers a request of a day with a reply and the revision after it.
-    fn ask<L: Ledger>(
+    /// Answers a request of a day, whose patterns the maker builds, with a reply and the revision after it.
+    fn ask<M: Maker, L: Ledger>(
         &mut self,
         alloc: Global,
         request: &Request,
         day: Day,
+        maker: &mut M,
         steps: &mut Steps<L>,
     ) -> Result<(Reply, u64), Spent>
+        requires { IsDay day.0 }
         ensures answered { IfOk result (λ answer. leads self.old
             (record { request = request.now; day = day; reply = answer.0; revision = answer.1 } ∷ []) self.new) }
+        ensures maker { TellsAnswer day.0 (M.refusals maker.old) (M.refusals maker.new)
+            (M.last_refused maker.old) (M.last_refused maker.new) result }
         ensures spent { OnErr result (leads self.old [] self.new) }
         ensures shown { OnErr result (IsSpent self.new) };
 

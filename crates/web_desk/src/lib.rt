@@ -10,7 +10,7 @@ mod fields;
 pub mod form;
 pub mod head;
 mod incoming;
-mod lines;
+pub mod lines;
 pub mod paths;
 mod reading;
 pub mod receive;
@@ -19,8 +19,6 @@ pub mod resource;
 pub mod route;
 pub mod serve;
 pub mod target;
-#[cfg(test)]
-mod tests;
 
 pub use alone::Alone;
 pub use ask::{Ask, Spent};

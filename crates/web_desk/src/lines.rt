@@ -1,12 +1,13 @@
 //! The lines in which replies say what was done, or why not.
 ghost use Rattle.std.specs.Prelude.{◌≡◌, IfOk};
 ghost use Rattle.std.specs.String.{string_bytes};
-ghost use Rattle.web_desk.specs.Lines.{two_numbers, ended, allow_word, usage_line, words_line, body_of, IsLine};
+ghost use Rattle.web_desk.specs.Lines.{two_numbers, ended, allow_word, usage_line, conflict_line, report_line, words_line, body_of, IsLine};
 ghost use Rattle.std.specs.Prelude.{codes, ◌++◌};
 ghost use Rattle.std.specs.Fmt.{decimal};
 
 use desk::{Allow, Reply};
 use hl_base::{Memory, Text};
+use report_cells::ReportFault;
 use report_commands::WordsFault;
 use std::alloc::Global;
 use std::string::ToString;
@@ -60,11 +61,11 @@ fn forbidden_line(alloc: Global, need: Allow, have: Allow) -> Result<String, Mem
     Ok(line)
 }
 
-/// A word of a report that has no place.
-fn unknown_word_line(alloc: Global, word: &Text) -> Result<String, Memory>
-    ensures { IfOk result (λ line. string_bytes line ≡ ended (codes "error: usage: " ++ word.now)) }
+/// A text and a word that ends the line.
+fn word_line(alloc: Global, first: &str, word: &Text) -> Result<String, Memory>
+    ensures { IfOk result (λ line. string_bytes line ≡ ended (first.now ++ word.now)) }
 {
-    let mut line = String::from_str(alloc, "error: usage: ")?;
+    let mut line = String::from_str(alloc, first)?;
     line.push_str(word.as_str())?;
     line.push_str("\n")?;
     Ok(line)
@@ -77,15 +78,49 @@ fn no_command_line(alloc: Global, word: &Text) -> Result<String, Memory>
     if word.as_str().is_empty() {
         return Ok(String::from_str(alloc, "error: usage\n")?);
     }
-    unknown_word_line(alloc, word)
+    word_line(alloc, "error: usage: ", word)
 }
 
+/// Two words that exclude each other.
+fn two_words_line(alloc: Global, a: &Text, b: &Text) -> Result<String, Memory>
+    ensures { IfOk result (λ line. string_bytes line ≡ conflict_line a.now b.now) }
+{
+    let mut line = String::from_str(alloc, "error: usage: ")?;
+    line.push_str(a.as_str())?;
+    line.push_str(" with ")?;
+    line.push_str(b.as_str())?;
+    line.push_str("\n")?;
+    Ok(line)
+}
+
+/// Why the words that read make no report.
+fn report_fault_line(alloc: Global, fault: &ReportFault) -> Result<String, Memory>
+    ensures { IfOk result (λ line. string_bytes line ≡ report_line fault.now) }
+{
+    match fault {
+        ReportFault::Range { symbol } => word_line(alloc, "error: range: ", symbol),
+        ReportFault::TooWide { columns, limit } => two_numbers_line(
+            alloc,
+            "error: limit: ",
+            *columns,
+            " of ",
+            *limit,
+        ),
+        ReportFault::Memory => Ok(String::from_str(alloc, "error: memory\n")?),
+    }
+}
+
+/// Why words make no report.
 fn words_fault_line(alloc: Global, fault: &WordsFault) -> Result<String, Memory>
     ensures { IfOk result (λ line. string_bytes line ≡ words_line fault.now) }
 {
     match fault {
         WordsFault::NoCommand { word } => no_command_line(alloc, word),
-        WordsFault::BadOption { word } => unknown_word_line(alloc, word),
+        WordsFault::BadOption { word } => word_line(alloc, "error: usage: ", word),
+        WordsFault::Conflict { a, b } => two_words_line(alloc, a, b),
+        WordsFault::BadTerm { word } => word_line(alloc, "error: term: ", word),
+        WordsFault::PatternRefused { word } => word_line(alloc, "error: pattern: ", word),
+        WordsFault::Report(fault) => report_fault_line(alloc, fault),
         WordsFault::Memory => Ok(String::from_str(alloc, "error: memory\n")?),
     }
 }

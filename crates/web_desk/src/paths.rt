@@ -8,7 +8,7 @@ ghost use Rattle.web_desk.specs.Paths.{resource_at, literal_scan, literal_route}
 use crate::resource::Resource;
 use hl_base::Memory;
 use matchit::{InsertError, Router};
-use report_commands::Command;
+use report_options::Command;
 use std::alloc::Global;
 use std::marker::Model;
 
@@ -47,6 +47,21 @@ impl Paths {
         let mut router = Router::new(alloc);
         add(&mut router, "/balance", Resource::Report(Command::Balance))?;
         add(&mut router, "/journal", Resource::Report(Command::Print))?;
+        add(
+            &mut router,
+            "/register",
+            Resource::Report(Command::Register),
+        )?;
+        add(
+            &mut router,
+            "/incomestatement",
+            Resource::Report(Command::IncomeStatement),
+        )?;
+        add(
+            &mut router,
+            "/balancesheet",
+            Resource::Report(Command::BalanceSheet),
+        )?;
         add(
             &mut router,
             "/accounts",

@@ -1,6 +1,6 @@
 //! What a path names.
 
-use report_commands::Command;
+use report_options::Command;
 
 /// What a path names.
 #[derive(Clone, Copy, Debug, PartialEq, Eq)]

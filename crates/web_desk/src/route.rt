@@ -8,7 +8,7 @@ use crate::refusal::Refusal;
 use crate::resource::Resource;
 use desk::Request;
 use hl_base::{Bytes, Memory, Text};
-use report_commands::Command;
+use report_options::Command;
 use std::alloc::Global;
 
 /// Where a method and a path lead.
@@ -75,6 +75,9 @@ fn command_word(command: Command) -> &'static str
     match command {
         Command::Balance => "balance",
         Command::Print => "print",
+        Command::Register => "register",
+        Command::IncomeStatement => "incomestatement",
+        Command::BalanceSheet => "balancesheet",
         Command::Accounts => "accounts",
         Command::Check => "check",
     }

@@ -5,7 +5,8 @@ ghost use Rattle.web_desk.specs.Calls.{call_at};
 ghost use Rattle.web_desk.specs.Counts.{Counted, CountedIn};
 ghost use Rattle.desk.specs.Entries.{Entry};
 ghost use Rattle.web_desk.specs.Receipt.{IsBroken, IsStream, ending_of};
-ghost use Rattle.web_desk.specs.Served.{Served, AreOf};
+ghost use Rattle.web_desk.specs.Makers.{AreAsked};
+ghost use Rattle.web_desk.specs.Served.{Served};
 ghost use Rattle.web_desk.specs.Streams.{end_of, most_messages};
 ghost use Rattle.web_desk.specs.Turns.{refusal_at, SentSo, ClosesSo, AnswersSo, IsFailure, StepSo};
 
@@ -21,6 +22,7 @@ use crate::route::call;
 use desk::Request;
 use hl_base::{Bytes, Clock, Link, Steps, send_all};
 use hl_time::Day;
+use query::Maker;
 use std::alloc::Global;
 use std::sync::ledger::Ledger;
 
@@ -96,17 +98,19 @@ fn finish<K: Link>(alloc: Global, link: &mut K, stop: Stop, at: u64) -> ConnEnd
 }
 
 /// Asks, and sends the reply.
-fn answer_request<A: Ask, K: Link, C: Clock, L: Ledger>(
+fn answer_request<A: Ask, K: Link, C: Clock, M: Maker, L: Ledger>(
     alloc: Global,
     ask: &mut A,
     link: &mut K,
     clock: &mut C,
+    maker: &mut M,
     steps: &mut Steps<L>,
     request: &Request,
     closing: bool,
 ) -> Result<(), ConnEnd>
     ensures answered { (entries : List Entry) × A.leads ask.old entries ask.new
-        × IfSome (C.always clock.old) (λ day. AreOf day entries)
+        × AreAsked (C.always clock.old) (M.refusals maker.old) (M.refusals maker.new)
+        (M.last_refused maker.old) (M.last_refused maker.new) entries
         × IfSome (K.sent link.old) (λ before. (text : List ℕ) × (K.sent link.new ≡ Some (before ++ text))
         × AnswersSo closing (Ok request.now) result entries text) }
     ensures spent { result ≡ Err ConnEnd.Spent → A.IsSpent ask.new }
@@ -116,7 +120,7 @@ fn answer_request<A: Ask, K: Link, C: Clock, L: Ledger>(
     ensures counted { CountedIn result (K.read_faults link.old) (K.read_faults link.new) (K.write_faults link.old) (K.write_faults link.new) }
 {
     let day = Day(clock.day());
-    let Ok((reply, revision)) = ask.ask(alloc, request, day, steps) else {
+    let Ok((reply, revision)) = ask.ask(alloc, request, day, maker, steps) else {
         return Err(ConnEnd::Spent);
     };
     let text = desk_reply(alloc, &reply, revision, closing)?;
@@ -141,18 +145,20 @@ fn answer_refusal<K: Link>(
 }
 
 /// Answers a message.
-fn answer<A: Ask, K: Link, C: Clock, L: Ledger>(
+fn answer<A: Ask, K: Link, C: Clock, M: Maker, L: Ledger>(
     alloc: Global,
     ask: &mut A,
     link: &mut K,
     clock: &mut C,
+    maker: &mut M,
     steps: &mut Steps<L>,
     head: &Head,
     body: &[u8],
     closing: bool,
 ) -> Result<(), ConnEnd>
     ensures answered { (entries : List Entry) × A.leads ask.old entries ask.new
-        × IfSome (C.always clock.old) (λ day. AreOf day entries)
+        × AreAsked (C.always clock.old) (M.refusals maker.old) (M.refusals maker.new)
+        (M.last_refused maker.old) (M.last_refused maker.new) entries
         × IfSome (K.sent link.old) (λ before. (text : List ℕ) × (K.sent link.new ≡ Some (before ++ text))
         × AnswersSo closing (call_at head.now.route head.now.query body.now) result entries text) }
     ensures spent { result ≡ Err ConnEnd.Spent → A.IsSpent ask.new }
@@ -162,7 +168,7 @@ fn answer<A: Ask, K: Link, C: Clock, L: Ledger>(
     ensures counted { CountedIn result (K.read_faults link.old) (K.read_faults link.new) (K.write_faults link.old) (K.write_faults link.new) }
 {
     match call(alloc, head.route, head.query.as_slice(), body)? {
-        Ok(request) => answer_request(alloc, ask, link, clock, steps, &request, closing),
+        Ok(request) => answer_request(alloc, ask, link, clock, maker, steps, &request, closing),
         Err(refusal) => answer_refusal(alloc, link, refusal, closing),
     }
 }
@@ -176,12 +182,13 @@ fn closes_after(head: &Head, count: u64) -> bool
 }
 
 /// Reads and answers the next message, and says how many bytes it had.
-fn serve_one<A: Ask, K: Link, C: Clock, L: Ledger>(
+fn serve_one<A: Ask, K: Link, C: Clock, M: Maker, L: Ledger>(
     alloc: Global,
     paths: &Paths,
     ask: &mut A,
     link: &mut K,
     clock: &mut C,
+    maker: &mut M,
     steps: &mut Steps<L>,
     incoming: &mut Incoming,
     count: u64,
@@ -189,7 +196,8 @@ fn serve_one<A: Ask, K: Link, C: Clock, L: Ledger>(
 ) -> Result<u64, ConnEnd>
     requires { count < most_messages }
     ensures served { (entries : List Entry) × A.leads ask.old entries ask.new
-        × IfSome (C.always clock.old) (λ day. AreOf day entries)
+        × AreAsked (C.always clock.old) (M.refusals maker.old) (M.refusals maker.new)
+        (M.last_refused maker.old) (M.last_refused maker.new) entries
         × ((rest : List ℕ) → IsStream (K.coming link.old) incoming.old rest → IfSome (K.sent link.old) (λ before.
         (text : List ℕ) × (rest_now : List ℕ) × (K.sent link.new ≡ Some (before ++ text))
         × OnOk result (IsStream (K.coming link.new) incoming.new rest_now)
@@ -206,7 +214,7 @@ fn serve_one<A: Ask, K: Link, C: Clock, L: Ledger>(
             let closing = closes_after(&head, count);
             let (message, _) = incoming.as_slice().split_at(total);
             let (_, body) = message.split_at(head.length);
-            answer(alloc, ask, link, clock, steps, &head, body, closing)?;
+            answer(alloc, ask, link, clock, maker, steps, &head, body, closing)?;
             if closing {
                 return Err(ConnEnd::Closed);
             }
@@ -216,18 +224,22 @@ fn serve_one<A: Ask, K: Link, C: Clock, L: Ledger>(
     }
 }
 
-/// Answers the messages that come over a link, one after another, up to the end of the connection.
-pub fn serve_link<A: Ask, K: Link, C: Clock, L: Ledger>(
+/// Answers the messages that come over a link, one after another, up to the end of the connection. A message's day is
+/// the clock's, and the patterns of its words are built by the maker.
+pub fn serve_link<A: Ask, K: Link, C: Clock, M: Maker, L: Ledger>(
     alloc: Global,
     ask: &mut A,
     link: &mut K,
     clock: &mut C,
+    maker: &mut M,
     steps: &mut Steps<L>,
 ) -> ConnEnd
-    // The entries that were made are those of the messages that asked, in order, each on the clock's day; and what
-    // was sent are the answers in order, and then the reply that belongs to the end.
+    // The entries that were made are those of the messages that asked, in order, each on the clock's day; the maker's
+    // count rises with those alone whose pattern was refused; and what was sent are the answers in order, and then the
+    // reply that belongs to the end.
     ensures served { (entries : List Entry) × A.leads ask.old entries ask.new
-        × IfSome (C.always clock.old) (λ day. AreOf day entries)
+        × AreAsked (C.always clock.old) (M.refusals maker.old) (M.refusals maker.new)
+        (M.last_refused maker.old) (M.last_refused maker.new) entries
         × IfSome (K.coming link.old) (λ bytes. IfSome (K.sent link.old) (λ before.
         (text : List ℕ) × (K.sent link.new ≡ Some (before ++ text)) × Served bytes result entries text)) }
     ensures counted { Counted result (K.read_faults link.old) (K.read_faults link.new) (K.write_faults link.old) (K.write_faults link.new) }
@@ -247,6 +259,7 @@ pub fn serve_link<A: Ask, K: Link, C: Clock, L: Ledger>(
             ask,
             link,
             clock,
+            maker,
             steps,
             &mut incoming,
             count,

@@ -6,7 +6,8 @@ use Rattle.web_desk.specs.declared.conn_end.ConnEnd.TheVariants as conn
 use Rattle.web_desk.specs.declared.refusal.Refusal.{Refusal}
 use Rattle.web_desk.specs.Calls.{call_at}
 use Rattle.web_desk.specs.Turns.{AnswersSo}
-use Rattle.web_desk.proofs.AnswerLemmas.{Sends, sends_nothing, none_of}
+use Rattle.web_desk.proofs.AnswerLemmas.{Sends, sends_nothing}
+use Rattle.web_desk.proofs.MakerLemmas.{none_asked}
 use Rattle.web_desk.proofs.serve.answer.Goals as goal
 
 pub returns-in_err-request-clause-answered : goal.returns-in_err-request-clause-answered
@@ -19,7 +20,7 @@ returns-in_err-request-clause-answered g c =
     let R : Result (Unit {0}) ConnEnd → Type 0 = λ r. AnswersSo c.args.closing call r [] [] in (
       [],
       g.met.A.Ask.none c.args.ask.now,
-      none_of (g.C.Clock.always c.args.clock.now),
+      none_asked (g.C.Clock.always c.args.clock.now) (g.M.Maker.refusals c.args.maker.now) (g.M.Maker.last_refused c.args.maker.now),
       sends_nothing sent sent (λ text. AnswersSo c.args.closing call c.from_residual.result [] text) refl (subst R (sym e) (inl (refl, refl))),
     )
 
@@ -32,4 +33,4 @@ returns-in-Err-clause-answered g c =
     let body = c.args.body.now in
     let e : Err c.in-Err.refusal ≡ call_at head.route head.query body =
     sym c.in-Err.is ∙ (c.in_ok-request.ensures ∙ ap (λ q. call_at head.route q body) c.as_slice.ensures) in
-    ([], g.met.A.Ask.none c.args.ask.now, none_of (g.C.Clock.always c.args.clock.now), subst P e c.answer_refusal.ensures.answered)
+    ([], g.met.A.Ask.none c.args.ask.now, none_asked (g.C.Clock.always c.args.clock.now) (g.M.Maker.refusals c.args.maker.now) (g.M.Maker.last_refused c.args.maker.now), subst P e c.answer_refusal.ensures.answered)

@@ -1,19 +1,18 @@
-use Rattle.std.proofs.Common.{◌∙◌, ℕ, [], ◌++◌, Option, IfSome, sym, subst, refl, lit<, arith}
-use Rattle.web_desk.specs.Served.{AreOf}
+use Rattle.std.proofs.Common.{◌∙◌, [], ◌++◌, sym, subst, refl, lit<, arith}
 use Rattle.web_desk.specs.Unread.{Unread}
-use Rattle.web_desk.proofs.AnswerLemmas.{none_of}
-use Rattle.web_desk.proofs.ServeLemmas.{Ran, ran_start, ran_more, served_end, days_more, served_nothing}
+use Rattle.web_desk.proofs.MakerLemmas.{asked_more, none_asked}
+use Rattle.web_desk.proofs.ServeLemmas.{Ran, ran_start, ran_more, served_end, served_nothing}
 use Rattle.web_desk.proofs.serve.serve_link.Goals as goal
 
 pub returns-in_default-clause-served : goal.returns-in_default-clause-served
 returns-in_default-clause-served g c =
     let link = g.K.Link in
-    ([], g.met.A.Ask.none c.args.ask.now, none_of (g.C.Clock.always c.args.clock.now), served_nothing (link.coming c.args.link.now) (link.sent c.args.link.now))
+    ([], g.met.A.Ask.none c.args.ask.now, none_asked (g.C.Clock.always c.args.clock.now) (g.M.Maker.refusals c.args.maker.now) (g.M.Maker.last_refused c.args.maker.now), served_nothing (link.coming c.args.link.now) (link.sent c.args.link.now))
 
 pub returns-in_default-new-clause-served : goal.returns-in_default-new-clause-served
 returns-in_default-new-clause-served g c =
     let link = g.K.Link in
-    ([], g.met.A.Ask.none c.args.ask.now, none_of (g.C.Clock.always c.args.clock.now), served_nothing (link.coming c.args.link.now) (link.sent c.args.link.now))
+    ([], g.met.A.Ask.none c.args.ask.now, none_asked (g.C.Clock.always c.args.clock.now) (g.M.Maker.refusals c.args.maker.now) (g.M.Maker.last_refused c.args.maker.now), served_nothing (link.coming c.args.link.now) (link.sent c.args.link.now))
 
 pub messages-init : goal.messages-init
 messages-init g c =
@@ -27,7 +26,7 @@ messages-init g c =
       always = refl;
       reads = refl;
       writes = refl;
-      run = ([], g.met.A.Ask.none c.args.ask.now, none_of (g.C.Clock.always c.args.clock.now), subst P (sym c.in-Ok-new.ensures) (ran_start coming sent));
+      run = ([], g.met.A.Ask.none c.args.ask.now, none_asked (g.C.Clock.always c.args.clock.now) (g.M.Maker.refusals c.args.maker.now) (g.M.Maker.last_refused c.args.maker.now), subst P (sym c.in-Ok-new.ensures) (ran_start coming sent));
     }
 
 pub returns-in-Err-clause-served : goal.returns-in-Err-clause-served
@@ -35,10 +34,11 @@ returns-in-Err-clause-served g c =
     let link = g.K.Link in
     let run = c.messages.invariant.run in
     let one = c.in-Err.ensures.served in
-    let D : Option ℕ → Type 0 = λ day. IfSome day (λ d. AreOf d one.0) in (
+    let maker = g.M.Maker in (
       run.0 ++ one.0,
       g.met.A.Ask.joined c.args.ask.now c.messages.ask c.serve_one.new.ask run.0 one.0 run.1 one.1,
-      days_more (g.C.Clock.always c.args.clock.now) run.0 one.0 run.2 (subst D c.messages.invariant.always one.2),
+      asked_more (g.C.Clock.always c.args.clock.now) (g.C.Clock.always c.messages.clock) (maker.refusals c.args.maker.now) (maker.refusals c.messages.maker) (maker.refusals c.serve_one.new.maker)
+          (maker.last_refused c.args.maker.now) (maker.last_refused c.messages.maker) (maker.last_refused c.serve_one.new.maker) run.0 one.0 c.messages.invariant.always run.2 one.2,
       served_end (link.coming c.args.link.now) (link.sent c.args.link.now) (link.coming c.messages.link) (link.sent c.messages.link)
           (link.coming c.serve_one.new.link) (link.sent c.serve_one.new.link) c.messages.incoming c.serve_one.new.incoming c.messages.at c.messages.count
           c.in-Err.end run.0 one.0 run.3 one.3,
@@ -49,7 +49,7 @@ messages-preserved g c =
     let link = g.K.Link in
     let run = c.messages.invariant.run in
     let one = c.in-Ok-serve_one.ensures.served in
-    let D : Option ℕ → Type 0 = λ day. IfSome day (λ d. AreOf d one.0) in
+    let maker = g.M.Maker in
     record {
       few = c.in-Ok-serve_one.ensures.few;
       bound = omega (arith, c.messages.invariant.bound, c.in-Ok-serve_one.ensures.size);
@@ -59,7 +59,8 @@ messages-preserved g c =
       run = (
         run.0 ++ one.0,
         g.met.A.Ask.joined c.args.ask.now c.messages.ask c.serve_one.new.ask run.0 one.0 run.1 one.1,
-        days_more (g.C.Clock.always c.args.clock.now) run.0 one.0 run.2 (subst D c.messages.invariant.always one.2),
+        asked_more (g.C.Clock.always c.args.clock.now) (g.C.Clock.always c.messages.clock) (maker.refusals c.args.maker.now) (maker.refusals c.messages.maker) (maker.refusals c.serve_one.new.maker)
+            (maker.last_refused c.args.maker.now) (maker.last_refused c.messages.maker) (maker.last_refused c.serve_one.new.maker) run.0 one.0 c.messages.invariant.always run.2 one.2,
         ran_more (link.coming c.args.link.now) (link.sent c.args.link.now) (link.coming c.messages.link) (link.sent c.messages.link)
             (link.coming c.serve_one.new.link) (link.sent c.serve_one.new.link) c.messages.incoming c.serve_one.new.incoming c.messages.at c.messages.count
             c.in-Ok-serve_one.size run.0 one.0 run.3 one.3,

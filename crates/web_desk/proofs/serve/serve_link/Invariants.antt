@@ -1,6 +1,6 @@
-use Rattle.std.proofs.Common.{◌≡◌, List, ◌*◌, ◌<◌, ◌≤◌, IfSome}
+use Rattle.std.proofs.Common.{◌≡◌, List, ◌*◌, ◌<◌, ◌≤◌}
 use Rattle.desk.specs.Entries.{Entry}
-use Rattle.web_desk.specs.Served.{AreOf}
+use Rattle.web_desk.specs.Makers.{AreAsked}
 use Rattle.web_desk.specs.Streams.{most_messages}
 use Rattle.web_desk.proofs.ServeLemmas.{Ran}
 use Rattle.web_desk.proofs.serve.serve_link.Given as goal
@@ -16,6 +16,7 @@ invariant-messages g l =
       reads : link.read_faults l.link ≡ link.read_faults l.fn.link;
       writes : link.write_faults l.link ≡ link.write_faults l.fn.link;
       run : (entries : List Entry) × g.A.Ask.leads l.fn.ask entries l.ask
-          × IfSome (g.C.Clock.always l.fn.clock) (λ day. AreOf day entries)
+          × AreAsked (g.C.Clock.always l.fn.clock) (g.M.Maker.refusals l.fn.maker) (g.M.Maker.refusals l.maker)
+          (g.M.Maker.last_refused l.fn.maker) (g.M.Maker.last_refused l.maker) entries
           × Ran (link.coming l.fn.link) (link.sent l.fn.link) (link.coming l.link) (link.sent l.link) l.incoming l.at l.count entries;
     }

@@ -6,7 +6,8 @@ use Rattle.web_desk.specs.Receipt.{NextSo}
 use Rattle.web_desk.specs.Served.{Finishes, asks}
 use Rattle.web_desk.specs.Streams.{is_last}
 use Rattle.web_desk.specs.Turns.{ClosesSo, AnswersSo, StepSo}
-use Rattle.web_desk.proofs.AnswerLemmas.{Sends, sends_more, sends_nothing, none_of}
+use Rattle.web_desk.proofs.AnswerLemmas.{Sends, sends_more, sends_nothing}
+use Rattle.web_desk.proofs.MakerLemmas.{none_asked}
 use Rattle.web_desk.proofs.ServeLemmas.{stops, finishes_stop, finishes_unread, finishes_failed, finishes_last, step_on, call_is, after_message, one_end, one_on, told_as, last_is, after_use}
 use Rattle.web_desk.proofs.serve.serve_one.Goals as goal
 
@@ -16,7 +17,7 @@ returns-in_err-stop-clause-served g c =
     let p = err_from_is_err_and c.from_residual.result c.from_residual.ensures.1 in (
       [],
       g.met.A.Ask.none c.args.ask.now,
-      none_of (g.C.Clock.always c.args.clock.now),
+      none_asked (g.C.Clock.always c.args.clock.now) (g.M.Maker.refusals c.args.maker.now) (g.M.Maker.last_refused c.args.maker.now),
       λ rest s.
           one_end (link.sent c.args.link.now) (link.sent c.next_message.new.link) (link.coming c.next_message.new.link) c.next_message.new.incoming
           c.args.at c.args.count rest c.from_residual.result c.in_err-stop.field-0.0 [] (p.1 ∙ ap Err p.2)
@@ -34,7 +35,7 @@ returns-in-Stopped-clause-served g c =
     let S : Option (List ℕ) → Type 0 = λ sent. Sends sent (link.sent c.finish.new.link) (λ text. ClosesSo c.args.at c.in-Stopped.stop c.finish.result text) in (
       [],
       g.met.A.Ask.none c.args.ask.now,
-      none_of (g.C.Clock.always c.args.clock.now),
+      none_asked (g.C.Clock.always c.args.clock.now) (g.M.Maker.refusals c.args.maker.now) (g.M.Maker.last_refused c.args.maker.now),
       λ rest s.
           one_end (link.sent c.args.link.now) (link.sent c.finish.new.link) (link.coming c.finish.new.link) u
           c.args.at c.args.count rest (Err c.finish.result) c.finish.result [] refl

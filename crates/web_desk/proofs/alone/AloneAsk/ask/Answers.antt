@@ -7,4 +7,4 @@ returns-clause-answered g c =
     let old = c.args.self.now.desk.now in
     let new = c.request-reply.new.self in
     let P : ℕ → Type 0 = λ r. IsServed old (record { request = c.args.request.now; day = c.args.day; reply = c.request-reply.result; revision = r }) new in
-    (new, subst P (sym c.counts-revision.ensures.0) c.request-reply.ensures, refl)
+    (new, subst P (sym c.counts-revision.ensures.0) c.request-reply.ensures.served, refl)

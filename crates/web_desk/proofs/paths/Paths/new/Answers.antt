@@ -23,5 +23,28 @@ pub add-requires-5-clause-literal : goal.add-requires-5-clause-literal
 unfolding matchit_on_literals
 add-requires-5-clause-literal c = refl
 
+pub add-requires-6-clause-literal : goal.add-requires-6-clause-literal
+unfolding matchit_on_literals
+add-requires-6-clause-literal c = refl
+
+pub add-requires-7-clause-literal : goal.add-requires-7-clause-literal
+unfolding matchit_on_literals
+add-requires-7-clause-literal c = refl
+
+pub add-requires-8-clause-literal : goal.add-requires-8-clause-literal
+unfolding matchit_on_literals
+add-requires-8-clause-literal c = refl
+
 pub invariant_of-result : goal.invariant_of-result
-invariant_of-result c = rw (c.in_ok-add-5.ensures, c.in_ok-add-4.ensures, c.in_ok-add-3.ensures, c.in_ok-add-2.ensures, c.in_ok-add.ensures, c.new-router.ensures) each_found
+invariant_of-result c =
+    rw (
+      c.in_ok-add-8.ensures,
+      c.in_ok-add-7.ensures,
+      c.in_ok-add-6.ensures,
+      c.in_ok-add-5.ensures,
+      c.in_ok-add-4.ensures,
+      c.in_ok-add-3.ensures,
+      c.in_ok-add-2.ensures,
+      c.in_ok-add.ensures,
+      c.new-router.ensures,
+    ) each_found
