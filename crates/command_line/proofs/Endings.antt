@@ -1,94 +1,261 @@
--- How a run may end.
-use Rattle.std.proofs.Common.{◌≡◌, ◌≢◌, ◌⊎◌, inl, inr, ℕ, List, Option, Some, None, Result, Ok, Err, IfSome, refl, ap, sym, ◌∙◌, subst, arith, append-nil}
+-- How a report ends: what was answered, and then written.
+use Rattle.std.proofs.Common.{◌≡◌, ◌≢◌, inl, inr, ℕ, ◌++◌, List, [], ◌∷◌, Option, Some, None, Result, Ok, Err, IfSome, IsSome, length, refl, ap, sym, ◌∙◌, subst, arith, append-nil}
 use Rattle.hl_base.specs.Causes.{Rose}
-use Rattle.command_line.specs.Answers.{Finds, KeepsToUsage, IsRefusal, IsStatus, Says, Wrote, WrotePrefix, status_of, line_of}
-use Rattle.command_line.specs.Errors.{memory_line, read_fault_line}
-use Rattle.command_line.specs.Output.{Outcome}
+use Rattle.query.specs.Building.{IsOneOf}
+use Rattle.report_commands.specs.Reports.{Report}
 use Rattle.command_line.specs.declared.refusal.Refusal.{Refusal}
 use Rattle.command_line.specs.declared.refusal.Refusal.TheVariants as refusal
+use Rattle.command_line.specs.declared.task.ReportTask.{ReportTask}
+use Rattle.command_line.specs.Answers.{Finds, IsErrorLine, IsOfAnswer, IsSourceStatus, IsStatus, IsTextStatus, MakerRefused, MayRefuse, Says, Telling, TellsMaker, Wrote, WrotePrefix, status_of, line_of}
+use Rattle.command_line.specs.Errors.{memory_line, pattern_line, read_fault_line}
+use Rattle.command_line.specs.Output.{Outcome, outcome_of, refused}
+use Rattle.command_line.specs.Runs.{AnswersReport, Reports, ReportsSoundly}
+use Rattle.command_line.specs.Scenes.{OtherStays, Scene, Soundness, SourceIsSound, SourceRose, judged_in, telling}
 
--- what was found in a text isn't a fault of reading
-pub never_unread : (r : Result (List ℕ) Refusal) (told : Outcome) → Finds r told → r ≡ Err refusal.ReadFault → ⊥
-never_unread (Ok output) told f e = cc
-never_unread (Err (refusal.Line status line)) told f e = cc
-never_unread (Err refusal.ReadFault) told f e = f
-never_unread (Err refusal.Memory) told f e = cc
+-- ---- statuses
 
--- a refusal that keeps to the usage has a status of its kind
-pub kind : (r : Refusal) (usage : Option (List ℕ)) → KeepsToUsage (Err r) usage → IsRefusal (status_of r) ⊎ ((r ≡ refusal.ReadFault) ⊎ (r ≡ refusal.Memory))
-kind (refusal.Line status line) None k = inl k.1
-kind (refusal.Line status line) (Some told) k = inl (inr (inl k.0))
-kind refusal.ReadFault None k = inr (inl refl)
-kind refusal.ReadFault (Some told) k = absurd k
-kind refusal.Memory None k = inr (inr refl)
-kind refusal.Memory (Some told) k = inr (inr refl)
+pub text_apart : (status n : ℕ) → IsTextStatus status → status ≡ n → n ≢ 1 → n ≢ 7 → n ≢ 8 → ⊥
+text_apart status n (inl h) e a b c = a (sym e ∙ h)
+text_apart status n (inr (inl h)) e a b c = b (sym e ∙ h)
+text_apart status n (inr (inr h)) e a b c = c (sym e ∙ h)
 
--- a status of a refusal is 1, 2 or 7
-pub apart : (status n : ℕ) → IsRefusal status → status ≡ n → (n ≢ 1) → (n ≢ 2) → (n ≢ 7) → ⊥
-apart status n (inl h) e a b c = a (sym e ∙ h)
-apart status n (inr (inl h)) e a b c = b (sym e ∙ h)
-apart status n (inr (inr h)) e a b c = c (sym e ∙ h)
+text_is : (status told : ℕ) → IsTextStatus told → status ≡ told → IsTextStatus status
+text_is status told k e = subst (λ (n : ℕ). IsTextStatus n) (sym e) k
 
--- the status that a refusal has by its kind
-pub own_status : (r : Refusal) → IsRefusal (status_of r) ⊎ ((r ≡ refusal.ReadFault) ⊎ (r ≡ refusal.Memory)) → IsRefusal (status_of r) ⊎ ((status_of r ≡ 3) ⊎ (status_of r ≡ 6))
-own_status r (inl h) = inl h
-own_status r (inr (inl h)) = inr (inl (ap status_of h))
-own_status r (inr (inr h)) = inr (inr (ap status_of h))
+any_status : (file : Option (List ℕ)) (status : ℕ) → IsSourceStatus file status → IsTextStatus status
+any_status None status (inl e) = inl e
+any_status None status (inr e) = inr (inl e)
+any_status (Some name) status k = k
 
-said_status : (status own : ℕ) → IsRefusal own ⊎ ((own ≡ 3) ⊎ (own ≡ 6)) → status ≡ own → IsStatus status
-said_status status own (inl h) e = inr (inl (let F : ℕ → Type 0 = λ n. IsRefusal n in subst F (sym e) h))
-said_status status own (inr (inl h)) e = inr (inr (inl (e ∙ h)))
-said_status status own (inr (inr h)) e = inr (inr (inr (inr (e ∙ h))))
+-- there is no text under a name
+named_status : (file : Option (List ℕ)) (status : ℕ) → IsSourceStatus file status → status ≡ 8 → IsSome file
+named_status None status (inl h) e = absurd (omega (arith, h, e))
+named_status None status (inr h) e = absurd (omega (arith, h, e))
+named_status (Some name) status k e = refl
 
-pub ends : (r : Refusal) (usage : Option (List ℕ)) (status : ℕ) (old new : Option (List ℕ)) (fo fn : ℕ) → KeepsToUsage (Err r) usage → Says status (status_of r) (line_of r) old new fo fn → IsStatus status
-ends r usage status old new fo fn k (inl h) = said_status status (status_of r) (own_status r (kind r usage k)) h.0
-ends r usage status old new fo fn k (inr h) = inr (inr (inr (inl h.0)))
+pub not_same : (status m n : ℕ) → status ≡ m → status ≡ n → m ≢ n → ⊥
+not_same status m n a b apart = apart (sym a ∙ b)
 
--- which refusal has which status
-not_own : (own n : ℕ) → IsRefusal own ⊎ ((own ≡ 3) ⊎ (own ≡ 6)) → own ≡ n → (n ≢ 1) → (n ≢ 2) → (n ≢ 7) → (n ≢ 3) → (n ≢ 6) → ⊥
-not_own own n (inl h) e a b c d f = apart own n h e a b c
-not_own own n (inr (inl h)) e a b c d f = d (sym e ∙ h)
-not_own own n (inr (inr h)) e a b c d f = f (sym e ∙ h)
+-- a status that isn't one of a text
+pub no_text : (status n : ℕ) → status ≡ n → n ≢ 1 → n ≢ 7 → n ≢ 8 → IsTextStatus status → ⊥
+no_text status n e a b c k = text_apart status n k e a b c
 
-pub never_done : (r : Refusal) (usage : Option (List ℕ)) (status : ℕ) (old new : Option (List ℕ)) (fo fn : ℕ) → KeepsToUsage (Err r) usage → Says status (status_of r) (line_of r) old new fo fn → status ≡ 0 → ⊥
-never_done r usage status old new fo fn k (inl h) e =
-    not_own (status_of r) 0 (own_status r (kind r usage k)) (sym h.0 ∙ e) (λ x. omega arith) (λ x. omega arith) (λ x. omega arith) (λ x. omega arith) (λ x. omega arith)
-never_done r usage status old new fo fn k (inr h) e = omega (arith, h.0)
-
--- status 3 is that of a fault of reading, with its line
-unread_by : (r : Refusal) → IsRefusal (status_of r) ⊎ ((r ≡ refusal.ReadFault) ⊎ (r ≡ refusal.Memory)) → status_of r ≡ 3 → r ≡ refusal.ReadFault
-unread_by r (inl h) e = absurd (apart (status_of r) 3 h e (λ x. omega arith) (λ x. omega arith) (λ x. omega arith))
-unread_by r (inr (inl h)) e = h
-unread_by r (inr (inr h)) e = absurd (let six : status_of r ≡ 6 = ap status_of h in omega arith)
-
-pub unread : (r : Refusal) (usage : Option (List ℕ)) (status : ℕ) (old new : Option (List ℕ)) (fo fn : ℕ) → KeepsToUsage (Err r) usage → Says status (status_of r) (line_of r) old new fo fn → status ≡ 3 → (r ≡ refusal.ReadFault) × Wrote old new read_fault_line
-unread r usage status old new fo fn k (inl h) e =
-    let is : r ≡ refusal.ReadFault = unread_by r (kind r usage k) (sym h.0 ∙ e) in
-    let F : Refusal → Type 0 = λ x. Wrote old new (line_of x) in
-    (is, subst F is h.1)
-unread r usage status old new fo fn k (inr h) e = absurd (omega (arith, h.0))
-
--- status 6 is that of want of memory, with its line
-out_by : (r : Refusal) → IsRefusal (status_of r) ⊎ ((r ≡ refusal.ReadFault) ⊎ (r ≡ refusal.Memory)) → status_of r ≡ 6 → r ≡ refusal.Memory
-out_by r (inl h) e = absurd (apart (status_of r) 6 h e (λ x. omega arith) (λ x. omega arith) (λ x. omega arith))
-out_by r (inr (inl h)) e = absurd (let three : status_of r ≡ 3 = ap status_of h in omega arith)
-out_by r (inr (inr h)) e = h
-
-pub out_of_memory : (r : Refusal) (usage : Option (List ℕ)) (status : ℕ) (old new : Option (List ℕ)) (fo fn : ℕ) → KeepsToUsage (Err r) usage → Says status (status_of r) (line_of r) old new fo fn → status ≡ 6 → Wrote old new memory_line
-out_of_memory r usage status old new fo fn k (inl h) e =
-    let is : r ≡ refusal.Memory = out_by r (kind r usage k) (sym h.0 ∙ e) in
-    let F : Refusal → Type 0 = λ x. Wrote old new (line_of x) in
-    subst F is h.1
-out_of_memory r usage status old new fo fn k (inr h) e = absurd (omega (arith, h.0))
-
--- status 4 is that of a line that couldn't be written
-pub unwritten : (r : Refusal) (usage : Option (List ℕ)) (status : ℕ) (old new : Option (List ℕ)) (fo fn : ℕ) → KeepsToUsage (Err r) usage → Says status (status_of r) (line_of r) old new fo fn → status ≡ 4 → Rose fo fn
-unwritten r usage status old new fo fn k (inl h) e =
-    absurd (not_own (status_of r) 4 (own_status r (kind r usage k)) (sym h.0 ∙ e) (λ x. omega arith) (λ x. omega arith) (λ x. omega arith) (λ x. omega arith) (λ x. omega arith))
-unwritten r usage status old new fo fn k (inr h) e = h.1
+-- ---- what is written
 
 -- nothing written is a front of what was to be written
-pub none_written : (left out : Option (List ℕ)) (bytes : List ℕ → List ℕ) → IfSome left (λ text. WrotePrefix out out (bytes text))
-none_written None out bytes = tt
-none_written (Some text) None bytes = tt
-none_written (Some text) (Some before) bytes = (0, omega arith, ap Some (sym (append-nil before)))
+pub none_written : {A : Type 0} (told : Option A) (old new : Option (List ℕ)) (bytes : A → List ℕ) → new ≡ old → IfSome told (λ t. WrotePrefix old new (bytes t))
+none_written None old new bytes e = tt
+none_written (Some t) None new bytes e = tt
+none_written (Some t) (Some before) new bytes e = (0, omega arith, e ∙ ap Some (sym (append-nil before)))
+
+pub says_from : (status own : ℕ) (line : List ℕ) (old mid new : Option (List ℕ)) (fo fm fn : ℕ) → mid ≡ old → fm ≡ fo
+    → Says status own line mid new fm fn → Says status own line old new fo fn
+says_from status own line old mid new fo fm fn e f h =
+    let F : Option (List ℕ) → Type 0 = λ o. Says status own line o new fm fn in
+    let G : ℕ → Type 0 = λ n. Says status own line old new n fn in
+    subst G f (subst F e h)
+
+-- a status that is told to be 4 is 4
+pub said_four : (status : ℕ) (line : List ℕ) (old new : Option (List ℕ)) (fo fn : ℕ) → Says status 4 line old new fo fn → status ≡ 4
+said_four status line old new fo fn (inl h) = h.0
+said_four status line old new fo fn (inr h) = h.0
+
+-- ---- the maker of patterns
+
+pub may_of : (day : ℕ) (words : List (List ℕ)) (t : Telling) (r : Result (List ℕ) Refusal) → TellsMaker day words t r → MayRefuse day words t
+may_of day words t (Ok output) h = inl h
+may_of day words t (Err (refusal.Line status line)) h = inl h
+may_of day words t (Err (refusal.Pattern word line)) h = inr (word, h)
+may_of day words t (Err refusal.ReadFault) h = inl h
+may_of day words t (Err refusal.Memory) h = h
+
+among : (earlier later : List (List ℕ)) (word : List ℕ) → IsOneOf word (earlier ++ word ∷ later)
+among [] later word = inl refl
+among (x ∷ xs) later word = inr (among xs later word)
+
+one_of : (words earlier later : List (List ℕ)) (word : List ℕ) → words ≡ earlier ++ word ∷ later → IsOneOf word words
+one_of words earlier later word e = subst (λ (ws : List (List ℕ)). IsOneOf word ws) (sym e) (among earlier later word)
+
+refused_word : (day : ℕ) (words : List (List ℕ)) (word : List ℕ) (t : Telling) → MakerRefused day words word t → IsOneOf word words
+refused_word day words word t h = one_of words h.refused.earlier h.refused.later word h.refused.place
+
+-- ---- refusals
+
+-- a scene in which the error output alone has changed
+abbrev pub with_error : Scene → Option (List ℕ) → ℕ → Scene
+with_error s error faults = record s { error = error; error_faults = faults }
+
+other_on : (file : Option (List ℕ)) (old mid : Scene) (error : Option (List ℕ)) (faults : ℕ) → OtherStays file old mid → OtherStays file old (with_error mid error faults)
+other_on None old mid error faults h = h
+other_on (Some name) old mid error faults h = h
+
+rose_on : (file : Option (List ℕ)) (old mid : Scene) (error : Option (List ℕ)) (faults : ℕ) → SourceRose file old mid → SourceRose file old (with_error mid error faults)
+rose_on None old mid error faults h = h
+rose_on (Some name) old mid error faults h = h
+
+-- a refusal as an answer
+abbrev pub failed : Refusal → Result (List ℕ) Refusal
+failed r = Err r
+
+-- what a refusal has of a definition
+told_so : (told : Option (Result Report Outcome)) (status own : ℕ) (line : List ℕ) (old new : Option (List ℕ)) → status ≡ own → Wrote old new line
+    → IfSome told (λ t. outcome_of t ≡ refused own line) → IfSome told (λ t. ((outcome_of t).status ≡ status) × Wrote old new (outcome_of t).error)
+told_so None status own line old new e w h = tt
+told_so (Some t) status own line old new e w h =
+    let F : Outcome → Type 0 = λ o. Wrote old new o.error in
+    (ap (λ (o : Outcome). o.status) h ∙ sym e, subst F (sym h) w)
+
+module _ (report : ReportTask) (day status : ℕ) (old mid : Scene) (error : Option (List ℕ)) (faults : ℕ) where
+  abbrev new : Scene
+  new = with_error mid error faults
+
+  abbrev told : Option (Result Report Outcome)
+  told = judged_in report.file report.asked day old
+
+  -- the line of a refusal is one of those that may be said
+  is_said : (r : Refusal) (t : Result Report Outcome) → AnswersReport report day (Err r) old mid → Finds (Err r) t
+      → IsErrorLine report.asked.words (outcome_of t) (line_of r)
+  is_said (refusal.Line own line) t a found = inl (sym (ap (λ (o : Outcome). o.error) found))
+  is_said (refusal.Pattern word line) t a found = inr (inr (inr (word, refused_word day report.asked.words word (telling old mid) a.maker, a.kind)))
+  is_said refusal.ReadFault t a found = inr (inr (inl refl))
+  is_said refusal.Memory t a found = inr (inl refl)
+
+  front_by : (r : Refusal) (judged : Option (Result Report Outcome)) → AnswersReport report day (Err r) old mid → IfSome judged (Finds (Err r))
+      → WrotePrefix old.error error (line_of r)
+      → IfSome judged (λ t. (line : List ℕ) × IsErrorLine report.asked.words (outcome_of t) line × WrotePrefix old.error error line)
+  front_by r None a found front = tt
+  front_by r (Some t) a found front = (line_of r, is_said r t a found, front)
+
+  unsaid : (r : Refusal) → AnswersReport report day (Err r) old mid → status ≡ 4 → Rose old.error_faults faults → WrotePrefix old.error error (line_of r)
+      → Reports report day status old new
+  unsaid r a four rose front = record {
+    read = λ e. omega (arith, four, e);
+    done = λ e. absurd (not_same status 4 0 four e (λ x. omega arith));
+    refused = λ k. absurd (no_text status 4 four (λ x. omega arith) (λ x. omega arith) (λ x. omega arith) k);
+    read_fault = λ e. absurd (not_same status 4 3 four e (λ x. omega arith));
+    named = λ e. absurd (not_same status 4 8 four e (λ x. omega arith));
+    write_fault = λ e. inr ((rose, a.outputs.output), front_by r told a a.found front);
+    memory = λ e. absurd (not_same status 4 6 four e (λ x. omega arith));
+    maker = may_of day report.asked.words (telling old mid) (Err r) a.maker;
+    other = other_on report.file old mid error faults a.other;
+  }
+
+  said_line : (own : ℕ) (line : List ℕ) → AnswersReport report day (Err (refusal.Line own line)) old mid → status ≡ own → Wrote old.error error line
+      → Reports report day status old new
+  said_line own line a is wrote =
+      let kind : IsTextStatus status = text_is status own (any_status report.file own a.kind) is in
+      record {
+        read = λ e. text_apart status 2 kind e (λ x. omega arith) (λ x. omega arith) (λ x. omega arith);
+        done = λ e. absurd (text_apart status 0 kind e (λ x. omega arith) (λ x. omega arith) (λ x. omega arith));
+        refused = λ k. record { unwritten = a.outputs.output; cause = inl (told_so told status own line old.error error is wrote a.found, a.maker) };
+        named = λ e. named_status report.file own a.kind (sym is ∙ e);
+        read_fault = λ e. absurd (text_apart status 3 kind e (λ x. omega arith) (λ x. omega arith) (λ x. omega arith));
+        write_fault = λ e. absurd (text_apart status 4 kind e (λ x. omega arith) (λ x. omega arith) (λ x. omega arith));
+        memory = λ e. absurd (text_apart status 6 kind e (λ x. omega arith) (λ x. omega arith) (λ x. omega arith));
+        maker = inl a.maker;
+        other = other_on report.file old mid error faults a.other;
+      }
+
+  said_pattern : (word line : List ℕ) → AnswersReport report day (Err (refusal.Pattern word line)) old mid → status ≡ 1 → Wrote old.error error line
+      → Reports report day status old new
+  said_pattern word line a one wrote =
+      let F : List ℕ → Type 0 = λ l. Wrote old.error error l in
+      let is : line ≡ pattern_line word = a.kind in
+      record {
+        read = λ e. omega (arith, one, e);
+        done = λ e. absurd (not_same status 1 0 one e (λ x. omega arith));
+        refused = λ k. record { unwritten = a.outputs.output; cause = inr (word, a.maker, one, subst F is wrote, a.found) };
+        named = λ e. absurd (not_same status 1 8 one e (λ x. omega arith));
+        read_fault = λ e. absurd (not_same status 1 3 one e (λ x. omega arith));
+        write_fault = λ e. absurd (not_same status 1 4 one e (λ x. omega arith));
+        memory = λ e. absurd (not_same status 1 6 one e (λ x. omega arith));
+        maker = inr (word, a.maker);
+        other = other_on report.file old mid error faults a.other;
+      }
+
+  said_unread : AnswersReport report day (Err refusal.ReadFault) old mid → status ≡ 3 → Wrote old.error error read_fault_line → Reports report day status old new
+  said_unread a three wrote = record {
+    read = λ e. omega (arith, three, e);
+    done = λ e. absurd (not_same status 3 0 three e (λ x. omega arith));
+    refused = λ k. absurd (no_text status 3 three (λ x. omega arith) (λ x. omega arith) (λ x. omega arith) k);
+    read_fault = λ e. (rose_on report.file old mid error faults (a.rose refl), a.maker, a.outputs.output, wrote);
+    named = λ e. absurd (not_same status 3 8 three e (λ x. omega arith));
+    write_fault = λ e. absurd (not_same status 3 4 three e (λ x. omega arith));
+    memory = λ e. absurd (not_same status 3 6 three e (λ x. omega arith));
+    maker = inl a.maker;
+    other = other_on report.file old mid error faults a.other;
+  }
+
+  said_memory : AnswersReport report day (Err refusal.Memory) old mid → status ≡ 6 → Wrote old.error error memory_line → Reports report day status old new
+  said_memory a six wrote = record {
+    read = λ e. omega (arith, six, e);
+    done = λ e. absurd (not_same status 6 0 six e (λ x. omega arith));
+    refused = λ k. absurd (no_text status 6 six (λ x. omega arith) (λ x. omega arith) (λ x. omega arith) k);
+    read_fault = λ e. absurd (not_same status 6 3 six e (λ x. omega arith));
+    named = λ e. absurd (not_same status 6 8 six e (λ x. omega arith));
+    write_fault = λ e. absurd (not_same status 6 4 six e (λ x. omega arith));
+    memory = λ e. (a.outputs.output, wrote);
+    maker = a.maker;
+    other = other_on report.file old mid error faults a.other;
+  }
+
+  by_old : (r : Refusal) → AnswersReport report day (Err r) old mid → Says status (status_of r) (line_of r) old.error error old.error_faults faults
+      → Reports report day status old new
+  by_old r a (inr h) = unsaid r a h.0 h.1 h.2
+  by_old (refusal.Line own line) a (inl h) = said_line own line a h.0 h.1
+  by_old (refusal.Pattern word line) a (inl h) = said_pattern word line a h.0 h.1
+  by_old refusal.ReadFault a (inl h) = said_unread a h.0 h.1
+  by_old refusal.Memory a (inl h) = said_memory a h.0 h.1
+
+  -- a report was refused, and its line said
+  pub refused_report : (r : Refusal) → AnswersReport report day (Err r) old mid
+      → Says status (status_of r) (line_of r) mid.error error mid.error_faults faults → Reports report day status old new
+  refused_report r a h =
+      by_old r a (says_from status (status_of r) (line_of r) old.error mid.error error old.error_faults mid.error_faults faults a.outputs.error a.outputs.error_faults h)
+
+  own_status : (r : Refusal) → IsOfAnswer report.file (Err r) → IsStatus (status_of r)
+  own_status (refusal.Line own line) k = inr (inl (inl (any_status report.file own k)))
+  own_status (refusal.Pattern word line) k = inr (inl (inl (inl refl)))
+  own_status refusal.ReadFault k = inr (inr (inl refl))
+  own_status refusal.Memory k = inr (inr (inr (inr refl)))
+
+  pub refused_status : (r : Refusal) → AnswersReport report day (Err r) old mid
+      → Says status (status_of r) (line_of r) mid.error error mid.error_faults faults → IsStatus status
+  refused_status r a (inl h) = subst (λ (n : ℕ). IsStatus n) (sym h.0) (own_status r a.kind)
+  refused_status r a (inr h) = inr (inr (inr (inl h.0)))
+
+  -- which refusal has status 3
+  own_three : (r : Refusal) → IsOfAnswer report.file (Err r) → status_of r ≡ 3 → r ≡ refusal.ReadFault
+  own_three (refusal.Line own line) k e = absurd (text_apart own 3 (any_status report.file own k) e (λ x. omega arith) (λ x. omega arith) (λ x. omega arith))
+  own_three (refusal.Pattern word line) k e = absurd (omega (arith, e))
+  own_three refusal.ReadFault k e = refl
+  own_three refusal.Memory k e = absurd (omega (arith, e))
+
+  three : (r : Refusal) → AnswersReport report day (Err r) old mid
+      → Says status (status_of r) (line_of r) mid.error error mid.error_faults faults → status ≡ 3 → r ≡ refusal.ReadFault
+  three r a (inl h) e = own_three r a.kind (sym h.0 ∙ e)
+  three r a (inr h) e = absurd (not_same status 4 3 h.0 e (λ x. omega arith))
+
+  own_four : (r : Refusal) → IsOfAnswer report.file (Err r) → status_of r ≡ 4 → ⊥
+  own_four (refusal.Line own line) k e = text_apart own 4 (any_status report.file own k) e (λ x. omega arith) (λ x. omega arith) (λ x. omega arith)
+  own_four (refusal.Pattern word line) k e = omega (arith, e)
+  own_four refusal.ReadFault k e = omega (arith, e)
+  own_four refusal.Memory k e = omega (arith, e)
+
+  sound_by : (r : Refusal) (sound : Soundness) (judged : Option (Result Report Outcome)) → AnswersReport report day (Err r) old mid → IfSome judged (Finds (Err r))
+      → (sound.error (length (line_of r)) → status ≡ status_of r)
+      → IfSome judged (λ t. sound.output (length (outcome_of t).output)
+      → ((line : List ℕ) → IsErrorLine report.asked.words (outcome_of t) line → sound.error (length line)) → status ≢ 4)
+  sound_by r sound None a found own = tt
+  sound_by r sound (Some t) a found own = λ room lines e.
+      own_four r a.kind (sym (own (lines (line_of r) (is_said r t a found))) ∙ e)
+
+  -- and nothing is said to have failed that can't fail
+  pub refused_soundly : (r : Refusal) (sound : Soundness) → AnswersReport report day (Err r) old mid
+      → Says status (status_of r) (line_of r) mid.error error mid.error_faults faults
+      → (SourceIsSound report.file sound → failed r ≢ failed refusal.ReadFault)
+      → (sound.error (length (line_of r)) → status ≡ status_of r) → ReportsSoundly report day status old sound
+  refused_soundly r sound a h unread own = record {
+    source = λ s e. unread s (ap failed (three r a h e));
+    outputs = sound_by r sound told a a.found own;
+  }

@@ -36,7 +36,7 @@ module _ {D : Type 0} {g : Ghosts D} (most : ℕ) (unfailing : (disk : D) (room 
       let mid : Desk D g = l.0 in
       let served : IsServed old entry mid = l.1 in
       let after : NeverFails most mid = goes_on old entry mid served n in
-      let F : ℕ → ℕ → Type 0 = λ a b. Step (state_of old) a entry.request entry.reply (state_of mid) b in
+      let F : ℕ → ℕ → Type 0 = λ a b. Step (state_of old) a entry.day.0 entry.request entry.reply (state_of mid) b in
       let step : F (faults_of old) (faults_of mid) = served.serves.gives in
       let step_0 : F 0 (faults_of mid) = subst (λ a. F a (faults_of mid)) (no_faults old n) step in
       let step_00 : F 0 0 = subst (λ b. F 0 b) (no_faults mid after) step_0 in

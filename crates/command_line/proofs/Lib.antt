@@ -1,5 +1,7 @@
 mod Endings
+mod Finishing
 mod Histories
+mod Reporting
 mod Running
 mod TalkEndings
 mod Talking

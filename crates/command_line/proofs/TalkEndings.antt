@@ -36,12 +36,12 @@ own_kind : (end : ConnEnd) → IsStatus (end_status end)
 own_kind conn.Closed = inl refl
 own_kind (conn.LinkFault Read) = inr (inr (inl refl))
 own_kind (conn.LinkFault Write) = inr (inr (inr (inl refl)))
-own_kind (conn.BadHead at) = inr (inl (inl refl))
-own_kind conn.HeadTooLong = inr (inl (inl refl))
-own_kind (conn.BodyTooLong said) = inr (inl (inl refl))
-own_kind (conn.CutOff had said) = inr (inl (inl refl))
-own_kind conn.Spent = inr (inl (inl refl))
-own_kind (conn.HeadCut had) = inr (inl (inl refl))
+own_kind (conn.BadHead at) = inr (inl (inl (inl refl)))
+own_kind conn.HeadTooLong = inr (inl (inl (inl refl)))
+own_kind (conn.BodyTooLong said) = inr (inl (inl (inl refl)))
+own_kind (conn.CutOff had said) = inr (inl (inl (inl refl)))
+own_kind conn.Spent = inr (inl (inl (inl refl)))
+own_kind (conn.HeadCut had) = inr (inl (inl (inl refl)))
 own_kind conn.Memory = inr (inr (inr (inr refl)))
 
 pub kind : (end : ConnEnd) (status : ℕ) (fo fn : ℕ) → (status ≡ end_status end) ⊎ ((status ≡ 4) × Rose fo fn) → IsStatus status

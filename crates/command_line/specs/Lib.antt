@@ -2,6 +2,8 @@ pub mod Answers
 pub mod Commands
 pub mod Errors
 pub mod Help
+pub mod Journals
 pub mod Output
 pub mod Runs
+pub mod Scenes
 pub mod Talks

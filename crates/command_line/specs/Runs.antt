@@ -1,78 +1,109 @@
 -- What a run does.
-use Rattle.std.specs.Prelude.{◌≡◌, ◌≢◌, ◌⊎◌, ℕ, ◌++◌, List, [], Option, Some, IfSome, Result, Ok, Err, length}
+use Rattle.std.specs.Prelude.{◌≡◌, ◌≢◌, ◌⊎◌, ℕ, ◌++◌, List, Option, Some, IfSome, IsOk, IsSome, OnOk, IfErr, Result, Ok, Err, length}
 use Rattle.hl_base.specs.Causes.{Rose}
-use Rattle.hl_base.specs.declared.outside.Source.{Ghosts as Inputs}
-use Rattle.hl_base.specs.declared.outside.Sink.{Ghosts as Outputs}
 use Rattle.report_commands.specs.declared.fault.WordsFault.{WordsFault}
 use Rattle.web_desk.specs.declared.conn_end.ConnEnd.{ConnEnd}
 use Rattle.web_desk.specs.declared.conn_end.ConnEnd.TheVariants as conn
-use Rattle.command_line.specs.declared.streams.Streams.{Streams}
-use Rattle.command_line.specs.declared.words.Asked.{Asked}
-use Rattle.command_line.specs.declared.words.Asked.TheVariants as asked
-use Rattle.command_line.specs.Answers.{IsErrorLine, IsRefusal, Says, Wrote, WrotePrefix}
+use Rattle.command_line.specs.declared.refusal.Refusal.{Refusal}
+use Rattle.command_line.specs.declared.refusal.Refusal.TheVariants as refusal
+use Rattle.command_line.specs.declared.task.ReportTask.{ReportTask}
+use Rattle.command_line.specs.declared.task.Task.{Task}
+use Rattle.command_line.specs.declared.task.Task.TheVariants as task
+use Rattle.command_line.specs.Answers.{Finds, FindsText, IsErrorLine, IsOfAnswer, IsOfSource, IsTextStatus, MakerRefused, MakerStays, MayRefuse, Says, TellsMaker, Wrote, WrotePrefix}
 use Rattle.command_line.specs.Commands.{usage_of}
-use Rattle.command_line.specs.Errors.{memory_line, read_fault_line}
+use Rattle.command_line.specs.Errors.{memory_line, pattern_line, read_fault_line, write_fault_line}
 use Rattle.command_line.specs.Help.{help_text, version_text}
-use Rattle.command_line.specs.Output.{Outcome, report_outcome}
+use Rattle.command_line.specs.Output.{outcome_of}
+use Rattle.command_line.specs.Scenes.{IsReadWhole, OtherStays, OutputsStay, Scene, Soundness, SourceIsSound, SourceRose, judged_in, telling, text_in}
 use Rattle.command_line.specs.Talks.{Talks, TellsEnd}
 
--- what the objects of a run tell: the bytes that are left of the input and those that were written to the output and to
--- the error output, each with its count of faults
-pub record Scene : Type 0 where
-  pub left : Option (List ℕ)
-  pub read_faults : ℕ
-  pub output : Option (List ℕ)
-  pub output_faults : ℕ
-  pub error : Option (List ℕ)
-  pub error_faults : ℕ
+-- A text was read from the input or from a file, or why not.
+pub record ReadsText (file : Option (List ℕ)) (result : Result (List ℕ) Refusal) (old new : Scene) : Type 0 where
+  pub found : IfSome (text_in file old) (FindsText result)
+  pub kind : IfErr result (IsOfSource file)
+  pub whole : OnOk result (IsReadWhole file old new)
+  pub rose : result ≡ Err refusal.ReadFault → SourceRose file old new
+  pub other : OtherStays file old new
+  pub outputs : OutputsStay old new
+  pub maker : MakerStays (telling old new)
 
-abbrev pub scene : {J O E : Type 0} → Inputs J → Outputs O → Outputs E → Streams J O → E → Scene
-scene j o e streams err = record {
-  left = j.left streams.input;
-  read_faults = j.faults streams.input;
-  output = o.written streams.output;
-  output_faults = o.faults streams.output;
-  error = e.written err;
-  error_faults = e.faults err;
-}
+-- What a report answers before anything is written: its text, or why there is none.
+pub record AnswersReport (report : ReportTask) (day : ℕ) (result : Result (List ℕ) Refusal) (old new : Scene) : Type 0 where
+  pub found : IfSome (judged_in report.file report.asked day old) (Finds result)
+  pub kind : IsOfAnswer report.file result
+  pub whole : OnOk result (IsReadWhole report.file old new)
+  pub rose : result ≡ Err refusal.ReadFault → SourceRose report.file old new
+  pub other : OtherStays report.file old new
+  pub outputs : OutputsStay old new
+  pub maker : TellsMaker day report.asked.words (telling old new) result
 
--- The words have no reading: their line is said, with status 2, or want of memory is; the input and the output stay.
+-- The words have no reading: their line is said, with status 2, or want of memory is; all else stays.
 pub record RefusesWords (line : List ℕ) (status : ℕ) (old new : Scene) : Type 0 where
   pub said : Says status 2 line old.error new.error old.error_faults new.error_faults
       ⊎ Says status 6 memory_line old.error new.error old.error_faults new.error_faults
-  pub unread : new.left ≡ old.left
+  pub unread : (new.left ≡ old.left) × (new.shelf_faults ≡ old.shelf_faults)
   pub unwritten : new.output ≡ old.output
+  pub maker : MakerStays (telling old new)
 
--- A report that has this outcome over each text.
-pub record Reports (outcome : List ℕ → Outcome) (status : ℕ) (old new : Scene) : Type 0 where
+-- A report is refused by its text or its query, as the definition says; or a pattern of its query isn't built, and the text
+-- isn't refused.
+pub record RefusedReport (report : ReportTask) (day status : ℕ) (old new : Scene) : Type 0 where
+  pub unwritten : new.output ≡ old.output
+  pub cause : (IfSome (judged_in report.file report.asked day old) (λ told.
+      ((outcome_of told).status ≡ status) × Wrote old.error new.error (outcome_of told).error) × MakerStays (telling old new))
+      ⊎ ((word : List ℕ) × MakerRefused day report.asked.words word (telling old new) × (status ≡ 1)
+      × Wrote old.error new.error (pattern_line word) × IfSome (judged_in report.file report.asked day old) IsOk)
+
+-- A write to the output failed, and that is said.
+abbrev pub OutputFailed : ℕ → Scene → Scene → Type 0
+OutputFailed status old new = Rose old.output_faults new.output_faults
+    × Says status 4 write_fault_line old.error new.error old.error_faults new.error_faults
+
+-- A write to the error output failed, and nothing was written to the output.
+abbrev pub ErrorFailed : Scene → Scene → Type 0
+ErrorFailed old new = Rose old.error_faults new.error_faults × (new.output ≡ old.output)
+
+-- A report over the text of a file or of the input, on a day.
+pub record Reports (report : ReportTask) (day status : ℕ) (old new : Scene) : Type 0 where
   -- the words have a reading
   pub read : status ≢ 2
   -- all was done: the input was read to its end, and the report was written
-  pub done : status ≡ 0 → (new.error ≡ old.error) × IfSome old.left (λ text.
-      ((outcome text).status ≡ 0) × (new.left ≡ Some []) × Wrote old.output new.output (outcome text).output)
+  pub done : status ≡ 0 → (new.error ≡ old.error) × IsReadWhole report.file old new × MakerStays (telling old new)
+      × IfSome (judged_in report.file report.asked day old) (λ told.
+      ((outcome_of told).status ≡ 0) × Wrote old.output new.output (outcome_of told).output)
   -- it was refused, and nothing of a report was written
-  pub refused : IsRefusal status → (new.output ≡ old.output) × IfSome old.left (λ text.
-      ((outcome text).status ≡ status) × Wrote old.error new.error (outcome text).error)
-  -- a read failed
-  pub read_fault : status ≡ 3 → Rose old.read_faults new.read_faults
+  pub refused : IsTextStatus status → RefusedReport report day status old new
+  -- there is no file of the name, so one was named
+  pub named : status ≡ 8 → IsSome report.file
+  -- the source couldn't be read
+  pub read_fault : status ≡ 3 → SourceRose report.file old new × MakerStays (telling old new)
       × (new.output ≡ old.output) × Wrote old.error new.error read_fault_line
-  -- a write failed, after a front of the report
-  pub write_fault : status ≡ 4 → (Rose old.output_faults new.output_faults ⊎ Rose old.error_faults new.error_faults)
-      × IfSome old.left (λ text. WrotePrefix old.output new.output (outcome text).output)
+  -- a write failed: one to the output, after a front of the report; or one to the error output, after a front of a line
+  -- that says why there is no report
+  pub write_fault : status ≡ 4 → (OutputFailed status old new × IfSome (judged_in report.file report.asked day old) (λ told.
+      WrotePrefix old.output new.output (outcome_of told).output))
+      ⊎ (ErrorFailed old new × IfSome (judged_in report.file report.asked day old) (λ told. (line : List ℕ)
+      × IsErrorLine report.asked.words (outcome_of told) line × WrotePrefix old.error new.error line))
   -- memory ran out, and nothing of a report was written
   pub memory : status ≡ 6 → (new.output ≡ old.output) × Wrote old.error new.error memory_line
+  -- no pattern was refused but one of the query's words
+  pub maker : MayRefuse day report.asked.words (telling old new)
+  pub other : OtherStays report.file old new
 
 -- A connection over the input and the output: its messages, answers and end are as they have to be, and its entries are a
 -- history.
 pub record Connects (day status : ℕ) (old new : Scene) : Type 0 where
   -- the words have a reading
   pub read : status ≢ 2
-  pub talked : IfSome old.left (λ bytes. IfSome old.output (λ before.
-      (end : ConnEnd) × (text : List ℕ) × (new.output ≡ Some (before ++ text)) × Talks day bytes end text
-      × ((end ≢ conn.Spent) × TellsEnd end status old.error new.error old.error_faults new.error_faults)))
+  -- its end is told by the status and by a line, whatever the streams tell of their bytes
+  pub talked : (end : ConnEnd) × (end ≢ conn.Spent)
+      × TellsEnd end status old.error new.error old.error_faults new.error_faults
+      × IfSome old.left (λ bytes. IfSome old.output (λ before.
+      (text : List ℕ) × (new.output ≡ Some (before ++ text)) × Talks day (telling old new) bytes end text))
   -- a read or a write failed
   pub read_fault : status ≡ 3 → Rose old.read_faults new.read_faults
   pub write_fault : status ≡ 4 → Rose old.output_faults new.output_faults ⊎ Rose old.error_faults new.error_faults
+  pub unread : new.shelf_faults ≡ old.shelf_faults
 
 -- A text is written that neither the input nor the day changes.
 pub record Prints (text : List ℕ) (status : ℕ) (old new : Scene) : Type 0 where
@@ -80,34 +111,39 @@ pub record Prints (text : List ℕ) (status : ℕ) (old new : Scene) : Type 0 wh
   pub written : status ≡ 0 → Wrote old.output new.output text
   pub quiet : status ≡ 0 → new.error ≡ old.error
   pub prefix : WrotePrefix old.output new.output text
-  pub rose : status ≡ 4 → Rose old.output_faults new.output_faults ⊎ Rose old.error_faults new.error_faults
+  -- a write failed: one to the output, or one to the error output of the line that tells want of memory
+  pub write_fault : status ≡ 4 → OutputFailed status old new
+      ⊎ (ErrorFailed old new × WrotePrefix old.error new.error memory_line)
   pub memory : status ≡ 6 → (new.output ≡ old.output) × Wrote old.error new.error memory_line
-  pub unread : new.left ≡ old.left
+  pub unread : (new.left ≡ old.left) × (new.shelf_faults ≡ old.shelf_faults)
+  pub maker : MakerStays (telling old new)
 
 -- what a run does on a day, by what is asked for
-abbrev pub RunsAsked : ℕ → ℕ → Scene → Scene → Asked → Type 0
-RunsAsked day status old new (asked.Report command) = Reports (report_outcome command day) status old new
-RunsAsked day status old new asked.Talk = Connects day status old new
-RunsAsked day status old new asked.Help = Prints help_text status old new
-RunsAsked day status old new asked.Version = Prints version_text status old new
+abbrev pub RunsTask : ℕ → ℕ → Scene → Scene → Task → Type 0
+RunsTask day status old new (task.Report report) = Reports report day status old new
+RunsTask day status old new task.Talk = Connects day status old new
+RunsTask day status old new task.Help = Prints help_text status old new
+RunsTask day status old new task.Version = Prints version_text status old new
 
 -- What a run does with its words on a day.
-abbrev pub Runs : List (List ℕ) → ℕ → ℕ → Scene → Scene → Result Asked WordsFault → Type 0
-Runs words day status old new (Ok what) = RunsAsked day status old new what
+abbrev pub Runs : List (List ℕ) → ℕ → ℕ → Scene → Scene → Result Task WordsFault → Type 0
+Runs words day status old new (Ok what) = RunsTask day status old new what
 Runs words day status old new (Err fault) = RefusesWords (usage_of words fault) status old new
 
--- Of a report nothing of the outside is said to have failed that can't fail: an input that is sound, and outputs with room.
-pub record ReportsSoundly (outcome : List ℕ → Outcome) (status : ℕ) (old : Scene) (is_sound : Type 0) (output_room error_room : ℕ → Type 0) : Type 0 where
-  pub input : is_sound → status ≢ 3
-  pub outputs : IfSome old.left (λ text. output_room (length (outcome text).output)
-      → ((line : List ℕ) → IsErrorLine line (outcome text) → error_room (length line)) → status ≢ 4)
+-- Of a report nothing of the outside is said to have failed that can't fail: a source that is sound, and outputs with room.
+pub record ReportsSoundly (report : ReportTask) (day status : ℕ) (old : Scene) (sound : Soundness) : Type 0 where
+  pub source : SourceIsSound report.file sound → status ≢ 3
+  pub outputs : IfSome (judged_in report.file report.asked day old) (λ told. sound.output (length (outcome_of told).output)
+      → ((line : List ℕ) → IsErrorLine report.asked.words (outcome_of told) line → sound.error (length line)) → status ≢ 4)
 
-abbrev pub AskedSoundly : ℕ → ℕ → Scene → Type 0 → (ℕ → Type 0) → (ℕ → Type 0) → Asked → Type 0
-AskedSoundly day status old is_sound output_room error_room (asked.Report command) = ReportsSoundly (report_outcome command day) status old is_sound output_room error_room
-AskedSoundly day status old is_sound output_room error_room asked.Talk = Unit {0}
-AskedSoundly day status old is_sound output_room error_room asked.Help = output_room (length help_text) → error_room (length memory_line) → status ≢ 4
-AskedSoundly day status old is_sound output_room error_room asked.Version = output_room (length version_text) → error_room (length memory_line) → status ≢ 4
+abbrev pub TaskSoundly : ℕ → ℕ → Scene → Soundness → Task → Type 0
+TaskSoundly day status old sound (task.Report report) = ReportsSoundly report day status old sound
+TaskSoundly day status old sound task.Talk = Unit {0}
+TaskSoundly day status old sound task.Help = sound.output (length help_text) → sound.error (length memory_line) → status ≢ 4
+TaskSoundly day status old sound task.Version = sound.output (length version_text) → sound.error (length memory_line) → status ≢ 4
 
-abbrev pub RunsSoundly : ℕ → ℕ → Scene → Type 0 → (ℕ → Type 0) → (ℕ → Type 0) → Result Asked WordsFault → Type 0
-RunsSoundly day status old is_sound output_room error_room (Ok what) = AskedSoundly day status old is_sound output_room error_room what
-RunsSoundly day status old is_sound output_room error_room (Err fault) = Unit {0}
+-- and of words without a reading no write, if there is room for their line
+abbrev pub RunsSoundly : List (List ℕ) → ℕ → ℕ → Scene → Soundness → Result Task WordsFault → Type 0
+RunsSoundly words day status old sound (Ok what) = TaskSoundly day status old sound what
+RunsSoundly words day status old sound (Err fault) =
+    sound.error (length (usage_of words fault)) → sound.error (length memory_line) → status ≢ 4

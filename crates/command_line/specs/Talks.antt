@@ -13,11 +13,12 @@ use Rattle.desk.specs.declared.desk.Desk.{Desk}
 use Rattle.desk.specs.declared.fault.DeskFault.{DeskFault}
 use Rattle.desk.specs.declared.fault.DeskFault.TheVariants as desk_fault
 use Rattle.desk.specs.declared.request.Allow.TheVariants.{Add}
+use Rattle.web_desk.specs.Makers.{TellsEntries}
 use Rattle.web_desk.specs.Served.{Served, AreOf}
 use Rattle.web_desk.specs.declared.conn_end.ConnEnd.{ConnEnd}
 use Rattle.web_desk.specs.declared.conn_end.ConnEnd.TheVariants as conn
 use Rattle.web_desk.specs.declared.conn_end.Way.TheVariants.{Read, Write}
-use Rattle.command_line.specs.Answers.{Says}
+use Rattle.command_line.specs.Answers.{Says, Telling}
 use Rattle.command_line.specs.Errors.{connection_line, memory_line, read_fault_line, write_fault_line}
 
 -- the most bytes of each file of its store
@@ -33,13 +34,15 @@ begun = record { text = []; latest = []; revision = 0; allowed = Add; size = who
 abbrev pub IsHistory : State → List Entry → Type 0
 IsHistory s [] = Unit {0}
 IsHistory s (entry ∷ entries) =
-    (next : State) × Step s 0 entry.request entry.reply next 0 × (entry.revision ≡ next.revision) × IsHistory next entries
+    (next : State) × Step s 0 entry.day.0 entry.request entry.reply next 0 × (entry.revision ≡ next.revision) × IsHistory next entries
 
 -- What a connection over these bytes did on a day that ended so and sent this text: its entries are a history from the empty
--- journal, and its messages, answers and end are as they have to be.
-abbrev pub Talks : ℕ → List ℕ → ConnEnd → List ℕ → Type 0
-Talks day bytes end text =
-    (entries : List Entry) × IsHistory begun entries × AreOf day entries × Served bytes end entries text
+-- journal, and its messages, answers and end are as they have to be. The maker's count rises with those entries alone whose
+-- pattern was refused.
+abbrev pub Talks : ℕ → Telling → List ℕ → ConnEnd → List ℕ → Type 0
+Talks day maker bytes end text =
+    (entries : List Entry) × IsHistory begun entries × AreOf day entries
+    × TellsEntries maker.count_before maker.count_now maker.last_before maker.last_now entries × Served bytes end entries text
 
 -- a machine was refused for want of memory
 abbrev pub IsWantOfMemory : DeskFault → Type 0

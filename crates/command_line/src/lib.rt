@@ -3,13 +3,17 @@
 
 mod errors;
 mod help;
+mod outside;
 mod program;
 mod refusal;
 mod report;
+mod source;
 mod streams;
 mod talk;
+mod task;
 mod words;
 
-pub use program::{Status, run};
+pub use outside::Outside;
+pub use program::{Status, run, say};
 pub use streams::Streams;
-pub use words::Asked;
+pub use task::{ReportTask, Task};

@@ -2,7 +2,7 @@
 ghost use Rattle.std.specs.Prelude.{◌≡◌};
 ghost use Rattle.command_line.specs.declared.refusal.Refusal.TheVariants.{Memory};
 
-use hl_base::Bytes;
+use hl_base::{Bytes, Text};
 use std::alloc::AllocError;
 
 /// Why a command gives no output.
@@ -10,7 +10,9 @@ use std::alloc::AllocError;
 pub enum Refusal {
     /// It is refused, with an exit status and the line that says why.
     Line { status: u8, line: Bytes },
-    /// The input couldn't be read.
+    /// A pattern of a word isn't built, with the line that says so.
+    Pattern { word: Text, line: Bytes },
+    /// The input or the file couldn't be read.
     ReadFault,
     /// Memory ran out.
     Memory,

@@ -8,15 +8,17 @@ ghost use Rattle.text_store.specs.declared.fault.StoreFault.TheVariants as store
 ghost use Rattle.web_desk.specs.Counts.{Counted};
 ghost use Rattle.web_desk.specs.declared.conn_end.ConnEnd.{ConnEnd};
 ghost use Rattle.web_desk.specs.declared.conn_end.ConnEnd.TheVariants as conn;
-ghost use Rattle.command_line.specs.Answers.{IsStatus, Says};
+ghost use Rattle.command_line.specs.Answers.{IsStatus};
+ghost use Rattle.command_line.specs.Scenes.{told_by};
 ghost use Rattle.command_line.specs.Talks.{IsWantOfMemory, NeverFails, Talks, TellsEnd, begun, room};
 
-use crate::program::Status;
+use crate::program::{Status, say};
 use crate::streams::Streams;
 use desk::{Allow, Desk, DeskFault};
-use hl_base::{Link, MemClock, MemDisk, Memory, Sink, Source, Steps, write_all};
+use hl_base::{Link, MemClock, MemDisk, Memory, Sink, Source, Steps};
 use hl_time::Day;
 use live_journal::OpenFault;
+use query::Maker;
 use std::alloc::Global;
 use std::sync::ledger::Ledger;
 use text_store::StoreFault;
@@ -76,15 +78,16 @@ fn machine<L: Ledger>(alloc: Global, steps: &mut Steps<L>) -> Result<Desk<MemDis
 }
 
 /// Answers the messages that come over a link, on a day, from a journal that begins empty.
-fn talk_over<K: Link, L: Ledger>(
+fn talk_over<K: Link, M: Maker, L: Ledger>(
     alloc: Global,
     day: Day,
     link: &mut K,
+    maker: &mut M,
     steps: &mut Steps<L>,
 ) -> ConnEnd
     requires { IsDay day.0 }
     ensures talked { IfSome (K.coming link.old) (λ bytes. IfSome (K.sent link.old) (λ before.
-        (text : List ℕ) × (K.sent link.new ≡ Some (before ++ text)) × Talks day.0 bytes result text)) }
+        (text : List ℕ) × (K.sent link.new ≡ Some (before ++ text)) × Talks day.0 (told_by M.Maker maker.old maker.new) bytes result text)) }
     ensures counted { Counted result (K.read_faults link.old) (K.read_faults link.new) (K.write_faults link.old) (K.write_faults link.new) }
     ensures unspent { result ≢ ConnEnd.Spent }
 {
@@ -92,17 +95,14 @@ fn talk_over<K: Link, L: Ledger>(
         return ConnEnd::Memory;
     };
     let mut ask = Alone { desk: &mut desk };
-    serve_link(alloc, &mut ask, link, &mut MemClock::new(day.0), steps)
-}
-
-/// Writes a line that says how a connection ended; where it can't be written the status is 4.
-fn say<E: Sink>(err: &mut E, status: u8, line: &[u8]) -> Status
-    ensures { Says result.0 status line.now (E.written err.old) (E.written err.new) (E.faults err.old) (E.faults err.new) }
-{
-    match write_all(err, line) {
-        Ok(()) => Status(status),
-        Err(_) => Status(4),
-    }
+    serve_link(
+        alloc,
+        &mut ask,
+        link,
+        &mut MemClock::new(day.0),
+        maker,
+        steps,
+    )
 }
 
 /// The exit status of a read or a write that failed, with its line.
@@ -133,22 +133,25 @@ fn tell_end<E: Sink>(err: &mut E, end: ConnEnd) -> Status
 }
 
 /// One connection over the input and the output, on a day, to a journal that begins empty.
-pub fn talk<J: Source, O: Sink, E: Sink, L: Ledger>(
+pub fn talk<J: Source, O: Sink, E: Sink, M: Maker, L: Ledger>(
     alloc: Global,
     day: Day,
     streams: &mut Streams<J, O>,
     err: &mut E,
+    maker: &mut M,
     steps: &mut Steps<L>,
 ) -> Status
     requires { IsDay day.0 }
     ensures statuses { IsStatus result.0 }
     ensures read { result.0 ≢ 2 }
-    ensures talked { IfSome (J.left streams.old.input) (λ bytes. IfSome (O.written streams.old.output) (λ before.
-        (end : ConnEnd) × (text : List ℕ) × (O.written streams.new.output ≡ Some (before ++ text)) × Talks day.0 bytes end text
-        × ((end ≢ conn.Spent) × TellsEnd end result.0 (E.written err.old) (E.written err.new) (E.faults err.old) (E.faults err.new)))) }
+    ensures talked { (end : ConnEnd) × (end ≢ conn.Spent)
+        × TellsEnd end result.0 (E.written err.old) (E.written err.new) (E.faults err.old) (E.faults err.new)
+        × IfSome (J.left streams.old.input) (λ bytes. IfSome (O.written streams.old.output) (λ before.
+        (text : List ℕ) × (O.written streams.new.output ≡ Some (before ++ text))
+        × Talks day.0 (told_by M.Maker maker.old maker.new) bytes end text)) }
     ensures read_fault { result.0 ≡ 3 → Rose (J.faults streams.old.input) (J.faults streams.new.input) }
     ensures write_fault { result.0 ≡ 4 → Rose (O.faults streams.old.output) (O.faults streams.new.output) ⊎ Rose (E.faults err.old) (E.faults err.new) }
 {
-    let end = talk_over(alloc, day, streams, steps);
+    let end = talk_over(alloc, day, streams, maker, steps);
     tell_end(err, end)
 }

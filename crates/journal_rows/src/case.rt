@@ -2,9 +2,12 @@
 ghost use Rattle.std.specs.Prelude.{◌≡◌, ◌<◌};
 
 use crate::cuts::Cuts;
-use command_line::{Streams, run};
-use hl_base::{Bytes, MemSink, MemSource, Memory, Source, Steps, Text};
+use command_line::{Outside, Streams, run};
+use hl_base::{
+    Bytes, List, MemShelf, MemSink, MemSource, Memory, Shelf, Sink, Source, Steps, Text,
+};
 use hl_time::Day;
+use query::{ListMaker, Maker};
 use std::alloc::Global;
 use std::marker::Brand;
 use std::sync::ledger::{Blank, Ledger};
@@ -19,6 +22,15 @@ pub struct Case<'a> {
     pub error_fails: &'a [u64],
 }
 
+/// A file, the numbers of the loads that are to fail, and a pattern that is refused.
+#[derive(Clone, Copy)]
+pub struct Beside<'a> {
+    pub name: &'a str,
+    pub text: &'a [u8],
+    pub load_fails: &'a [u64],
+    pub refused: &'a str,
+}
+
 /// The exit status, and what was written.
 #[derive(Debug, Drop)]
 pub struct Seen {
@@ -30,10 +42,48 @@ pub struct Seen {
 /// The room of each output, in bytes.
 const ROOM: u64 = 65536;
 
+/// An empty file, and no fault.
+fn nothing() -> Beside<'static> {
+    Beside {
+        name: "empty",
+        text: &[],
+        load_fails: &[],
+        refused: "a.refused.pattern",
+    }
+}
+
+/// A shelf with that file.
+fn shelf_of(alloc: Global, beside: &Beside) -> Result<MemShelf, Memory> {
+    let mut files = Vec::new(alloc);
+    let name = Text::copied(alloc, beside.name)?;
+    let text = Bytes::copied(alloc, beside.text)?;
+    files.push((name, text))?;
+    MemShelf::new(
+        alloc,
+        List::from_vec(files),
+        ROOM,
+        None,
+        beside.load_fails,
+        &[],
+    )
+}
+
+/// A maker that refuses that pattern.
+fn maker_of(alloc: Global, beside: &Beside) -> Result<ListMaker, Memory> {
+    let mut refused = Vec::new(alloc);
+    refused.push(Text::copied(alloc, beside.refused)?)?;
+    Ok(ListMaker::new(List::from_vec(refused)))
+}
+
 /// Runs the program on the case.
 pub fn answer(alloc: Global, case: &Case) -> Result<Seen, Memory> {
+    answer_beside(alloc, case, &nothing())
+}
+
+/// Runs the program on the case, beside a file.
+pub fn answer_beside(alloc: Global, case: &Case, beside: &Beside) -> Result<Seen, Memory> {
     let input = MemSource::new(alloc, case.text, case.read_fails)?;
-    counted::<Brand, MemSource>(alloc, Blank::new(3), case, input)
+    counted::<Brand, MemSource>(alloc, Blank::new(3), case, input, beside)
 }
 
 /// Runs the program on the case, where a read gives at most so many bytes.
@@ -41,7 +91,16 @@ pub fn answer_in_cuts(alloc: Global, case: &Case, most: usize) -> Result<Seen, M
     requires { 0 < most }
 {
     let input = Cuts::new(alloc, case.text, case.read_fails, most)?;
-    counted::<Brand, Cuts>(alloc, Blank::new(3), case, input)
+    counted::<Brand, Cuts>(alloc, Blank::new(3), case, input, &nothing())
+}
+
+/// The words of a case.
+fn words_of(alloc: Global, case: &Case) -> Result<Vec<Text>, Memory> {
+    let mut words = Vec::new(alloc);
+    for word in case.words {
+        words.push(Text::copied(alloc, word)?)?;
+    }
+    Ok(words)
 }
 
 fn counted<L: Ledger, J: Source + Drop>(
@@ -49,31 +108,31 @@ fn counted<L: Ledger, J: Source + Drop>(
     blank: Blank,
     case: &Case,
     input: J,
+    beside: &Beside,
 ) -> Result<Seen, Memory>
     requires name { blank.name ≡ L.name }
     requires parts { blank.parts ≡ L.parts }
     requires three { blank.parts ≡ 3 }
 {
-    let mut words = Vec::new(alloc);
-    for word in case.words {
-        words.push(Text::copied(alloc, word)?)?;
-    }
+    let words = words_of(alloc, case)?;
     let output = MemSink::new(alloc, ROOM, case.write_fails)?;
-    let mut streams = Streams { input, output };
-    let mut err = MemSink::new(alloc, ROOM, case.error_fails)?;
+    let mut outside = Outside {
+        streams: Streams { input, output },
+        err: MemSink::new(alloc, ROOM, case.error_fails)?,
+        shelf: shelf_of(alloc, beside)?,
+        maker: maker_of(alloc, beside)?,
+    };
     let mut steps = Steps::<L>::start(blank);
-    let day = Day(739_052);
     let status = run(
         alloc,
         words.as_slice(),
-        day,
-        &mut streams,
-        &mut err,
+        Day(739_052),
+        &mut outside,
         &mut steps,
     );
     Ok(Seen {
         status: status.0,
-        output: Bytes::copied(alloc, streams.output.as_slice())?,
-        error: Bytes::copied(alloc, err.as_slice())?,
+        output: Bytes::copied(alloc, outside.streams.output.as_slice())?,
+        error: Bytes::copied(alloc, outside.err.as_slice())?,
     })
 }

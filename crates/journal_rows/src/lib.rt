@@ -10,6 +10,8 @@ mod disks;
 #[cfg(test)]
 mod ends;
 #[cfg(test)]
+mod file_rows;
+#[cfg(test)]
 mod heads;
 #[cfg(test)]
 mod limits;

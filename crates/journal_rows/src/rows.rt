@@ -256,13 +256,34 @@ fn lists_texts_of_all_scripts(rt: HostRuntime) -> Result<(), Fail> {
 fn refuses_words(rt: HostRuntime) -> Result<(), Fail> {
     for (words, error) in [
         ([].as_slice(), b"error: usage\n".as_slice()),
-        (["bal"].as_slice(), b"error: usage: bal\n".as_slice()),
+        (["ledger"].as_slice(), b"error: usage: ledger\n".as_slice()),
         (
-            ["balance", "-N"].as_slice(),
-            b"error: usage: -N\n".as_slice(),
+            ["balance", "--nope"].as_slice(),
+            b"error: usage: --nope\n".as_slice(),
         ),
         (
-            ["balance", "balance"].as_slice(),
+            ["balance", "-H", "--cumulative"].as_slice(),
+            b"error: usage: -H with --cumulative\n".as_slice(),
+        ),
+        (["check", "-N"].as_slice(), b"error: usage: -N\n".as_slice()),
+        (
+            ["print", "--auto"].as_slice(),
+            b"error: usage: --auto\n".as_slice(),
+        ),
+        (
+            ["balance", "--store=kept"].as_slice(),
+            b"error: usage: --store\n".as_slice(),
+        ),
+        (
+            ["balance", "-f", "home", "--store", "kept"].as_slice(),
+            b"error: usage: -f with --store\n".as_slice(),
+        ),
+        (
+            ["balance", "-f", "absent", "-b", "soon"].as_slice(),
+            b"error: usage: soon\n".as_slice(),
+        ),
+        (
+            ["--help", "balance"].as_slice(),
             b"error: usage: balance\n".as_slice(),
         ),
     ] {

@@ -3,6 +3,7 @@ ghost use Rattle.std.specs.Prelude.{◌≡◌, ◌<◌};
 
 use desk::{Allow, Desk};
 use hl_base::{Bytes, MemClock, MemDisk, MemLink, Memory, Steps};
+use query::RegexMaker;
 use std::alloc::Global;
 use std::marker::Brand;
 use std::sync::ledger::{Blank, Ledger};
@@ -60,6 +61,7 @@ fn serve<L: Ledger>(
         &mut ask,
         &mut link,
         &mut MemClock::new(739_052),
+        &mut RegexMaker::new(),
         steps,
     );
     let sent = Bytes::copied(alloc, link.as_slice())?;

@@ -1,4 +1,4 @@
-//! A run of the program whose words, day, input and outputs are those of the process.
+//! A run of the program whose words, day, input, files and outputs are those of the process.
 #![tactic(auto)]
 
 pub mod run;

@@ -1,17 +1,22 @@
-//! A run whose words, day, input and outputs are those of the process.
+//! A run whose words, day, input, files and outputs are those of the process.
 
+ghost use Rattle.command_line.specs.Answers.{Says};
+ghost use Rattle.command_line.specs.Errors.{memory_line, usage_line};
 ghost use Rattle.hl_time.specs.Calendar.{IsDay};
 ghost use Rattle.std.specs.Prelude.{◌≡◌, ◌≤◌};
 
 use crate::streams::{Input, Output};
-use command_line::{Status, Streams, run};
-use hl_base::{Memory, Sink, Source, Steps, Text};
+use command_line::{Outside, Status, Streams, run, say};
+use hl_base::{Shelf, Sink, Source, Steps, Text};
 use hl_time::Day;
+use query::{Maker, RegexMaker};
+use real_files::FileShelf;
 use std::alloc::Global;
+use std::fs::File;
 use std::io::{Read, Write};
 use std::marker::Brand;
 use std::process::ExitCode;
-use std::rt::{Clock, Env};
+use std::rt::{Clock, Env, Files};
 use std::sync::ledger::{Blank, Ledger};
 use std::time::{SystemTime, UNIX_EPOCH};
 use std::{env, io};
@@ -22,43 +27,82 @@ const FIRST_DAY_OF_THE_CLOCK: u64 = 719_163;
 /// The day number of 9999-12-31.
 const LAST_DAY: u64 = 3_652_059;
 
-/// The exit status of a run that found no memory for its words.
-const OUT_OF_MEMORY: u8 = 6;
+/// Why there are no words.
+#[derive(Clone, Copy)]
+enum NoWords {
+    /// One isn't UTF-8.
+    Encoding,
+    /// Memory ran out.
+    Memory,
+}
 
-/// Runs the program on the process's words and day, over these streams. Where there is no memory for the words nothing
-/// is read or written.
-pub fn run_process<R: Env + Clock + AllocGlobal, I: Read + Drop, O: Write + Drop, E: Write + Drop>(
-    rt: &R,
-    input: I,
-    output: O,
-    errors: E,
-) -> ExitCode {
+impl From<io::Error> for NoWords {
+    fn from(error: io::Error) -> NoWords {
+        match error.kind() {
+            io::ErrorKind::InvalidData => NoWords::Encoding,
+            _ => NoWords::Memory,
+        }
+    }
+}
+
+/// Runs the program on the process's words and day, over these streams and the files of the operating system. Where
+/// there are no words nothing is read, and the line that says why is written.
+pub fn run_process<
+    R: Env + Clock + Files<File = File> + AllocGlobal,
+    I: Read + Drop,
+    O: Write + Drop,
+    E: Write + Drop,
+>(rt: &R, input: I, output: O, errors: E) -> ExitCode {
     match words(rt) {
         Ok(words) => {
-            let Status(status) = counted::<Brand, _, _, _>(
+            let mut outside = Outside {
+                streams: Streams {
+                    input: Input::new(input),
+                    output: Output::new(output),
+                },
+                err: Output::new(errors),
+                shelf: FileShelf::new(rt),
+                maker: RegexMaker::new(),
+            };
+            let Status(status) = counted::<Brand, _, _, _, _, _>(
                 rt.alloc(),
                 Blank::new(3),
                 words.as_slice(),
                 today(rt),
-                &mut Streams {
-                    input: Input::new(input),
-                    output: Output::new(output),
-                },
-                &mut Output::new(errors),
+                &mut outside,
             );
             ExitCode::from(status)
         }
-        Err(_) => ExitCode::from(OUT_OF_MEMORY),
+        Err(why) => {
+            let Status(status) = refuse(&mut Output::new(errors), why);
+            ExitCode::from(status)
+        }
     }
 }
 
 /// The words after the program's name.
-fn words<R: Env + AllocGlobal>(rt: &R) -> io::Result<Vec<Text>> {
+fn words<R: Env + AllocGlobal>(rt: &R) -> Result<Vec<Text>, NoWords> {
     let mut words = Vec::new(rt.alloc());
     for word in env::args(rt)?.skip(1) {
-        words.push(Text::from_string(word))?;
+        if words.push(Text::from_string(word)).is_err() {
+            return Err(NoWords::Memory);
+        }
     }
     Ok(words)
+}
+
+/// Says why there are no words: one that isn't UTF-8 is a faulty command line, with status 2, and for want of memory it
+/// is 6. Where the line can't be written it is 4.
+fn refuse<E: Sink>(err: &mut E, why: NoWords) -> Status
+    ensures encoding { why ≡ NoWords.Encoding → Says result.0 2 usage_line
+        (E.written err.old) (E.written err.new) (E.faults err.old) (E.faults err.new) }
+    ensures memory { why ≡ NoWords.Memory → Says result.0 6 memory_line
+        (E.written err.old) (E.written err.new) (E.faults err.old) (E.faults err.new) }
+{
+    match why {
+        NoWords::Encoding => say(err, 2, b"error: usage\n"),
+        NoWords::Memory => say(err, 6, b"error: memory\n"),
+    }
 }
 
 /// Today's day number by the system clock, and the first day where the clock can't be read.
@@ -78,13 +122,12 @@ fn today(clock: &impl Clock) -> Day
 }
 
 /// A run whose steps are counted in a ledger of its own.
-fn counted<L: Ledger, J: Source, O: Sink, E: Sink>(
+fn counted<L: Ledger, J: Source, O: Sink, E: Sink, S: Shelf, M: Maker>(
     alloc: Global,
     blank: Blank,
     words: &[Text],
     day: Day,
-    streams: &mut Streams<J, O>,
-    err: &mut E,
+    outside: &mut Outside<J, O, E, S, M>,
 ) -> Status
     requires name { blank.name ≡ L.name }
     requires parts { blank.parts ≡ L.parts }
@@ -92,5 +135,5 @@ fn counted<L: Ledger, J: Source, O: Sink, E: Sink>(
     requires day { IsDay day.0 }
 {
     let mut steps = Steps::<L>::start(blank);
-    run(alloc, words, day, streams, err, &mut steps)
+    run(alloc, words, day, outside, &mut steps)
 }

@@ -1,29 +1,56 @@
-use Rattle.std.proofs.Common.{inr, refl, ap, None, Err}
-use Rattle.command_line.proofs.Endings.{ends, never_done, unread, out_of_memory, unwritten, none_written}
-use Rattle.command_line.specs.Output.{report_outcome}
+use Rattle.std.proofs.Common.{ℕ, List, Ok, length, sym, subst}
+use Rattle.command_line.specs.Answers.{line_of}
+use Rattle.command_line.specs.Runs.{AnswersReport}
+use Rattle.command_line.specs.Scenes.{scene, soundness}
+use Rattle.command_line.proofs.Endings.{refused_report, refused_soundly, refused_status}
+use Rattle.command_line.proofs.Finishing.{finished_report, finished_soundly}
 use Rattle.command_line.proofs.program.run_report.Goals as goal
 
 pub returns-in-Err-clause-statuses : goal.returns-in-Err-clause-statuses
-returns-in-Err-clause-statuses g c = ends c.in-Err.refusal None _ _ _ _ _ c.in-Err.ensures.usage c.refuse.ensures.told
+returns-in-Err-clause-statuses g c =
+    let err = g.E.Sink in
+    let old = scene g.J.Source g.O.Sink err g.S.Shelf g.M.Maker c.args.outside.now in
+    let mid = scene g.J.Source g.O.Sink err g.S.Shelf g.M.Maker c.answer.new.outside in
+    refused_status c.args.task.now c.args.day.0 c.refuse.result.0 old mid (err.written c.refuse.new.err) (err.faults c.refuse.new.err)
+    c.in-Err.refusal c.in-Err.ensures.answers c.refuse.ensures.told
 
-pub returns-in-Err-clause-done : goal.returns-in-Err-clause-done
-returns-in-Err-clause-done g c = λ e. absurd (never_done c.in-Err.refusal None _ _ _ _ _ c.in-Err.ensures.usage c.refuse.ensures.told e)
+pub returns-in-Err-clause-runs : goal.returns-in-Err-clause-runs
+returns-in-Err-clause-runs g c =
+    let err = g.E.Sink in
+    let old = scene g.J.Source g.O.Sink err g.S.Shelf g.M.Maker c.args.outside.now in
+    let mid = scene g.J.Source g.O.Sink err g.S.Shelf g.M.Maker c.answer.new.outside in
+    refused_report c.args.task.now c.args.day.0 c.refuse.result.0 old mid (err.written c.refuse.new.err) (err.faults c.refuse.new.err)
+    c.in-Err.refusal c.in-Err.ensures.answers c.refuse.ensures.told
 
-pub returns-in-Err-clause-read_fault : goal.returns-in-Err-clause-read_fault
-returns-in-Err-clause-read_fault g c = λ e.
-    let found = unread c.in-Err.refusal None _ _ _ _ _ c.in-Err.ensures.usage c.refuse.ensures.told e in
-    (c.in-Err.ensures.rose (ap Err found.0), refl, found.1)
+pub returns-in-Err-clause-sound : goal.returns-in-Err-clause-sound
+returns-in-Err-clause-sound g c =
+    let err = g.E.Sink in
+    let old = scene g.J.Source g.O.Sink err g.S.Shelf g.M.Maker c.args.outside.now in
+    let mid = scene g.J.Source g.O.Sink err g.S.Shelf g.M.Maker c.answer.new.outside in
+    refused_soundly c.args.task.now c.args.day.0 c.refuse.result.0 old mid (err.written c.refuse.new.err) (err.faults c.refuse.new.err)
+    c.in-Err.refusal (soundness g.J.Source g.O.Sink err g.S.Shelf c.args.outside.now) c.in-Err.ensures.answers c.refuse.ensures.told
+    c.in-Err.ensures.sound
+    (λ room. c.refuse.ensures.sound (subst (λ e. err.HasRoom e (length (line_of c.in-Err.refusal))) (sym c.in-Err.ensures.err) room))
 
-pub returns-in-Err-clause-write_fault : goal.returns-in-Err-clause-write_fault
-returns-in-Err-clause-write_fault g c = λ e. (
-  inr (unwritten c.in-Err.refusal None _ _ _ _ _ c.in-Err.ensures.usage c.refuse.ensures.told e),
-  none_written _ _ (λ text. (report_outcome c.args.command c.args.day.0 text).output),
-)
+pub returns-in-Ok-clause-runs : goal.returns-in-Ok-clause-runs
+returns-in-Ok-clause-runs g c =
+    let err = g.E.Sink in
+    let old = scene g.J.Source g.O.Sink err g.S.Shelf g.M.Maker c.args.outside.now in
+    let mid = scene g.J.Source g.O.Sink err g.S.Shelf g.M.Maker c.answer.new.outside in
+    let F : List ℕ → Type 0 = λ o. AnswersReport c.args.task.now c.args.day.0 (Ok o) old mid in
+    finished_report c.args.task.now c.args.day.0 c.finish.result.0 c.as_slice.result.now old mid
+    (g.O.Sink.written c.finish.new.out) (g.O.Sink.faults c.finish.new.out) (err.written c.finish.new.err) (err.faults c.finish.new.err)
+    (subst F (sym c.as_slice.ensures) c.in-Ok.ensures.answers)
+    c.finish.ensures.statuses c.finish.ensures.written c.finish.ensures.quiet c.finish.ensures.prefix c.finish.ensures.rose c.finish.ensures.said
 
-pub returns-in-Err-clause-memory : goal.returns-in-Err-clause-memory
-returns-in-Err-clause-memory g c = λ e. (refl, out_of_memory c.in-Err.refusal None _ _ _ _ _ c.in-Err.ensures.usage c.refuse.ensures.told e)
-
-pub returns-in-Err-clause-sound_input : goal.returns-in-Err-clause-sound_input
-returns-in-Err-clause-sound_input g c = λ s e.
-    let found = unread c.in-Err.refusal None _ _ _ _ _ c.in-Err.ensures.usage c.refuse.ensures.told e in
-    c.in-Err.ensures.sound s (ap Err found.0)
+pub returns-in-Ok-clause-sound : goal.returns-in-Ok-clause-sound
+returns-in-Ok-clause-sound g c =
+    let err = g.E.Sink in
+    let old = scene g.J.Source g.O.Sink err g.S.Shelf g.M.Maker c.args.outside.now in
+    let mid = scene g.J.Source g.O.Sink err g.S.Shelf g.M.Maker c.answer.new.outside in
+    let F : List ℕ → Type 0 = λ o. AnswersReport c.args.task.now c.args.day.0 (Ok o) old mid in
+    finished_soundly c.args.task.now c.args.day.0 c.finish.result.0 c.as_slice.result.now old mid
+    (soundness g.J.Source g.O.Sink err g.S.Shelf c.args.outside.now)
+    (subst F (sym c.as_slice.ensures) c.in-Ok.ensures.answers)
+    c.finish.ensures.statuses
+    (λ room. c.finish.ensures.sound (subst (λ o. g.O.Sink.HasRoom o (length c.as_slice.result.now)) (sym c.in-Ok.ensures.output) room))

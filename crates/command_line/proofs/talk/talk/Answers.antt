@@ -1,9 +1,4 @@
-use Rattle.std.proofs.Common.{◌≢◌}
-use Rattle.web_desk.specs.declared.conn_end.ConnEnd.{ConnEnd}
-use Rattle.web_desk.specs.declared.conn_end.ConnEnd.TheVariants as conn
-use Rattle.command_line.specs.Talks.{TellsEnd}
 use Rattle.command_line.proofs.TalkEndings.{own, kind, never_usage, unread, unwritten, read_counted, write_counted}
-use Rattle.command_line.proofs.Talking.{with_end}
 use Rattle.command_line.proofs.talk.talk.Goals as goal
 
 pub returns-clause-statuses : goal.returns-clause-statuses
@@ -14,9 +9,7 @@ returns-clause-read g c = never_usage _ _ _ _ (own _ _ _ _ _ _ c.tell_end.ensure
 
 pub returns-clause-talked : goal.returns-clause-talked
 returns-clause-talked g c =
-    let err = g.E.Sink in
-    let Told : ConnEnd → Type 0 = λ e. (e ≢ conn.Spent) × TellsEnd e c.tell_end.result.0 (err.written c.args.err.now) (err.written c.tell_end.new.err) (err.faults c.args.err.now) (err.faults c.tell_end.new.err) in
-    with_end _ _ _ c.args.day.0 c.talk_over-end.result Told (c.talk_over-end.ensures.unspent, c.tell_end.ensures) c.talk_over-end.ensures.talked
+    (c.talk_over-end.result, c.talk_over-end.ensures.unspent, c.tell_end.ensures, c.talk_over-end.ensures.talked)
 
 pub returns-clause-read_fault : goal.returns-clause-read_fault
 returns-clause-read_fault g c = λ e.

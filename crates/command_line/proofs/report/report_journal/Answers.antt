@@ -1,0 +1,27 @@
+use Rattle.command_line.specs.Scenes.{told_by}
+use Rattle.command_line.proofs.Reporting.{report_found, report_maker, report_told}
+use Rattle.command_line.proofs.report.report_journal.Goals as goal
+
+pub returns-in-Ok-clause-found : goal.returns-in-Ok-clause-found
+returns-in-Ok-clause-found g c = λ items is.
+    let journal = c.args.journal.now in
+    report_told c.args.asked.now c.args.day.0 items journal.book c.in-Ok.text
+    (c.in-Ok.ensures items (record { letters = is.letters; styles = is.styles; quotes = is.quotes })).0
+
+pub returns-in-Ok-clause-maker : goal.returns-in-Ok-clause-maker
+returns-in-Ok-clause-maker g c = λ items is.
+    (c.in-Ok.ensures items (record { letters = is.letters; styles = is.styles; quotes = is.quotes })).1
+
+pub returns-in-Err-clause-found : goal.returns-in-Err-clause-found
+returns-in-Err-clause-found g c = λ items is.
+    let journal = c.args.journal.now in
+    report_found c.args.asked.now c.args.day.0 items journal.book (told_by g.M.Maker c.args.maker.now c.report_of.new.maker)
+    c.in-Err.fault c.refuse_report.result
+    (c.in-Err.ensures items (record { letters = is.letters; styles = is.styles; quotes = is.quotes })) c.refuse_report.ensures.cause
+
+pub returns-in-Err-clause-maker : goal.returns-in-Err-clause-maker
+returns-in-Err-clause-maker g c = λ items is.
+    let journal = c.args.journal.now in
+    report_maker c.args.asked.now c.args.day.0 items journal.book (told_by g.M.Maker c.args.maker.now c.report_of.new.maker)
+    c.in-Err.fault c.refuse_report.result
+    (c.in-Err.ensures items (record { letters = is.letters; styles = is.styles; quotes = is.quotes })) c.refuse_report.ensures.cause

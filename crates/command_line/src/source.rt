@@ -1,0 +1,102 @@
+//! The text that a report is over.
+ghost use Rattle.std.specs.Prelude.{◌≡◌, ◌≢◌, ◌≤◌, ℕ, List, Some, [], Err, IfOk, IfErr, IfSome, OnOk, IsTrue, None, ◌<◌, length};
+ghost use Rattle.hl_base.specs.Causes.{Rose};
+ghost use Rattle.command_line.specs.Answers.{FindsText, IsOfFile, IsOfText};
+ghost use Rattle.command_line.specs.Output.{text_under, within_bytes};
+ghost use Rattle.command_line.specs.Runs.{ReadsText};
+ghost use Rattle.command_line.specs.Scenes.{SourceIsSound, scene, soundness};
+
+use crate::errors::{absent, past_limit};
+use crate::outside::Outside;
+use crate::refusal::Refusal;
+use hl_base::{Bytes, ReadAllFault, Shelf, ShelfFault, Sink, Source, Text, read_all};
+use query::Maker;
+use std::alloc::Global;
+
+/// The most bytes that a text may have.
+const MOST_BYTES: u64 = 16_777_216;
+
+/// The refusal of a text with more bytes than it may have.
+fn too_long(alloc: Global) -> Refusal
+    ensures refused { (text : List ℕ) → 16777216 < length text → FindsText (Err result) (within_bytes text) }
+    ensures kind { IsOfText result }
+    ensures file { IsOfFile result }
+    ensures read { result ≢ Refusal.ReadFault }
+{
+    match past_limit(alloc, MOST_BYTES + 1, MOST_BYTES) {
+        Ok(line) => Refusal::Line { status: 7, line },
+        Err(_) => Refusal::Memory,
+    }
+}
+
+/// The refusal of a name under which there is no file.
+fn no_file(alloc: Global, name: &Text) -> Refusal
+    ensures refused { FindsText (Err result) (text_under name.now None) }
+    ensures kind { IsOfFile result }
+    ensures read { result ≢ Refusal.ReadFault }
+{
+    match absent(alloc, name) {
+        Ok(line) => Refusal::Line { status: 8, line },
+        Err(_) => Refusal::Memory,
+    }
+}
+
+/// The text of the input, which is read to its end.
+fn read_input<J: Source>(alloc: Global, input: &mut J) -> Result<Bytes, Refusal>
+    ensures found { IfSome (J.left input.old) (λ text. FindsText result (within_bytes text)) }
+    ensures kind { IfErr result IsOfText }
+    ensures size { IfOk result (λ text. length text ≤ 16777216) }
+    ensures whole { OnOk result (IfSome (J.left input.old) (λ _. J.left input.new ≡ Some [])) }
+    ensures rose { result ≡ Err Refusal.ReadFault → Rose (J.faults input.old) (J.faults input.new) }
+    ensures sound { J.IsSound input.old → result ≢ Err Refusal.ReadFault }
+{
+    match read_all(alloc, input, MOST_BYTES) {
+        Ok(text) => Ok(text),
+        Err(ReadAllFault::TooLong { .. }) => Err(too_long(alloc)),
+        Err(ReadAllFault::ReadFault) => Err(Refusal::ReadFault),
+        Err(ReadAllFault::Memory) => Err(Refusal::Memory),
+    }
+}
+
+/// The text of a file. All names keep what stands under them.
+fn load_file<S: Shelf>(alloc: Global, name: &Text, shelf: &mut S) -> Result<Bytes, Refusal>
+    ensures found { IsTrue ((S.tells shelf.old).files)
+        → FindsText result (text_under name.now (S.file shelf.old name.now)) }
+    ensures kind { IfErr result IsOfFile }
+    ensures size { IfOk result (λ text. length text ≤ 16777216) }
+    ensures rose { result ≡ Err Refusal.ReadFault → Rose (S.faults shelf.old) (S.faults shelf.new) }
+    ensures named { result ≡ Err Refusal.ReadFault → S.last_failed shelf.new ≡ Some name.now }
+    ensures files { (other : List ℕ) → S.file shelf.new other ≡ S.file shelf.old other }
+    ensures sound { S.IsSound shelf.old → result ≢ Err Refusal.ReadFault }
+{
+    match shelf.load(alloc, name, MOST_BYTES) {
+        Ok(text) => Ok(text),
+        Err(ShelfFault::TooLong { .. }) => Err(too_long(alloc)),
+        Err(ShelfFault::Absent) => Err(no_file(alloc, name)),
+        Err(ShelfFault::Failed) => Err(Refusal::ReadFault),
+        Err(ShelfFault::Memory) => Err(Refusal::Memory),
+    }
+}
+
+/// The text of the file that is named, or else of the input.
+pub fn read_text<J: Source, O: Sink, E: Sink, S: Shelf, M: Maker>(
+    alloc: Global,
+    file: &Option<Text>,
+    outside: &mut Outside<J, O, E, S, M>,
+) -> Result<Bytes, Refusal>
+    ensures reads { ReadsText file.now result
+        (scene J.Source O.Sink E.Sink S.Shelf M.Maker outside.old)
+        (scene J.Source O.Sink E.Sink S.Shelf M.Maker outside.new) }
+    ensures size { IfOk result (λ text. length text ≤ 16777216) }
+    ensures sound { SourceIsSound file.now (soundness J.Source O.Sink E.Sink S.Shelf outside.old)
+        → result ≢ Err Refusal.ReadFault }
+    ensures files { (name : List ℕ) → S.file outside.new.shelf name ≡ S.file outside.old.shelf name }
+    ensures output { outside.new.streams.output ≡ outside.old.streams.output }
+    ensures err { outside.new.err ≡ outside.old.err }
+    ensures maker { outside.new.maker ≡ outside.old.maker }
+{
+    match file {
+        Some(name) => load_file(alloc, name, &mut outside.shelf),
+        None => read_input(alloc, &mut outside.streams.input),
+    }
+}
