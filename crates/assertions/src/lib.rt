@@ -4,8 +4,6 @@
 pub mod balances;
 pub mod claims;
 pub mod kept;
-#[cfg(test)]
-mod tests;
 pub mod totals;
 
 pub use balances::{Balances, add_posting, asked, asked_by};

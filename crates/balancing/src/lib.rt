@@ -7,8 +7,6 @@ pub mod fault;
 pub mod groups;
 mod judge;
 mod laws;
-#[cfg(test)]
-mod tests;
 mod walk;
 
 pub use assign::with_amount;

@@ -8,4 +8,8 @@ mod imports;
 #[cfg(test)]
 mod overseas;
 #[cfg(test)]
+mod records;
+#[cfg(test)]
+mod rules;
+#[cfg(test)]
 mod shown;

@@ -18,8 +18,6 @@ pub mod rules;
 pub mod style;
 pub mod sums;
 mod table;
-#[cfg(test)]
-mod tests;
 pub mod transaction;
 
 pub use account::compare_accounts;

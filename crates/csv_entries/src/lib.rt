@@ -12,8 +12,6 @@ mod ordering;
 mod records;
 mod skipping;
 mod spaces;
-#[cfg(test)]
-mod tests;
 mod values;
 
 pub use conversion::convert;

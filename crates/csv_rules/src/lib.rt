@@ -11,8 +11,6 @@ pub mod importing;
 mod kinds;
 mod lines;
 mod reading;
-#[cfg(test)]
-mod tests;
 pub mod words;
 
 pub use faults::RulesFault;

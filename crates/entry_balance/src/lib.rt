@@ -8,8 +8,6 @@ mod plan;
 pub mod rules;
 mod sums;
 pub mod tally;
-#[cfg(test)]
-mod tests;
 pub mod value;
 
 pub use entry::{Settled, balance_txn, settle};

@@ -5,7 +5,5 @@ mod check;
 mod failure;
 mod held;
 mod make;
-#[cfg(test)]
-mod tests;
 
 pub use check::check_one;

@@ -15,8 +15,6 @@ pub mod quantity;
 pub mod scan;
 pub mod symbol;
 pub mod tag;
-#[cfg(test)]
-mod tests;
 
 pub use account::read_account;
 pub use amount::read_amount;

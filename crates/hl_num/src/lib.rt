@@ -6,8 +6,6 @@ pub mod decimal;
 pub mod printing;
 pub mod reading;
 mod rounding;
-#[cfg(test)]
-mod tests;
 
 pub use arithmetic::{DivRange, div_round};
 pub use decimal::{Dec, Range};

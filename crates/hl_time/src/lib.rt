@@ -8,8 +8,6 @@ pub mod occurrences;
 pub mod periods;
 pub mod shown;
 pub mod spans;
-#[cfg(test)]
-mod tests;
 pub mod units;
 pub mod words;
 pub mod written_date;

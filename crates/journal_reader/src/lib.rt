@@ -3,8 +3,6 @@
 
 mod item;
 mod journal;
-#[cfg(test)]
-mod tests;
 
 pub use entry_reader::{Context, ReadFault, read_account, read_amount};
 pub use item::read_item;

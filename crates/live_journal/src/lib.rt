@@ -8,8 +8,6 @@ mod judge;
 mod live;
 mod loading;
 mod plan;
-#[cfg(test)]
-mod tests;
 
 pub use edit::Edit;
 pub use fault::{EditFault, OpenFault};

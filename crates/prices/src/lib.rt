@@ -10,8 +10,6 @@ mod search;
 mod steps;
 mod symbol_key;
 pub mod table;
-#[cfg(test)]
-mod tests;
 pub mod valuing;
 
 pub use prices::Prices;

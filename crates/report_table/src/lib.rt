@@ -5,8 +5,6 @@ mod layout;
 mod lines;
 mod printed;
 mod table;
-#[cfg(test)]
-mod tests;
 mod widths;
 
 pub use layout::table_text;

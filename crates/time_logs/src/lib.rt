@@ -11,8 +11,6 @@ mod moments;
 mod quantities;
 mod said;
 mod sessions;
-#[cfg(test)]
-mod tests;
 mod timeclock;
 mod timedot;
 

@@ -1,0 +1,3 @@
+//! Tests: lines worked out by hand.
+mod lines;
+mod selection;
