@@ -126,7 +126,8 @@ fn add_given<'a>(
     cells: &'a [Mixed],
 ) -> Result<(), Memory>
     requires { AreOrdered groups.old.entries }
-    ensures added { OnOk result (groups.new.entries ≡ group_with groups.old.entries (account.now, cells.now)) }
+    ensures added { OnOk result (groups.new.entries
+        ≡ group_with groups.old.entries (account.now, cells.now)) }
     ensures ordered { OnOk result (AreOrdered groups.new.entries) }
 {
     let key = AccountKey::copied(alloc, account)?;
@@ -184,7 +185,8 @@ fn add_row<'a>(
     row: &'a CellRow,
 ) -> Result<(), Memory>
     requires { AreOrdered groups.old.entries }
-    ensures added { OnOk result (groups.new.entries ≡ fold group_with groups.old.entries (kept_given row.now)) }
+    ensures added { OnOk result (groups.new.entries
+        ≡ fold group_with groups.old.entries (kept_given row.now)) }
     ensures ordered { OnOk result (AreOrdered groups.new.entries) }
 {
     let account = row.account.as_str();
