@@ -6,10 +6,10 @@ use Rattle.book.specs.declared.transaction.Posting.{Posting}
 use Rattle.book.specs.declared.transaction.Tag.{Tag}
 use Rattle.book.specs.declared.transaction.Txn.{Txn}
 use Rattle.query.specs.Building.{AreBuilt}
-use Rattle.query.specs.Matching.{Own, has_symbol, value_matches, tag_matches, has_tag, kind_holds, under, term_holds, holds_of_some, kind_holds_of, nots_hold_of, term_holds_of, matches, dateless, means_posting, means_undated, means_txn, said}
-use Rattle.query.specs.Meaning.{of_posting, of_undated, of_txn}
+use Rattle.query.specs.Matching.{Own, has_symbol, value_matches, tag_matches, has_tag, kind_holds, under, term_holds, holds_of_some, kind_holds_of, nots_hold_of, term_holds_of, matches, boundless, dateless, means_boundless, means_posting, means_undated, means_txn, said}
+use Rattle.query.specs.Meaning.{of_boundless, of_posting, of_undated, of_txn}
 use Rattle.query.specs.OwnLetters.{own_in}
-use Rattle.query.specs.Words.{terms_mean, terms_mean_undated, terms_mean_txn}
+use Rattle.query.specs.Words.{terms_mean, terms_mean_boundless, terms_mean_undated, terms_mean_txn}
 use Rattle.query.specs.declared.account_types.Types.{Types}
 use Rattle.query.specs.declared.queries.Query.{Query}
 use Rattle.query.proofs.Alike.{known_alike}
@@ -67,6 +67,9 @@ module _ (a b : Known) (alike : (source text : List ℕ) → is_found (re_of a s
   pub same_undated : (terms : List Term) (posting : Posting) (txn : Txn) → means_undated a own terms posting txn ≡ means_undated b own terms posting txn
   same_undated terms posting txn = same_posting (dateless terms) posting txn
 
+  pub same_boundless : (terms : List Term) (posting : Posting) (txn : Txn) → means_boundless a own terms posting txn ≡ means_boundless b own terms posting txn
+  same_boundless terms posting txn = same_posting (boundless terms) posting txn
+
   same_of_some : (txn : Txn) (nots : ℕ) (kind : Kind) → holds_of_some a own txn nots kind ≡ holds_of_some b own txn nots kind
   same_of_some txn nots kind = λ i. list_any (λ posting. under nots (same_kind posting txn kind i)) txn.postings
 
@@ -99,6 +102,9 @@ module _ (query : Query) (types : Types) (built : AreBuilt (sources_of query.ter
 
   pub undated_by_terms : (posting : Posting) (txn : Txn) → of_undated query types posting txn ≡ terms_mean_undated query.terms.items (own_in types) posting txn
   undated_by_terms posting txn = same_undated (known_of query.regexes.items) (known_by (sources_of query.terms.items)) both (own_in types) query.terms.items posting txn
+
+  pub boundless_by_terms : (posting : Posting) (txn : Txn) → of_boundless query types posting txn ≡ terms_mean_boundless query.terms.items (own_in types) posting txn
+  boundless_by_terms posting txn = same_boundless (known_of query.regexes.items) (known_by (sources_of query.terms.items)) both (own_in types) query.terms.items posting txn
 
   pub txn_by_terms : (txn : Txn) → of_txn query types txn ≡ terms_mean_txn query.terms.items (own_in types) txn
   txn_by_terms txn = same_txn (known_of query.regexes.items) (known_by (sources_of query.terms.items)) both (own_in types) query.terms.items txn

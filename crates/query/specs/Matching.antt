@@ -226,6 +226,15 @@ is_date _ = false
 abbrev pub dateless : List Term → List Term
 dateless terms = filter (λ t. not (is_date t.kind)) terms
 
+-- a term outside `not:` that bounds the days of a report
+abbrev pub bounds_days : ℕ → Kind → Bool
+bounds_days zero kind = is_date kind
+bounds_days _ _ = false
+
+-- the terms without those that bound the days: of those of days the ones under `not:` stay
+abbrev pub boundless : List Term → List Term
+boundless terms = filter (λ t. not (bounds_days t.nots t.kind)) terms
+
 -- a query means a posting
 abbrev pub means_posting : Known → Own → List Term → Posting → Txn → Bool
 means_posting known own terms posting txn = matches (term_holds known own posting txn) terms
@@ -237,6 +246,10 @@ means_txn known own terms txn = matches (term_holds_of known own txn) terms
 -- a query without its terms of days means a posting
 abbrev pub means_undated : Known → Own → List Term → Posting → Txn → Bool
 means_undated known own terms posting txn = means_posting known own (dateless terms) posting txn
+
+-- a query without its bounds on days means a posting
+abbrev pub means_boundless : Known → Own → List Term → Posting → Txn → Bool
+means_boundless known own terms posting txn = means_posting known own (boundless terms) posting txn
 
 -- the lesser of two depths, where there are two
 abbrev pub least : Option ℕ → Option ℕ → Option ℕ

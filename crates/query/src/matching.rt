@@ -34,6 +34,8 @@ pub(crate) enum Asked<'a> {
     Posting(&'a Posting, &'a Txn),
     /// A posting, whatever its day.
     Undated(&'a Posting, &'a Txn),
+    /// A posting, whatever bounds there are on days.
+    Boundless(&'a Posting, &'a Txn),
     Txn(&'a Txn),
 }
 
@@ -356,6 +358,16 @@ fn is_date(kind: &Kind) -> bool
     }
 }
 
+/// Whether a term bounds the days of a report.
+fn bounds_days(term: &Term) -> bool
+    ensures { result ≡ spec.bounds_days term.now.nots term.now.kind }
+{
+    if term.nots != 0 {
+        return false;
+    }
+    is_date(&term.kind)
+}
+
 /// Whether a term holds of what is asked about.
 fn holds(finder: &mut Finder, types: &Types, asked: Asked, term: &Term) -> bool
     ensures found { result ≡ asking.holds (known_in finder.old) (own_in types.now) asked.entry term.now }
@@ -365,6 +377,12 @@ fn holds(finder: &mut Finder, types: &Types, asked: Asked, term: &Term) -> bool
         Asked::Posting(posting, txn) => term_holds(finder, types, posting, txn, term),
         Asked::Undated(posting, txn) => {
             if is_date(&term.kind) {
+                return true;
+            }
+            term_holds(finder, types, posting, txn, term)
+        }
+        Asked::Boundless(posting, txn) => {
+            if bounds_days(term) {
                 return true;
             }
             term_holds(finder, types, posting, txn, term)

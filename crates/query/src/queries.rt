@@ -157,6 +157,23 @@ impl Query {
         Ok(search.undated(posting, txn, types))
     }
 
+    /// Whether the query means a posting, whatever bounds it has on days: its terms of days are left out but for those
+    /// under `not:`.
+    pub fn boundless(
+        &mut self,
+        alloc: Global,
+        posting: &Posting,
+        txn: &Txn,
+        types: &Types,
+    ) -> Result<bool, Memory>
+        ensures found { IfOk result (λ b. b ≡ meaning.of_boundless self.old types.now posting.now txn.now) }
+        ensures same { self.new ≡ self.old }
+        ensures free { self.old.regexes.items ≡ [] → IsOk result }
+    {
+        let mut search = self.search(alloc)?;
+        Ok(search.boundless(posting, txn, types))
+    }
+
     /// Whether the query means a transaction.
     pub fn txn(&mut self, alloc: Global, txn: &Txn, types: &Types) -> Result<bool, Memory>
         ensures found { IfOk result (λ b. b ≡ meaning.of_txn self.old types.now txn.now) }
@@ -252,6 +269,21 @@ impl<'q> Search<'q> {
             &mut self.finder,
             types,
             Asked::Undated(posting, txn),
+            self.terms,
+        )
+    }
+
+    /// Whether the query means a posting, whatever bounds it has on days.
+    #[tactic(auto, using(crate::proofs::Dateless::boundless_is))]
+    pub fn boundless(&mut self, posting: &Posting, txn: &Txn, types: &Types) -> bool
+        ensures found { result ≡ meaning.sought_boundless self.old types.now posting.now txn.now }
+        ensures known { known_in self.new.finder ≡ known_in self.old.finder }
+        ensures terms { self.new.terms.now ≡ self.old.terms.now }
+    {
+        matches(
+            &mut self.finder,
+            types,
+            Asked::Boundless(posting, txn),
             self.terms,
         )
     }
