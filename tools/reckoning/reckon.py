@@ -793,6 +793,9 @@ class Query:
     def undated(self, p):
         return self.posting(p, [t for t in self.terms if t.kind != "date"])
 
+    def boundless(self, p):
+        return self.posting(p, [t for t in self.terms if t.kind != "date" or t.nots > 0])
+
     def txn(self, txn):
         def own(t):
             k, v = t.kind, t.value
@@ -1033,10 +1036,10 @@ class Job:
     def taken(self):
         o, q = self.options, self.query
         inside = [p for p in self.postings if self.first <= p.day < self.stop and q.posting(p)]
-        earlier = [p for p in self.postings if p.day < self.first and q.undated(p)]
+        earlier = [p for p in self.postings if p.day < self.first and q.boundless(p)]
         if o.mode == "historical" and TAKEN["dates"] != "columns":
             bound = min(self.start, self.stop) if TAKEN["dates"] == "span" else self.stop
-            earlier = [p for p in self.postings if p.day < bound and q.undated(p)]
+            earlier = [p for p in self.postings if p.day < bound and q.boundless(p)]
             inside = [p for p in inside if not any(p is e for e in earlier)]
         if self.is_empty and TAKEN["no days"] == "nothing":
             earlier = []
@@ -1212,7 +1215,7 @@ def register_report(job):
     j, o = job.journal, job.options
     inside = sorted((p for p in job.postings if job.start <= p.day < job.end and job.query.posting(p)),
                     key=lambda p: (p.day, p.txn.number))
-    earlier = [p for p in job.postings if p.day < job.start and job.query.undated(p)] if o.mode == "historical" else []
+    earlier = [p for p in job.postings if p.day < job.start and job.query.boundless(p)] if o.mode == "historical" else []
     def worth(p):
         s, v = job.brought(p)
         if o.value and o.value[0] != "then":

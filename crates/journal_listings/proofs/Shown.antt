@@ -41,7 +41,7 @@ module _ (asked : Question) (alone : AreBounds asked.options) where
   -- no earlier account is named
   names_none : (shown : Span) → map (taken Named asked) (filter (is_kept Named asked shown) (entries asked)) ≡ []
   names_none shown =
-      ap (λ (empty : Bool). map (taken Named asked) (filter (λ (e : Entry). cond (empty && not (is_historical asked.options.start)) (cond (nat_lt (day_in e) shown.from) (asked.means_undated e) false) false) (entries asked))) alone.few
+      ap (λ (empty : Bool). map (taken Named asked) (filter (λ (e : Entry). cond (empty && not (is_historical asked.options.start)) (cond (nat_lt (day_in e) shown.from) (asked.means_boundless e) false) false) (entries asked))) alone.few
       ∙ ap (map (taken Named asked)) (none_kept (entries asked))
 
   -- of the postings that are taken over the span they are those that are listed
@@ -51,7 +51,7 @@ module _ (asked : Question) (alone : AreBounds asked.options) where
       ∙ ap (λ (rest : List Taken). named (map (taken Counted asked) (kept_entries Counted asked (span_of asked ∷ [])) ++ rest)) (names_none (shown_in (span_of asked ∷ [])))
       ∙ ap named (append-nil (map (taken Counted asked) (kept_entries Counted asked (span_of asked ∷ []))))
       ∙ of_entries (kept_entries Counted asked (span_of asked ∷ []))
-      ∙ ap (λ (historical : Bool). map (account_shown asked) (filter (λ (e : Entry). cond historical (cond (nat_lt (day_in e) (span_of asked).end) (asked.means_undated e) false) (cond (holds (span_of asked) (day_in e)) (asked.means e) false)) (entries asked))) alone.change
+      ∙ ap (λ (historical : Bool). map (account_shown asked) (filter (λ (e : Entry). cond historical (cond (nat_lt (day_in e) (span_of asked).end) (asked.means_boundless e) false) (cond (holds (span_of asked) (day_in e)) (asked.means e) false)) (entries asked))) alone.change
       ∙ (λ i. map (account_shown asked) (filter (λ (e : Entry). and_is (holds (span_of asked) (day_in e)) (asked.means e) i) (entries asked)))
 
   -- no amount is taken at cost

@@ -21,7 +21,7 @@ by_day (e ∷ es) = insert_by_day e (by_day es)
 abbrev pub shown_in : Question → Span → List Entry
 shown_in asked span = by_day (filter (is_chosen Change asked span) (entries asked))
 
--- where sums begin before all days, what the query means whatever their days, before the span
+-- where sums begin before all days, what the query means whatever bounds it has on days, before the span
 abbrev pub earlier_in : Question → Span → List Entry
 earlier_in asked span =
     if is_historical asked.options.start

@@ -7,7 +7,7 @@ use Rattle.prices.specs.Quotes.{quotes_in}
 use Rattle.query.specs.Building.{AreBuilt}
 use Rattle.query.specs.Matching.{Own}
 use Rattle.query.specs.OwnLetters.{own_in}
-use Rattle.query.proofs.SameMeaning.{posting_by_terms, txn_by_terms, undated_by_terms}
+use Rattle.query.proofs.SameMeaning.{boundless_by_terms, posting_by_terms, txn_by_terms, undated_by_terms}
 use Rattle.query_terms.specs.Reading.{sources_of}
 use Rattle.report_sums.specs.Matters.{Matter, matter_of}
 use Rattle.report_sums.specs.declared.job.Job.{Job}
@@ -21,6 +21,7 @@ by_terms scope built = λ i. record {
   txns = scope.book.now.txns;
   means = λ entry. posting_by_terms scope.query.now scope.types.now built entry.0 entry.1 i;
   means_undated = λ entry. undated_by_terms scope.query.now scope.types.now built entry.0 entry.1 i;
+  means_boundless = λ entry. boundless_by_terms scope.query.now scope.types.now built entry.0 entry.1 i;
   means_txn = λ txn. txn_by_terms scope.query.now scope.types.now built txn i;
   dates = (question_of scope).dates;
   depth = (question_of scope).depth;

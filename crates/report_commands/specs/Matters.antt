@@ -6,7 +6,7 @@ use Rattle.book.specs.declared.item.Placed.{Placed}
 use Rattle.prices.specs.Quotes.{quotes_in}
 use Rattle.query.specs.Matching.{Own, dates_in, depth_in}
 use Rattle.query.specs.Types.{declared_of, own_letter}
-use Rattle.query.specs.Words.{terms_mean, terms_mean_txn, terms_mean_undated}
+use Rattle.query.specs.Words.{terms_mean, terms_mean_boundless, terms_mean_txn, terms_mean_undated}
 use Rattle.query_terms.specs.declared.kinds.Term.{Term}
 use Rattle.report_options.specs.declared.options.Options.{Options}
 use Rattle.report_sums.specs.Matters.{Matter}
@@ -22,6 +22,7 @@ question_over options day book own terms = record {
   txns = book.txns;
   means = λ entry. terms_mean terms own entry.0 entry.1;
   means_undated = λ entry. terms_mean_undated terms own entry.0 entry.1;
+  means_boundless = λ entry. terms_mean_boundless terms own entry.0 entry.1;
   means_txn = λ txn. terms_mean_txn terms own txn;
   dates = dates_in terms;
   depth = depth_in terms;

@@ -31,12 +31,12 @@ abbrev pub is_historical : Start → Bool
 is_historical starts.Historical = true
 is_historical _ = false
 
--- for historical sums what the query means, whatever its terms of days, before the end of what is shown; else what it
--- means on the days that are shown
+-- for historical sums what the query means, whatever bounds it has on days, before the end of what is shown; else what
+-- it means on the days that are shown
 abbrev pub is_chosen : Start → Question → Span → Entry → Bool
 is_chosen start asked shown entry =
     if is_historical start
-    then (if nat_lt (day_in entry) shown.end then asked.means_undated entry else false)
+    then (if nat_lt (day_in entry) shown.end then asked.means_boundless entry else false)
     else (if holds shown (day_in entry) then asked.means entry else false)
 
 -- the days before a span
@@ -47,7 +47,7 @@ before span = record { from = 0; end = span.from }
 abbrev pub names_earlier : Question → Bool
 names_earlier asked = asked.options.empty && not (is_historical asked.options.start)
 
--- such a posting: one before what is shown, that the query means whatever its day
+-- such a posting: one before what is shown, that the query means whatever bounds it has on days
 abbrev pub is_named : Question → Span → Entry → Bool
 is_named asked shown entry =
     if names_earlier asked then is_chosen starts.Historical asked (before shown) entry else false

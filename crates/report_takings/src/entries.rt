@@ -83,7 +83,7 @@ pub enum Part {
 }
 
 /// Whether a posting is chosen.
-#[tactic(auto, using(crate::proofs::Serving::posting_is, crate::proofs::Serving::undated_is, crate::proofs::Serving::serves_still))]
+#[tactic(auto, using(crate::proofs::Serving::posting_is, crate::proofs::Serving::boundless_is, crate::proofs::Serving::serves_still))]
 fn is_chosen(
     search: &mut Search,
     scope: &Scope,
@@ -99,7 +99,7 @@ fn is_chosen(
     let day = posting.day_in(txn).0;
     if is_historical(start) {
         if day < shown.end {
-            return search.undated(posting, txn, scope.types);
+            return search.boundless(posting, txn, scope.types);
         }
         return false;
     }
@@ -150,7 +150,7 @@ fn keep_all<'a>(
 }
 
 /// Postings of a report's book, in order, each with its transaction: for historical sums all before the end of the span
-/// that the query means, whatever their days; for others those on the span's days that it means. Fails only for want of
+/// that the query means, whatever bounds it has on days; for others those on the span's days that it means. Fails only for want of
 /// memory.
 pub fn chosen_entries<'a>(
     alloc: Global,

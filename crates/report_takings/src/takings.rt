@@ -17,7 +17,7 @@ use report_cells::{ReportFault, Taking};
 use std::alloc::Global;
 
 /// What a report with these columns takes of its postings, in their order: those on the days of the columns that
-/// the query means, for historical sums all before the columns' end that it means whatever their days; each with its
+/// the query means, for historical sums all before the columns' end that it means whatever bounds it has on days; each with its
 /// account cut to the query's depth, its day, and its amount, or with `-B` or `--value=cost` what that costs. With `-E`
 /// the accounts of earlier postings follow, with no amounts. `Range` comes exactly where a product is out of range, and
 /// tells the least symbol of such an amount.
