@@ -152,13 +152,13 @@ fn closes_where_the_message_says_so(rt: HostRuntime) -> Result<(), Fail> {
 }
 
 #[test]
-fn knows_three_paths(rt: HostRuntime) -> Result<(), Fail> {
+fn knows_no_other_paths(rt: HostRuntime) -> Result<(), Fail> {
     all_are(
         rt.alloc(),
         &[
             b"GET /none HTTP/1.1\r\n\r\n".as_slice(),
             b"GET /balance/ HTTP/1.1\r\n\r\n".as_slice(),
-            b"POST /register HTTP/1.1\r\n\r\n".as_slice(),
+            b"POST /registers HTTP/1.1\r\n\r\n".as_slice(),
         ],
         ConnEnd::Closed,
         NO_PATH,
@@ -200,8 +200,8 @@ fn refuses_parameters_that_are_not_its_own(rt: HostRuntime) -> Result<(), Fail> 
 #[test]
 fn refuses_a_word_that_has_no_place(rt: HostRuntime) -> Result<(), Fail> {
     let sent =
-        b"HTTP/1.1 400 Bad Request\r\nContent-Type: text/plain; charset=utf-8\r\nX-Revision: 0\r\nContent-Length: 17\r\n\r\nerror: usage: -N\n".as_slice();
-    let coming = b"GET /balance?q=-N HTTP/1.1\r\n\r\n".as_slice();
+        b"HTTP/1.1 400 Bad Request\r\nContent-Type: text/plain; charset=utf-8\r\nX-Revision: 0\r\nContent-Length: 17\r\n\r\nerror: usage: -Z\n".as_slice();
+    let coming = b"GET /balance?q=-Z HTTP/1.1\r\n\r\n".as_slice();
     all_are(rt.alloc(), &[coming], ConnEnd::Closed, sent)
 }
 

@@ -167,11 +167,15 @@ fn days_are_left_out(rt: HostRuntime) -> Result<(), Fail> {
     let posting = posting_of(rt.alloc(), &sample_of(Which::Food))?;
     assert!(rt; !query.posting(rt.alloc(), &posting, &txn, &types)?);
     assert!(rt; query.undated(rt.alloc(), &posting, &txn, &types)?);
+    assert!(rt; !query.boundless(rt.alloc(), &posting, &txn, &types)?);
+    let mut bounded = query_of(rt.alloc(), "food date:2023 not:date:2025")?;
+    assert!(rt; bounded.boundless(rt.alloc(), &posting, &txn, &types)?);
     let mut other = query_of(rt.alloc(), "rent date:2024")?;
     assert!(rt; !other.undated(rt.alloc(), &posting, &txn, &types)?);
     let mut search = query.search(rt.alloc())?;
     assert!(rt; !search.posting(&posting, &txn, &types));
     assert!(rt; search.undated(&posting, &txn, &types));
+    assert!(rt; !search.boundless(&posting, &txn, &types));
     assert!(rt; !search.txn(&txn, &types));
     Ok(())
 }

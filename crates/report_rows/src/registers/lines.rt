@@ -12,87 +12,100 @@ use std::test::Fail;
 /// A posting: the line and the description of its transaction, its account, its day, and its amount in hundredths.
 type Row<'a> = (u64, &'a str, &'a str, u32, &'a str, i128);
 
-fn descriptions(alloc: Global, rows: &[Row]) -> Result<Vec<Text>, Memory> {
+/// The texts of a posting: the description of its transaction, its account and its symbol.
+#[derive(Drop)]
+struct Said {
+    description: Text,
+    account: Text,
+    symbol: Text,
+}
+
+/// The texts of some postings.
+fn texts_of(alloc: Global, rows: &[Row]) -> Result<Vec<Said>, Memory> {
     let mut texts = Vec::new(alloc);
     for row in rows {
-        texts.push(Text::copied(alloc, row.1)?)?;
+        texts.push(Said {
+            description: Text::copied(alloc, row.1)?,
+            account: Text::copied(alloc, row.2)?,
+            symbol: Text::copied(alloc, row.4)?,
+        })?;
     }
     Ok(texts)
 }
 
-fn symbols(alloc: Global, rows: &[Row]) -> Result<Vec<Text>, Memory> {
-    let mut texts = Vec::new(alloc);
-    for row in rows {
-        texts.push(Text::copied(alloc, row.4)?)?;
-    }
-    Ok(texts)
-}
-
-fn head<'a>(row: &Row, description: &'a Text) -> Head<'a> {
+fn head<'a>(row: &Row, said: &'a Said) -> Head<'a> {
     Head {
         line: row.0,
-        description,
+        description: &said.description,
     }
 }
 
-fn heads<'a>(alloc: Global, rows: &[Row], texts: &'a [Text]) -> Result<Vec<Head<'a>>, Memory> {
+/// The heads of the postings behind the earlier ones.
+fn heads<'a>(
+    alloc: Global,
+    earlier: usize,
+    rows: &[Row],
+    texts: &'a [Said],
+) -> Result<Vec<Head<'a>>, Memory> {
     let mut heads = Vec::new(alloc);
+    let mut left = earlier;
     for (row, text) in rows.iter().zip(texts) {
-        heads.push(head(row, text))?;
+        if left == 0 {
+            heads.push(head(row, text))?;
+        } else {
+            left -= 1;
+        }
     }
     Ok(heads)
 }
 
 /// What a posting brings; without a symbol it has no amount.
-fn taking<'a>(row: &Row<'a>, symbol: &'a Text) -> Result<Taking<'a>, Fail> {
+fn taking<'a>(row: &Row, said: &'a Said) -> Result<Taking<'a>, Fail> {
     let value = Dec::new(row.5, 2).ok_or("within bounds")?;
-    let amount = if symbol.as_str().is_empty() {
+    let amount = if said.symbol.as_str().is_empty() {
         None
     } else {
-        Some(Share { symbol, value })
+        Some(Share {
+            symbol: &said.symbol,
+            value,
+        })
     };
     Ok(Taking {
-        account: row.2,
+        account: said.account.as_str(),
         day: Day(row.3),
         amount,
     })
 }
 
-fn push_takings<'a>(
-    takings: &mut Vec<Taking<'a>>,
-    rows: &[Row<'a>],
-    symbols: &'a [Text],
-) -> Result<(), Fail> {
-    for (row, symbol) in rows.iter().zip(symbols) {
-        takings.push(taking(row, symbol)?)?;
+fn takings<'a>(alloc: Global, rows: &[Row], texts: &'a [Said]) -> Result<Vec<Taking<'a>>, Fail> {
+    let mut takings = Vec::new(alloc);
+    for (row, text) in rows.iter().zip(texts) {
+        takings.push(taking(row, text)?)?;
     }
-    Ok(())
+    Ok(takings)
 }
 
-/// The register of some rows behind earlier ones; each symbol has the default style.
-fn register<'a>(
+/// The register of some rows, of which the first ones come before it; each symbol has the default style.
+fn register(
     alloc: Global,
-    earlier: &[Row<'a>],
-    shown: &[Row<'a>],
+    earlier: usize,
+    rows: &[Row],
 ) -> Result<Result<Bytes, ReportFault>, Fail> {
-    let earlier_symbols = symbols(alloc, earlier)?;
-    let shown_symbols = symbols(alloc, shown)?;
-    let mut takings = Vec::new(alloc);
-    push_takings(&mut takings, earlier, &earlier_symbols)?;
-    push_takings(&mut takings, shown, &shown_symbols)?;
-    let texts = descriptions(alloc, shown)?;
-    let heads = heads(alloc, shown, &texts)?;
+    let said = texts_of(alloc, rows)?;
+    let texts = said.as_slice();
+    let takings = takings(alloc, rows, texts)?;
+    let heads = heads(alloc, earlier, rows, texts)?;
     Ok(register_text(alloc, &takings, &heads, &Styles::new(alloc)))
 }
 
-fn check<'a>(
+fn check(
     rt: &impl Abort,
     alloc: Global,
-    earlier: &[Row<'a>],
-    shown: &[Row<'a>],
+    earlier: usize,
+    rows: &[Row],
     wanted: &str,
 ) -> Result<(), Fail> {
-    let text = register(alloc, earlier, shown)??;
+    let text = register(alloc, earlier, rows)??;
     assert!(rt; text.as_slice() == wanted.as_bytes(), "{wanted}");
     Ok(())
 }
@@ -107,7 +120,7 @@ fn sums_run_on(rt: HostRuntime) -> Result<(), Fail> {
     check(
         &rt,
         rt.alloc(),
-        &[],
+        0,
         &rows,
         "2024-01-01 opening               assets:wallet           100.00 EUR   100.00 EUR\n\
          2024-01-05 市場 | 野菜           assets:wallet           -24.50 EUR    75.50 EUR\n\
@@ -126,7 +139,7 @@ fn one_transaction_shows_its_head_once_a_day(rt: HostRuntime) -> Result<(), Fail
     check(
         &rt,
         rt.alloc(),
-        &[],
+        0,
         &rows,
         "2024-01-15 rent                  expenses:rent           600.00 EUR   600.00 EUR\n\
          2024-02-01 rent                  assets:bank            -600.00 EUR            0\n\
@@ -167,7 +180,7 @@ fn texts_too_wide_are_cut_and_numbers_stand_whole(rt: HostRuntime) -> Result<(),
     check(
         &rt,
         rt.alloc(),
-        &[],
+        0,
         &rows,
         "2024-01-07 描写の文字が広くて..  expenses:a very lon..     0.02 EUR     0.02 EUR\n\
          \x20                                費用:とても長い名前..     0.01 EUR     0.03 EUR\n\
@@ -178,19 +191,17 @@ fn texts_too_wide_are_cut_and_numbers_stand_whole(rt: HostRuntime) -> Result<(),
 
 #[test]
 fn further_symbols_stand_in_lines_of_their_own(rt: HostRuntime) -> Result<(), Fail> {
-    let earlier: [Row; 2] = [
+    let rows: [Row; 4] = [
         (3, "buy", "shares", 738_900, "ACME", 3_000),
         (7, "sell", "shares", 738_930, "ACME", -1_000),
-    ];
-    let shown: [Row; 2] = [
         (15, "bond", "shares:bonds", 738_960, "EUR", 19_750),
         (19, "", "", 738_961, "ACME", -2_000),
     ];
     check(
         &rt,
         rt.alloc(),
-        &earlier,
-        &shown,
+        2,
+        &rows,
         "2024-03-15 bond                  shares:bonds            197.50 EUR   20.00 ACME\n\
          \x20                                                                     197.50 EUR\n\
          2024-03-16                                              -20.00 ACME   197.50 EUR\n",
@@ -200,9 +211,11 @@ fn further_symbols_stand_in_lines_of_their_own(rt: HostRuntime) -> Result<(), Fa
 #[test]
 fn amounts_too_large_are_refused(rt: HostRuntime) -> Result<(), Fail> {
     let half = 0x4000_0000_0000_0000_0000_0000_0000_0000;
-    let earlier: [Row; 1] = [(3, "one", "a", 738_900, "EUR", half)];
-    let shown: [Row; 1] = [(4, "two", "a", 738_901, "EUR", half)];
-    match register(rt.alloc(), &earlier, &shown)? {
+    let rows: [Row; 2] = [
+        (3, "one", "a", 738_900, "EUR", half),
+        (4, "two", "a", 738_901, "EUR", half),
+    ];
+    match register(rt.alloc(), 1, &rows)? {
         Err(ReportFault::Range { symbol }) => {
             assert_eq!(rt; symbol.as_str(), "EUR");
             Ok(())
