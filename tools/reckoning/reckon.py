@@ -647,6 +647,10 @@ def payee_of(txn):
 def note_of(txn):
     return txn.description.partition("|")[2].strip() if "|" in txn.description else txn.description
 
+# The texts of a transaction that terms look at.
+TEXTS = {"desc": lambda txn: txn.description, "payee": payee_of, "note": note_of, "code": lambda txn: txn.code}
+
+
 class Term:
     def __init__(self, kind, nots, value):
         self.kind, self.nots, self.value = kind, nots, value
@@ -749,14 +753,8 @@ class Query:
         k, v, txn = term.kind, term.value, p.txn
         if k == "acct":
             return v(p.account)
-        if k == "desc":
-            return v(txn.description)
-        if k == "payee":
-            return v(payee_of(txn))
-        if k == "note":
-            return v(note_of(txn))
-        if k == "code":
-            return v(txn.code)
+        if k in TEXTS:
+            return v(TEXTS[k](txn))
         if k == "cur":
             return v(p.amount.symbol)
         if k == "amt":
@@ -799,14 +797,8 @@ class Query:
     def txn(self, txn):
         def own(t):
             k, v = t.kind, t.value
-            if k == "desc":
-                return v(txn.description)
-            if k == "payee":
-                return v(payee_of(txn))
-            if k == "note":
-                return v(note_of(txn))
-            if k == "code":
-                return v(txn.code)
+            if k in TEXTS:
+                return v(TEXTS[k](txn))
             if k == "status":
                 return txn.mark == v
             if k == "date":
