@@ -7,5 +7,3 @@ mod accounts;
 mod income_and_sheet;
 #[cfg(test)]
 mod layouts;
-#[cfg(test)]
-mod tables;

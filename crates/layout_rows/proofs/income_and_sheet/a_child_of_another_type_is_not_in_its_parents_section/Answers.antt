@@ -1,4 +1,0 @@
-use Rattle.layout_rows.proofs.income_and_sheet.a_child_of_another_type_is_not_in_its_parents_section.Goals as goal
-
-pub income_text-requires-clause-fits : goal.income_text-requires-clause-fits
-income_text-requires-clause-fits g c = c.in_ok-cells.ensures.fits c.changing-layout.result c.changing-layout.ensures

@@ -1,4 +1,0 @@
-use Rattle.reader_rows.proofs.journals.posting.postings.Given as goal
-
-abbrev pub ghosts-each_text : goal.ghosts-each_text
-ghosts-each_text g a = record { name = a.blank.name; parts = a.blank.parts }

@@ -1,3 +1,0 @@
-//! Tests: lines worked out by hand.
-mod lines;
-mod selection;
