@@ -6,7 +6,6 @@ use desk::{Reply, Request};
 use hl_base::{Bytes, MemClock, MemLink, Memory, Steps, Text};
 use hl_time::Day;
 use query::{Maker, RegexMaker};
-use report_cells::ReportFault;
 use report_commands::WordsFault;
 use std::alloc::Global;
 use std::marker::Brand;
@@ -148,59 +147,6 @@ fn counted<L: Ledger>(alloc: Global, blank: Blank, case: &Case) -> Result<Seen, 
     })
 }
 
-fn whole<'a>(coming: &'a [u8]) -> Case<'a> {
-    Case {
-        coming,
-        most: 65536,
-        fails: &[],
-        asks: 9,
-    }
-}
-
-/// A stream, how the connection over it ends, and what is sent.
-#[derive(Clone, Copy)]
-struct Row<'a> {
-    coming: &'a [u8],
-    end: ConnEnd,
-    sent: &'a [u8],
-}
-
-/// A connection ends so, after these replies.
-fn is_served(alloc: Global, case: &Case, end: ConnEnd, sent: &[u8]) -> Result<(), Fail> {
-    let seen = served(alloc, case)?;
-    if seen.end != end {
-        return Err(Fail::new("it ends so"));
-    }
-    if seen.sent.as_slice() != sent {
-        return Err(Fail::new("these replies are sent"));
-    }
-    Ok(())
-}
-
-/// Each stream is served so, at once and a byte at a time.
-fn are_served(alloc: Global, rows: &[Row]) -> Result<(), Fail> {
-    for row in rows {
-        let case = whole(row.coming);
-        is_served(alloc, &case, row.end, row.sent)?;
-        let case = Case { most: 1, ..case };
-        is_served(alloc, &case, row.end, row.sent)?;
-    }
-    Ok(())
-}
-
-/// Each stream is served to its end, with these replies.
-fn are_closed(alloc: Global, rows: &[(&[u8], &[u8])]) -> Result<(), Fail> {
-    for (coming, sent) in rows {
-        let row = Row {
-            coming,
-            end: ConnEnd::Closed,
-            sent,
-        };
-        are_served(alloc, &[row])?;
-    }
-    Ok(())
-}
-
 const GET: &[u8] = b"GET /balance HTTP/1.1\r\nHost: a\r\n\r\n";
 
 const GOT: &[u8] =
@@ -230,32 +176,6 @@ const PRINT: &[u8] =
 const UNCHANGED_AND_DOWNLOADED: &[u8] =
     b"HTTP/1.1 200 OK\r\nContent-Type: text/plain; charset=utf-8\r\nX-Revision: 1\r\nContent-Length: 22\r\n\r\nunchanged, revision 1\nHTTP/1.1 200 OK\r\nContent-Type: text/plain; charset=utf-8\r\nX-Revision: 1\r\nContent-Length: 5\r\n\r\ntext\n";
 
-/// Messages that ask.
-#[test]
-fn requests(rt: HostRuntime) -> Result<(), Fail> {
-    are_closed(
-        rt.alloc(),
-        &[
-            (b"", b""),
-            (GET, GOT),
-            (ADD, ADDED),
-            (b"GET /balance?q=-N&q=a+b HTTP/1.1\n\n", WORDS),
-            (b"GET /register?q=rent HTTP/1.1\n\n", REGISTER),
-            (
-                b"GET /incomestatement?q=-M&q=--depth=1 HTTP/1.1\n\n",
-                INCOME,
-            ),
-            (b"GET /balancesheet?q=-M HTTP/1.1\n\n", SHEET),
-            (b"GET /journal?q=desc:b%C3%A4ck HTTP/1.1\n\n", PRINT),
-            // the entry is one byte that isn't UTF-8
-            (
-                b"POST /add HTTP/1.1\r\nContent-Length: 9\r\n\r\nentry=%ffGET /download HTTP/1.1\r\n\r\n",
-                UNCHANGED_AND_DOWNLOADED,
-            ),
-        ],
-    )
-}
-
 const NO_PATH: &[u8] =
     b"HTTP/1.1 404 Not Found\r\nContent-Type: text/plain; charset=utf-8\r\nContent-Length: 12\r\n\r\nerror: path\n";
 
@@ -268,63 +188,11 @@ const POST_ONLY: &[u8] =
 const NO_FORM: &[u8] =
     b"HTTP/1.1 400 Bad Request\r\nContent-Type: text/plain; charset=utf-8\r\nContent-Length: 12\r\n\r\nerror: form\n";
 
-/// Messages that are refused without asking.
-#[test]
-fn refusals(rt: HostRuntime) -> Result<(), Fail> {
-    are_closed(
-        rt.alloc(),
-        &[
-            (b"GET /none HTTP/1.1\r\n\r\n", NO_PATH),
-            (b"GET /check HTTP/1.1\r\n\r\n", NO_PATH),
-            (b"DELETE /balance HTTP/1.1\r\n\r\n", GET_ONLY),
-            (b"GET /add HTTP/1.1\r\n\r\n", POST_ONLY),
-            // unknown, missing and repeated parameters
-            (b"GET /balance?p=1 HTTP/1.1\r\n\r\n", NO_FORM),
-            (b"GET /download?q=a HTTP/1.1\r\n\r\n", NO_FORM),
-            (b"POST /add HTTP/1.1\r\n\r\n", NO_FORM),
-            (
-                b"POST /add HTTP/1.1\r\nContent-Length: 15\r\n\r\nentry=a&entry=b",
-                NO_FORM,
-            ),
-        ],
-    )
-}
-
 const LAST: &[u8] =
     b"HTTP/1.1 200 OK\r\nContent-Type: text/plain; charset=utf-8\r\nX-Revision: 0\r\nConnection: close\r\nContent-Length: 5\r\n\r\ntext\n";
 
 const NO_MESSAGE: &[u8] =
     b"HTTP/1.1 400 Bad Request\r\nContent-Type: text/plain; charset=utf-8\r\nConnection: close\r\nContent-Length: 15\r\n\r\nerror: message\n";
-
-/// Messages after whose replies the connection closes.
-#[test]
-fn closings(rt: HostRuntime) -> Result<(), Fail> {
-    are_closed(
-        rt.alloc(),
-        &[
-            (
-                b"GET /download HTTP/1.0\r\n\r\nGET /none HTTP/1.1\r\n\r\n",
-                LAST,
-            ),
-            (
-                b"GET /download HTTP/1.1\r\nconnection: keep-alive, Close\r\n\r\nGET /none HTTP/1.1\r\n\r\n",
-                LAST,
-            ),
-            (
-                b"POST /add HTTP/1.1\r\nTransfer-Encoding: chunked\r\n\r\n0\r\n\r\n",
-                NO_MESSAGE,
-            ),
-            (
-                b"POST /add HTTP/1.1\r\nContent-Length: 1\r\nContent-Length: 1\r\n\r\nx",
-                NO_MESSAGE,
-            ),
-            (
-                b"POST /add HTTP/1.1\r\nContent-Length: 18446744073709551616\r\n\r\nx",
-                NO_MESSAGE,
-            ),
-        ],
-    )
-}
 
 const LONG_BODY: &[u8] =
     b"HTTP/1.1 413 Payload Too Large\r\nContent-Type: text/plain; charset=utf-8\r\nConnection: close\r\nContent-Length: 12\r\n\r\nerror: body\n";
@@ -332,44 +200,44 @@ const LONG_BODY: &[u8] =
 const NO_PATH_AND_NO_MESSAGE: &[u8] =
     b"HTTP/1.1 404 Not Found\r\nContent-Type: text/plain; charset=utf-8\r\nContent-Length: 12\r\n\r\nerror: path\nHTTP/1.1 400 Bad Request\r\nContent-Type: text/plain; charset=utf-8\r\nConnection: close\r\nContent-Length: 15\r\n\r\nerror: message\n";
 
-/// Streams that end otherwise than between two messages.
-#[test]
-fn ends(rt: HostRuntime) -> Result<(), Fail> {
-    are_served(
-        rt.alloc(),
-        &[
-            Row {
-                coming: b"POST /add HTTP/1.1\r\nContent-Length: 82\r\n\r\nentry=2024",
-                end: ConnEnd::CutOff { had: 10, said: 82 },
-                sent: b"",
-            },
-            Row {
-                coming: b"POST /add HTTP/1.1\r\nContent-Length: 8388609\r\n\r\nx",
-                end: ConnEnd::BodyTooLong { said: 8_388_609 },
-                sent: LONG_BODY,
-            },
-            Row {
-                coming: b"GET /none HTTP/1.1\r\n\r\nGET /balance HTTP/2.0\r\n\r\n",
-                end: ConnEnd::BadHead { at: 22 },
-                sent: NO_PATH_AND_NO_MESSAGE,
-            },
-            Row {
-                coming: b"\r\nGET /bal",
-                end: ConnEnd::HeadCut { had: 10 },
-                sent: b"",
-            },
-            Row {
-                coming: b"GET /\x01",
-                end: ConnEnd::HeadCut { had: 6 },
-                sent: b"",
-            },
-            Row {
-                coming: b"@",
-                end: ConnEnd::BadHead { at: 0 },
-                sent: NO_MESSAGE,
-            },
-        ],
-    )
+const LONG_HEAD: &[u8] =
+    b"HTTP/1.1 431 Request Header Fields Too Large\r\nContent-Type: text/plain; charset=utf-8\r\nConnection: close\r\nContent-Length: 12\r\n\r\nerror: head\n";
+
+const REFUSED: &[u8] =
+    b"HTTP/1.1 400 Bad Request\r\nContent-Type: text/plain; charset=utf-8\r\nX-Revision: 7\r\nContent-Length: 21\r\n\r\nerror: pattern: fo+d\n";
+
+fn whole<'a>(coming: &'a [u8]) -> Case<'a> {
+    Case {
+        coming,
+        most: 65536,
+        fails: &[],
+        asks: 9,
+    }
+}
+
+/// A stream, how the connection over it ends, and what is sent.
+type Row<'a> = (&'a [u8], ConnEnd, &'a [u8]);
+
+/// A connection ends so, after these replies.
+fn is_served(alloc: Global, case: &Case, end: ConnEnd, sent: &[u8]) -> Result<(), Fail> {
+    let seen = served(alloc, case)?;
+    if seen.end != end {
+        return Err(Fail::new("it ends so"));
+    }
+    if seen.sent.as_slice() != sent {
+        return Err(Fail::new("these replies are sent"));
+    }
+    Ok(())
+}
+
+/// Each stream is served so, at once and a byte at a time.
+fn are_served(alloc: Global, rows: &[Row]) -> Result<(), Fail> {
+    for (coming, end, sent) in rows {
+        let case = whole(*coming);
+        is_served(alloc, &case, *end, sent)?;
+        is_served(alloc, &Case { most: 1, ..case }, *end, sent)?;
+    }
+    Ok(())
 }
 
 /// Each front of a request, but for the empty one, is a head that was cut.
@@ -378,113 +246,6 @@ fn are_cut(alloc: Global, request: &[u8]) -> Result<(), Fail> {
         let end = ConnEnd::HeadCut { had: had as u64 };
         is_served(alloc, &whole(&request[..had]), end, b"")?;
     }
-    Ok(())
-}
-
-#[test]
-fn fronts(rt: HostRuntime) -> Result<(), Fail> {
-    are_cut(rt.alloc(), GET)
-}
-
-/// A call of the link fails.
-fn fails_at(alloc: Global, call: u64, way: Way, sent: &[u8]) -> Result<(), Fail> {
-    let case = Case {
-        fails: &[call],
-        ..whole(GET)
-    };
-    is_served(alloc, &case, ConnEnd::LinkFault { way }, sent)
-}
-
-/// A read, a write and the read of the end fail in turn.
-#[test]
-fn faults(rt: HostRuntime) -> Result<(), Fail> {
-    fails_at(rt.alloc(), 1, Way::Read, b"")?;
-    fails_at(rt.alloc(), 2, Way::Write, b"")?;
-    fails_at(rt.alloc(), 3, Way::Read, GOT)
-}
-
-/// One who answers no request.
-#[test]
-fn spent(rt: HostRuntime) -> Result<(), Fail> {
-    let case = Case {
-        asks: 0,
-        ..whole(GET)
-    };
-    is_served(rt.alloc(), &case, ConnEnd::Spent, b"")
-}
-
-const LONG_HEAD: &[u8] =
-    b"HTTP/1.1 431 Request Header Fields Too Large\r\nContent-Type: text/plain; charset=utf-8\r\nConnection: close\r\nContent-Length: 12\r\n\r\nerror: head\n";
-
-/// What is wrong with words is told in this line.
-fn is_told(alloc: Global, fault: WordsFault, line: &str) -> Result<(), Fail> {
-    let reply = Reply::Words(fault);
-    let told = line_of(alloc, &reply)?;
-    if told.as_str() == line {
-        Ok(())
-    } else {
-        Err(Fail::new("the line"))
-    }
-}
-
-fn text(alloc: Global, text: &str) -> Result<Text, Memory> {
-    Text::copied(alloc, text)
-}
-
-/// The words of a usage error.
-fn usage_lines(alloc: Global) -> Result<(), Fail> {
-    let word = text(alloc, "-Q")?;
-    is_told(alloc, WordsFault::BadOption { word }, "error: usage: -Q\n")?;
-    let (a, b) = (text(alloc, "-M")?, text(alloc, "-Y")?);
-    is_told(
-        alloc,
-        WordsFault::Conflict { a, b },
-        "error: usage: -M with -Y\n",
-    )
-}
-
-/// A word that is no term, and one whose pattern is refused.
-fn query_lines(alloc: Global) -> Result<(), Fail> {
-    let word = text(alloc, "date:x")?;
-    is_told(alloc, WordsFault::BadTerm { word }, "error: term: date:x\n")?;
-    let word = text(alloc, "fo+d")?;
-    is_told(
-        alloc,
-        WordsFault::PatternRefused { word },
-        "error: pattern: fo+d\n",
-    )
-}
-
-/// Reports that can't be made.
-fn report_lines(alloc: Global) -> Result<(), Fail> {
-    let symbol = text(alloc, "EUR")?;
-    let range = WordsFault::Report(ReportFault::Range { symbol });
-    is_told(alloc, range, "error: range: EUR\n")?;
-    let wide = WordsFault::Report(ReportFault::TooWide {
-        columns: 1201,
-        limit: 1200,
-    });
-    is_told(alloc, wide, "error: limit: 1201 of 1200\n")
-}
-
-/// The line of each cause for which words make no report.
-#[test]
-fn words_have_lines(rt: HostRuntime) -> Result<(), Fail> {
-    usage_lines(rt.alloc())?;
-    query_lines(rt.alloc())?;
-    report_lines(rt.alloc())
-}
-
-const REFUSED: &[u8] =
-    b"HTTP/1.1 400 Bad Request\r\nContent-Type: text/plain; charset=utf-8\r\nX-Revision: 7\r\nContent-Length: 21\r\n\r\nerror: pattern: fo+d\n";
-
-/// A refused pattern is a bad request at the desk's revision.
-#[test]
-fn a_refused_pattern(rt: HostRuntime) -> Result<(), Fail> {
-    let word = text(rt.alloc(), "fo+d")?;
-    let reply = Reply::Words(WordsFault::PatternRefused { word });
-    let sent = desk_reply(rt.alloc(), &reply, 7, false)?;
-    assert!(rt; sent.as_slice() == REFUSED);
     Ok(())
 }
 
@@ -505,10 +266,118 @@ fn is_limited(
     is_served(alloc, &whole(head.as_slice()), end, sent)
 }
 
-/// Heads of 16,384 and 16,385 bytes, and of 64 and 65 fields.
+/// Streams, how the connection over each ends, and what is sent.
+const ROWS: [Row; 28] = [
+    (b"", ConnEnd::Closed, b""),
+    (GET, ConnEnd::Closed, GOT),
+    (ADD, ConnEnd::Closed, ADDED),
+    (
+        b"GET /balance?q=-N&q=a+b HTTP/1.1\n\n",
+        ConnEnd::Closed,
+        WORDS,
+    ),
+    (
+        b"GET /register?q=rent HTTP/1.1\n\n",
+        ConnEnd::Closed,
+        REGISTER,
+    ),
+    (
+        b"GET /incomestatement?q=-M&q=--depth=1 HTTP/1.1\n\n",
+        ConnEnd::Closed,
+        INCOME,
+    ),
+    (
+        b"GET /balancesheet?q=-M HTTP/1.1\n\n",
+        ConnEnd::Closed,
+        SHEET,
+    ),
+    (
+        b"GET /journal?q=desc:b%C3%A4ck HTTP/1.1\n\n",
+        ConnEnd::Closed,
+        PRINT,
+    ),
+    // the entry is one byte that isn't UTF-8
+    (
+        b"POST /add HTTP/1.1\r\nContent-Length: 9\r\n\r\nentry=%ffGET /download HTTP/1.1\r\n\r\n",
+        ConnEnd::Closed,
+        UNCHANGED_AND_DOWNLOADED,
+    ),
+    (b"GET /none HTTP/1.1\r\n\r\n", ConnEnd::Closed, NO_PATH),
+    (b"GET /check HTTP/1.1\r\n\r\n", ConnEnd::Closed, NO_PATH),
+    (
+        b"DELETE /balance HTTP/1.1\r\n\r\n",
+        ConnEnd::Closed,
+        GET_ONLY,
+    ),
+    (b"GET /add HTTP/1.1\r\n\r\n", ConnEnd::Closed, POST_ONLY),
+    // unknown, missing and repeated parameters
+    (
+        b"GET /balance?p=1 HTTP/1.1\r\n\r\n",
+        ConnEnd::Closed,
+        NO_FORM,
+    ),
+    (
+        b"GET /download?q=a HTTP/1.1\r\n\r\n",
+        ConnEnd::Closed,
+        NO_FORM,
+    ),
+    (b"POST /add HTTP/1.1\r\n\r\n", ConnEnd::Closed, NO_FORM),
+    (
+        b"POST /add HTTP/1.1\r\nContent-Length: 15\r\n\r\nentry=a&entry=b",
+        ConnEnd::Closed,
+        NO_FORM,
+    ),
+    (
+        b"GET /download HTTP/1.0\r\n\r\nGET /none HTTP/1.1\r\n\r\n",
+        ConnEnd::Closed,
+        LAST,
+    ),
+    (
+        b"GET /download HTTP/1.1\r\nconnection: keep-alive, Close\r\n\r\nGET /none HTTP/1.1\r\n\r\n",
+        ConnEnd::Closed,
+        LAST,
+    ),
+    (
+        b"POST /add HTTP/1.1\r\nTransfer-Encoding: chunked\r\n\r\n0\r\n\r\n",
+        ConnEnd::Closed,
+        NO_MESSAGE,
+    ),
+    (
+        b"POST /add HTTP/1.1\r\nContent-Length: 1\r\nContent-Length: 1\r\n\r\nx",
+        ConnEnd::Closed,
+        NO_MESSAGE,
+    ),
+    (
+        b"POST /add HTTP/1.1\r\nContent-Length: 18446744073709551616\r\n\r\nx",
+        ConnEnd::Closed,
+        NO_MESSAGE,
+    ),
+    (
+        b"POST /add HTTP/1.1\r\nContent-Length: 82\r\n\r\nentry=2024",
+        ConnEnd::CutOff { had: 10, said: 82 },
+        b"",
+    ),
+    (
+        b"POST /add HTTP/1.1\r\nContent-Length: 8388609\r\n\r\nx",
+        ConnEnd::BodyTooLong { said: 8_388_609 },
+        LONG_BODY,
+    ),
+    (
+        b"GET /none HTTP/1.1\r\n\r\nGET /balance HTTP/2.0\r\n\r\n",
+        ConnEnd::BadHead { at: 22 },
+        NO_PATH_AND_NO_MESSAGE,
+    ),
+    (b"\r\nGET /bal", ConnEnd::HeadCut { had: 10 }, b""),
+    (b"GET /\x01", ConnEnd::HeadCut { had: 6 }, b""),
+    (b"@", ConnEnd::BadHead { at: 0 }, NO_MESSAGE),
+];
+
+/// The rows, the fronts of a request, heads of 16,384 and 16,385 bytes, and of 64 and 65 fields.
 #[test]
-fn limits(rt: HostRuntime) -> Result<(), Fail> {
+fn streams(rt: HostRuntime) -> Result<(), Fail> {
     let alloc = rt.alloc();
+    are_served(alloc, &ROWS)?;
+    are_cut(alloc, GET)?;
     let long = b"GET /none HTTP/1.1\r\na:";
     is_limited(alloc, long, b"x", 16_358, (ConnEnd::Closed, NO_PATH))?;
     is_limited(alloc, long, b"x", 16_359, (ConnEnd::HeadTooLong, LONG_HEAD))?;
@@ -521,4 +390,54 @@ fn limits(rt: HostRuntime) -> Result<(), Fail> {
         65,
         (ConnEnd::HeadTooLong, LONG_HEAD),
     )
+}
+
+/// A read, a write and the read of the end fail in turn; one who answers no request ends the connection.
+#[test]
+fn faults(rt: HostRuntime) -> Result<(), Fail> {
+    let alloc = rt.alloc();
+    let case = whole(GET);
+    let read = ConnEnd::LinkFault { way: Way::Read };
+    let write = ConnEnd::LinkFault { way: Way::Write };
+    is_served(
+        alloc,
+        &Case {
+            fails: &[1],
+            ..case
+        },
+        read,
+        b"",
+    )?;
+    is_served(
+        alloc,
+        &Case {
+            fails: &[2],
+            ..case
+        },
+        write,
+        b"",
+    )?;
+    is_served(
+        alloc,
+        &Case {
+            fails: &[3],
+            ..case
+        },
+        read,
+        GOT,
+    )?;
+    let spent = Case { asks: 0, ..case };
+    is_served(alloc, &spent, ConnEnd::Spent, b"")
+}
+
+/// A refused pattern is a bad request at the desk's revision.
+#[test]
+fn a_refused_pattern(rt: HostRuntime) -> Result<(), Fail> {
+    let alloc = rt.alloc();
+    let word = Text::copied(alloc, "fo+d")?;
+    let reply = Reply::Words(WordsFault::PatternRefused { word });
+    assert!(rt; line_of(alloc, &reply)?.as_str() == "error: pattern: fo+d\n");
+    let sent = desk_reply(alloc, &reply, 7, false)?;
+    assert!(rt; sent.as_slice() == REFUSED);
+    Ok(())
 }
