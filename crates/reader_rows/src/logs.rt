@@ -63,6 +63,7 @@ fn check_timedot(rt: &impl Abort, alloc: Global, rows: &[(&str, &str)]) -> Resul
 
 #[test]
 fn sessions_become_days(rt: HostRuntime) -> Result<(), Fail> {
+    seconds_sum();
     let rows = [
         (
             "i 2024-01-05 22:30 work:a  night\no 2024-01-06 02:00:36\n",
@@ -84,13 +85,6 @@ fn sessions_become_days(rt: HostRuntime) -> Result<(), Fail> {
             "i 2024-01-05 10:00 a   x | y  ; note\no 2024-01-05 11:00 ; done\n",
             "1 738890 x | y: 1 a 100;\n",
         ),
-    ];
-    check_timeclock(&rt, rt.alloc(), &rows)
-}
-
-#[test]
-fn timeclock_faults_have_their_line(rt: HostRuntime) -> Result<(), Fail> {
-    let rows = [
         ("i 2024-01-05 22:30 work:a  night\n", "Open { line: 1 }"),
         (
             "i 2024-01-05 10:00 a\ni 2024-01-05 11:00 a\nx\n",
@@ -139,13 +133,6 @@ fn days_have_their_quantities(rt: HostRuntime) -> Result<(), Fail> {
             "2024-02-01\na  .5\na  0.05\na  999999999999\na  100m\na  1m\n; x\n",
             "1 738917 : 2 a 50; 3 a 5; 4 a 99999999999900; 5 a 167; 6 a 2;\n",
         ),
-    ];
-    check_timedot(&rt, rt.alloc(), &rows)
-}
-
-#[test]
-fn timedot_faults_have_their_line(rt: HostRuntime) -> Result<(), Fail> {
-    let rows = [
         ("work:a  .... ..\n", "BadLine { line: 1 }"),
         ("2024-02-30\n", "BadLine { line: 1 }"),
         ("2024-02-01 !x\n", "BadLine { line: 1 }"),
@@ -157,18 +144,4 @@ fn timedot_faults_have_their_line(rt: HostRuntime) -> Result<(), Fail> {
         ("2024-02-01\n[a]  1\n", "BadLine { line: 2 }"),
     ];
     check_timedot(&rt, rt.alloc(), &rows)
-}
-
-#[test]
-fn bytes_of_no_text_are_a_bad_line(rt: HostRuntime) -> Result<(), Fail> {
-    let answer = shown(rt.alloc(), read_timeclock(rt.alloc(), b"\n; \xff\n"))?;
-    assert!(rt; answer.as_str() == "BadLine { line: 2 }");
-    Ok(())
-}
-
-#[test]
-fn has_a_law(rt: HostRuntime) -> Result<(), Fail> {
-    seconds_sum();
-    assert!(rt; true);
-    Ok(())
 }

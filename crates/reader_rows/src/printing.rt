@@ -1,5 +1,5 @@
 //! Transactions worked out by hand.
-use book::{Amount, Book, Directive, Item, Mark, Posting, Side, Styles, Txn, Written};
+use book::{Amount, Book, Mark, Posting, Side, Styles, Txn, Written};
 use entry_reader::Context;
 use hl_base::{List, Text};
 use hl_num::Dec;
@@ -11,7 +11,7 @@ use std::test::Fail;
 /// The number of 2024-01-05.
 const DAY: u32 = 738_890;
 
-fn euros(alloc: Global, mantissa: i128, group: Option<u8>) -> Result<Amount, Fail> {
+fn euros(alloc: Global, mantissa: i128) -> Result<Amount, Fail> {
     Ok(Amount {
         symbol: Text::copied(alloc, "EUR")?,
         value: Dec::new(mantissa, 0).ok_or("within bounds")?,
@@ -19,7 +19,7 @@ fn euros(alloc: Global, mantissa: i128, group: Option<u8>) -> Result<Amount, Fai
             left: false,
             spaced: true,
             mark: None,
-            group,
+            group: None,
             first: 3,
             rest: 3,
         },
@@ -28,7 +28,7 @@ fn euros(alloc: Global, mantissa: i128, group: Option<u8>) -> Result<Amount, Fai
 
 fn posting(alloc: Global, account: &str, mantissa: i128) -> Result<Posting, Fail> {
     let mut posting = Posting::plain(alloc, 2, Side::Real, Text::copied(alloc, account)?);
-    posting.amount = Some(euros(alloc, mantissa, None)?);
+    posting.amount = Some(euros(alloc, mantissa)?);
     Ok(posting)
 }
 
@@ -49,15 +49,15 @@ fn bread(alloc: Global, day: u32, quantity: u16) -> Result<Txn, Fail> {
 }
 
 #[test]
-fn prints_a_transaction(rt: HostRuntime) -> Result<(), Fail> {
+fn prints_transactions(rt: HostRuntime) -> Result<(), Fail> {
     let alloc = rt.alloc();
-    let mut styles = Styles::new(alloc);
-    let written = euros(alloc, 1000, Some(b','))?;
-    let directive = Directive::Commodity(Text::copied(alloc, "EUR")?, Some(written));
-    styles.add_item(alloc, 0, &Item::Directive(directive))?;
-    let txn = bread(alloc, DAY, 1000)?;
+    let styles = Styles::new(alloc);
+    let txn = bread(alloc, DAY, 10)?;
+    let want = "2024-01-05 bread\n    expenses:food   10 EUR\n    assets:cash    -10 EUR\n";
     let text = print_txn(alloc, &txn, &styles, Detail::Written)?;
-    let want = "2024-01-05 bread\n    expenses:food   1,000. EUR\n    assets:cash    -1,000. EUR\n";
+    assert_eq!(rt; text.as_slice(), want.as_bytes());
+    let context = Context::start(alloc, None)?;
+    let text = print_entry(alloc, &txn, &context)?;
     assert_eq!(rt; text.as_slice(), want.as_bytes());
     Ok(())
 }
@@ -65,55 +65,20 @@ fn prints_a_transaction(rt: HostRuntime) -> Result<(), Fail> {
 #[test]
 fn prints_a_book_by_day(rt: HostRuntime) -> Result<(), Fail> {
     let alloc = rt.alloc();
+    let styles = Styles::new(alloc);
     let mut txns = Vec::new(alloc);
     txns.push(bread(alloc, DAY, 10)?)?;
     txns.push(bread(alloc, DAY - 1, 7)?)?;
     let book = Book {
         txns: List::from_vec(txns),
     };
-    let text = print_book(alloc, &book, &Styles::new(alloc), Detail::Explicit)?;
+    let text = print_book(alloc, &book, &styles, Detail::Explicit)?;
     let want =
         "2024-01-04 bread\n    expenses:food   7 EUR\n    assets:cash    -7 EUR\n\n2024-01-05 bread\n    expenses:food   10 EUR\n    assets:cash    -10 EUR\n\n";
     assert_eq!(rt; text.as_slice(), want.as_bytes());
-    Ok(())
-}
-
-#[test]
-fn prints_those_that_are_chosen(rt: HostRuntime) -> Result<(), Fail> {
-    let alloc = rt.alloc();
-    let mut txns = Vec::new(alloc);
-    txns.push(bread(alloc, DAY, 10)?)?;
-    txns.push(bread(alloc, DAY - 1, 7)?)?;
-    txns.push(bread(alloc, DAY - 1, 8)?)?;
-    let book = Book {
-        txns: List::from_vec(txns),
-    };
-    let chosen = [true, false, true];
-    let styles = Styles::new(alloc);
+    let chosen = [false, true];
     let text = print_chosen(alloc, &book, &chosen, &styles, Detail::Written)?;
-    let want =
-        "2024-01-04 bread\n    expenses:food   8 EUR\n    assets:cash    -8 EUR\n\n2024-01-05 bread\n    expenses:food   10 EUR\n    assets:cash    -10 EUR\n\n";
+    let want = "2024-01-04 bread\n    expenses:food   7 EUR\n    assets:cash    -7 EUR\n\n";
     assert_eq!(rt; text.as_slice(), want.as_bytes());
-    Ok(())
-}
-
-#[test]
-fn prints_an_entry(rt: HostRuntime) -> Result<(), Fail> {
-    let alloc = rt.alloc();
-    let mut context = Context::start(alloc, None)?;
-    context.after(alloc, &Item::Directive(Directive::DecimalMark(b',')))?;
-    let mut postings = Vec::new(alloc);
-    let mut halves = Posting::plain(alloc, 2, Side::Free, Text::copied(alloc, "a")?);
-    let mut amount = euros(alloc, 0, Some(b'.'))?;
-    amount.value = Dec::new(10005, 1).ok_or("within bounds")?;
-    halves.amount = Some(amount);
-    postings.push(halves)?;
-    let mut txn = bread(alloc, DAY, 1)?;
-    txn.postings = List::from_vec(postings);
-    let text = print_entry(alloc, &txn, &context)?;
-    assert_eq!(rt;
-        text.as_slice(),
-        b"2024-01-05 bread\n    (a)  1000,5 EUR\n".as_slice()
-    );
     Ok(())
 }
