@@ -1,4 +1,4 @@
-//! Rows of query terms, queries and options.
+//! Rows of words, terms and queries.
 #![tactic(auto)]
 
 #[cfg(test)]
