@@ -5,5 +5,3 @@
 mod commands;
 #[cfg(test)]
 mod listings;
-#[cfg(test)]
-mod registers;
