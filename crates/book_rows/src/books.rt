@@ -1,20 +1,16 @@
-//! Amounts, sums and accounts with values worked out by hand.
-ghost use Rattle.std.specs.Prelude.{◌≡◌};
-
+//! Amounts, sums, accounts and styles with values worked out by hand.
 use book::amount::{Amount, Written};
-use book::item::{Item, Placed};
+use book::item::Item;
 use book::{
-    Cause, DaySums, Directive, Fault, Mark, Mixed, Posting, Price, Side, Style, Styles, Sums, Txn,
+    Cause, Directive, Fault, Mark, Mixed, Posting, Price, Side, Style, Styles, Txn,
     compare_accounts, print_amount, print_fault, print_plain, with_symbol,
 };
-use hl_base::{Kind, List, Piece, Steps, Text};
+use hl_base::{List, Text};
 use hl_num::Dec;
 use hl_time::Day;
 use std::alloc::Global;
 use std::cmp::Ordering;
-use std::marker::Brand;
 use std::process::Abort;
-use std::sync::ledger::{Blank, Ledger};
 use std::test::Fail;
 
 fn dec(rt: &impl Abort, mantissa: i128, places: u8) -> Dec {
@@ -100,22 +96,9 @@ fn sums(rt: HostRuntime) -> Result<(), Fail> {
     let sum = entries[0].1;
     assert_eq!(rt; sum.mantissa, 175);
     assert_eq!(rt; sum.places, 2);
-    Ok(())
-}
-
-#[test]
-fn orders_accounts(rt: HostRuntime) -> Result<(), Fail> {
-    let rows = [
-        ("assets", "assets", Ordering::Equal),
-        ("assets", "assets:cash", Ordering::Less),
-        ("assets:cash", "assets-old", Ordering::Less),
-        ("b", "a:z", Ordering::Greater),
-    ];
-    for (a, b, want) in rows {
-        let a = Text::copied(rt.alloc(), a)?;
-        let b = Text::copied(rt.alloc(), b)?;
-        assert!(rt; compare_accounts(&a, &b) == want);
-    }
+    let account = Text::copied(rt.alloc(), "assets:cash")?;
+    let other = Text::copied(rt.alloc(), "assets-old")?;
+    assert!(rt; compare_accounts(&account, &other) == Ordering::Less);
     Ok(())
 }
 
@@ -146,40 +129,6 @@ fn transaction(rt: &impl Abort, alloc: Global, amounts: &[(i128, u8)]) -> Result
         tags: List::new(alloc),
         postings: List::from_vec(postings),
     })
-}
-
-#[test]
-fn tells_the_day_of_a_posting(rt: HostRuntime) -> Result<(), Fail> {
-    let txn = transaction(&rt, rt.alloc(), &[])?;
-    let mut posting = Posting::plain(rt.alloc(), 3, Side::Free, Text::new(rt.alloc()));
-    assert_eq!(rt; posting.day_in(&txn).0, 7);
-    posting.day = Some(Day(9));
-    assert_eq!(rt; posting.day_in(&txn).0, 9);
-    Ok(())
-}
-
-#[test]
-fn gathers_styles(rt: HostRuntime) -> Result<(), Fail> {
-    let piece = Piece {
-        at: 0,
-        len: 9,
-        line: 1,
-        kind: Kind::Entry,
-    };
-    let txn = transaction(&rt, rt.alloc(), &[(15, 1), (150, 2)])?;
-    let items = vec![in rt.alloc();
-        Placed {
-            piece,
-            item: Item::Txn(txn)
-        },
-    ]?;
-    let styles = Styles::of(rt.alloc(), items.as_slice())?;
-    let euro = styles.style(&Text::copied(rt.alloc(), "EUR")?);
-    assert!(rt; euro.shape.left);
-    assert_eq!(rt; euro.places, 2);
-    let other = styles.style(&Text::copied(rt.alloc(), "USD")?);
-    assert!(rt; !other.shape.left);
-    Ok(())
 }
 
 #[test]
@@ -235,85 +184,12 @@ fn tells_faults(rt: HostRuntime) -> Result<(), Fail> {
             "error: line 6: assertion: wanted -100 EUR, found -70.0 EUR\n"
         ),
     ]?;
+    let txn = transaction(&rt, alloc, &[])?;
+    let posting = Posting::plain(alloc, 3, Side::Free, Text::new(alloc));
+    assert_eq!(rt; posting.day_in(&txn).0, 7);
     for (cause, want) in rows {
         let line = print_fault(alloc, &Fault { line: 6, cause })?;
         assert!(rt; line.as_slice() == want.as_bytes());
     }
-    Ok(())
-}
-
-/// Sums of a book without transactions.
-struct NoSums;
-
-impl DaySums for NoSums {
-    ghost use Rattle.std.specs.Prelude.{[]};
-
-    ghost txns = { λ _. [] };
-
-    fn cell<L: Ledger>(
-        &self,
-        _account: &Text,
-        _symbol: &Text,
-        _end: Day,
-        _below: bool,
-        _steps: &mut Steps<L>,
-    ) -> Dec {
-        Dec::zero()
-    }
-}
-
-impl Sums for NoSums {
-    ghost use Rattle.std.specs.Prelude.{[]};
-
-    ghost txns = { λ _. [] };
-
-    ghost place = { λ _. record { day = 1; txn = 0; posting = 0 } };
-
-    fn before<L: Ledger>(
-        &self,
-        _account: &Text,
-        _symbol: &Text,
-        _below: bool,
-        _steps: &mut Steps<L>,
-    ) -> Dec {
-        Dec::zero()
-    }
-
-    fn other<L: Ledger>(
-        &self,
-        _account: &Text,
-        _symbol: &Text,
-        _below: bool,
-        _steps: &mut Steps<L>,
-    ) -> Option<&Text> {
-        None
-    }
-}
-
-/// Asks for each sum of an account.
-fn ask_sums<L: Ledger, S: DaySums + Sums>(
-    blank: Blank,
-    sums: &S,
-    account: &Text,
-    symbol: &Text,
-) -> (Dec, Dec, bool)
-    requires name { blank.name ≡ L.name }
-    requires parts { blank.parts ≡ L.parts }
-    requires three { blank.parts ≡ 3 }
-{
-    let mut steps = Steps::<L>::start(blank);
-    let steps = &mut steps;
-    let cell = sums.cell(account, symbol, Day(2), true, steps);
-    let before = sums.before(account, symbol, true, steps);
-    let other = sums.other(account, symbol, true, steps).is_some();
-    (cell, before, other)
-}
-
-#[test]
-fn an_empty_book_has_no_sums(rt: HostRuntime) -> Result<(), Fail> {
-    let account = Text::copied(rt.alloc(), "a")?;
-    let symbol = Text::copied(rt.alloc(), "EUR")?;
-    let told = ask_sums::<Brand, NoSums>(Blank::new(3), &NoSums, &account, &symbol);
-    assert!(rt; told.0.is_zero() && told.1.is_zero() && !told.2);
     Ok(())
 }

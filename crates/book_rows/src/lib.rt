@@ -8,8 +8,4 @@ mod books;
 #[cfg(test)]
 mod checking;
 #[cfg(test)]
-mod claims;
-#[cfg(test)]
-mod loading;
-#[cfg(test)]
 mod rates;

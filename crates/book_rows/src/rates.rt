@@ -5,6 +5,7 @@ use hl_num::{Dec, DivRange};
 use hl_time::Day;
 use prices::{Prices, Rate, RateRange, value};
 use std::alloc::Global;
+use std::process::Abort;
 use std::test::Fail;
 
 /// On a day one unit of a symbol is worth so many units of 10^-places of a target.
@@ -65,16 +66,6 @@ fn rate_of(
     Ok(table.rate(&Text::copied(alloc, from)?))
 }
 
-fn rate(num: i128, den: u32) -> Result<Option<Rate>, RateRange> {
-    if den == 0 {
-        return Ok(None);
-    }
-    Ok(Some(Rate {
-        num,
-        den: i128::from(den),
-    }))
-}
-
 /// A 2 EUR, EUR 4 B, C 5 A, C 7 D, D 3 EUR.
 const WORKED: [Row; 5] = [
     Row(1, "A", 2, 0, "EUR"),
@@ -83,15 +74,6 @@ const WORKED: [Row; 5] = [
     Row(1, "C", 7, 0, "D"),
     Row(1, "D", 3, 0, "EUR"),
 ];
-
-#[test]
-fn a_price_its_reverse_and_a_chain_over_the_least_symbol(rt: HostRuntime) -> Result<(), Fail> {
-    assert_eq!(rt; rate_of(rt.alloc(), &WORKED, "A", "EUR", 1)?, rate(2, 1));
-    assert_eq!(rt; rate_of(rt.alloc(), &WORKED, "B", "EUR", 1)?, rate(1, 4));
-    assert_eq!(rt; rate_of(rt.alloc(), &WORKED, "C", "EUR", 1)?, rate(10, 1));
-    assert_eq!(rt; rate_of(rt.alloc(), &WORKED, "X", "EUR", 1)?, Ok(None));
-    Ok(())
-}
 
 /// Each letter is worth two of the next.
 const LETTERS: [Row; 17] = [
@@ -114,16 +96,6 @@ const LETTERS: [Row; 17] = [
     Row(1, "q", 2, 0, "r"),
 ];
 
-#[test]
-fn a_chain_has_at_most_16_steps(rt: HostRuntime) -> Result<(), Fail> {
-    assert_eq!(rt;
-        rate_of(rt.alloc(), &LETTERS, "b", "r", 1)?,
-        rate(65_536, 1)
-    );
-    assert_eq!(rt; rate_of(rt.alloc(), &LETTERS, "a", "r", 1)?, Ok(None));
-    Ok(())
-}
-
 /// From A to T by three declared prices, or by one and one taken the other way.
 const DIAMOND: [Row; 5] = [
     Row(1, "A", 2, 0, "B"),
@@ -132,13 +104,6 @@ const DIAMOND: [Row; 5] = [
     Row(1, "A", 7, 0, "X"),
     Row(1, "T", 5, 0, "X"),
 ];
-
-#[test]
-fn declared_prices_go_before_a_shorter_chain(rt: HostRuntime) -> Result<(), Fail> {
-    assert_eq!(rt; rate_of(rt.alloc(), &DIAMOND, "A", "T", 1)?, rate(8, 1));
-    assert_eq!(rt; rate_of(rt.alloc(), &DIAMOND, "X", "T", 1)?, rate(1, 5));
-    Ok(())
-}
 
 /// Prices that change, two of one day among them, and one in itself.
 const CHANGING: [Row; 5] = [
@@ -149,48 +114,11 @@ const CHANGING: [Row; 5] = [
     Row(5, "A", 9, 0, "A"),
 ];
 
-#[test]
-fn the_latest_price_counts(rt: HostRuntime) -> Result<(), Fail> {
-    assert_eq!(rt; rate_of(rt.alloc(), &CHANGING, "A", "T", 9)?, Ok(None));
-    assert_eq!(rt; rate_of(rt.alloc(), &CHANGING, "A", "T", 10)?, rate(5, 2));
-    assert_eq!(rt; rate_of(rt.alloc(), &CHANGING, "A", "T", 29)?, rate(3, 1));
-    assert_eq!(rt; rate_of(rt.alloc(), &CHANGING, "A", "T", 30)?, rate(5, 1));
-    assert_eq!(rt; rate_of(rt.alloc(), &CHANGING, "A", "A", 30)?, rate(1, 1));
-    Ok(())
-}
-
-#[test]
-fn a_target_and_the_last_day(rt: HostRuntime) -> Result<(), Fail> {
-    let prices = Prices::new(rt.alloc(), &items_of(rt.alloc(), &CHANGING)?)?;
-    let symbol = Text::copied(rt.alloc(), "A")?;
-    assert_eq!(rt; prices.last_day(), Some(Day(30)));
-    assert!(rt; prices.default_target(&symbol, Day(4)).is_none());
-    match prices.default_target(&symbol, Day(9)) {
-        Some(target) => assert_eq!(rt; target.as_str(), "A"),
-        None => assert!(rt; false),
-    }
-    match prices.default_target(&symbol, Day(10)) {
-        Some(target) => assert_eq!(rt; target.as_str(), "T"),
-        None => assert!(rt; false),
-    }
-    Ok(())
-}
-
 /// Two prices whose product reaches 2^127.
 const GREAT: [Row; 2] = [
     Row(1, "A", 100_000_000_000_000_000_000, 0, "B"),
     Row(1, "B", 100_000_000_000_000_000_000, 0, "T"),
 ];
-
-#[test]
-fn a_product_that_is_too_great(rt: HostRuntime) -> Result<(), Fail> {
-    let so_far = RateRange {
-        num: 100_000_000_000_000_000_000,
-        den: 1,
-    };
-    assert_eq!(rt; rate_of(rt.alloc(), &GREAT, "A", "T", 1)?, Err(so_far));
-    Ok(())
-}
 
 /// Prices whose product with the last is just below 2^127, and 2^127.
 const NEAR: [Row; 3] = [
@@ -210,18 +138,6 @@ const NEAR: [Row; 3] = [
     ),
     Row(1, "C", 2, 0, "T"),
 ];
-
-#[test]
-fn a_product_just_below_the_bound_and_at_it(rt: HostRuntime) -> Result<(), Fail> {
-    let below = 170_141_183_460_469_231_731_687_303_715_884_105_726;
-    let so_far = RateRange {
-        num: 85_070_591_730_234_615_865_843_651_857_942_052_864,
-        den: 1,
-    };
-    assert_eq!(rt; rate_of(rt.alloc(), &NEAR, "A", "T", 1)?, rate(below, 1));
-    assert_eq!(rt; rate_of(rt.alloc(), &NEAR, "B", "T", 1)?, Err(so_far));
-    Ok(())
-}
 
 /// Prices whose first is 2^126: with the second, their product is past the bound before it is reduced, and their
 /// product's denominator is.
@@ -244,13 +160,124 @@ const UNREDUCED: [Row; 4] = [
     ),
 ];
 
+/// A price of zero, and one below zero.
+const SIGNED: [Row; 2] = [Row(1, "A", 0, 2, "T"), Row(1, "B", -25, 1, "T")];
+
+/// Prices, what one unit of a symbol is worth by them in a target on a day, and how much that is.
+type Asked<'a> = (
+    &'a [Row<'a>],
+    &'a str,
+    &'a str,
+    u32,
+    Result<Option<Rate>, RateRange>,
+);
+
+const ASKED: [Asked; 22] = [
+    (&WORKED, "A", "EUR", 1, Ok(Some(Rate { num: 2, den: 1 }))),
+    (&WORKED, "B", "EUR", 1, Ok(Some(Rate { num: 1, den: 4 }))),
+    (&WORKED, "C", "EUR", 1, Ok(Some(Rate { num: 10, den: 1 }))),
+    (&WORKED, "X", "EUR", 1, Ok(None)),
+    (
+        &LETTERS,
+        "b",
+        "r",
+        1,
+        Ok(Some(Rate {
+            num: 65_536,
+            den: 1,
+        })),
+    ),
+    (&LETTERS, "a", "r", 1, Ok(None)),
+    (&DIAMOND, "A", "T", 1, Ok(Some(Rate { num: 8, den: 1 }))),
+    (&DIAMOND, "X", "T", 1, Ok(Some(Rate { num: 1, den: 5 }))),
+    (&CHANGING, "A", "T", 9, Ok(None)),
+    (&CHANGING, "A", "T", 10, Ok(Some(Rate { num: 5, den: 2 }))),
+    (&CHANGING, "A", "T", 29, Ok(Some(Rate { num: 3, den: 1 }))),
+    (&CHANGING, "A", "T", 30, Ok(Some(Rate { num: 5, den: 1 }))),
+    (&CHANGING, "A", "A", 30, Ok(Some(Rate { num: 1, den: 1 }))),
+    (
+        &GREAT,
+        "A",
+        "T",
+        1,
+        Err(RateRange {
+            num: 100_000_000_000_000_000_000,
+            den: 1,
+        }),
+    ),
+    (
+        &NEAR,
+        "A",
+        "T",
+        1,
+        Ok(Some(Rate {
+            num: 170_141_183_460_469_231_731_687_303_715_884_105_726,
+            den: 1,
+        })),
+    ),
+    (
+        &NEAR,
+        "B",
+        "T",
+        1,
+        Err(RateRange {
+            num: 85_070_591_730_234_615_865_843_651_857_942_052_864,
+            den: 1,
+        }),
+    ),
+    (
+        &UNREDUCED,
+        "A",
+        "T",
+        1,
+        Err(RateRange {
+            num: 85_070_591_730_234_615_865_843_651_857_942_052_864,
+            den: 1,
+        }),
+    ),
+    (
+        &UNREDUCED,
+        "A",
+        "C",
+        1,
+        Err(RateRange {
+            num: 1,
+            den: 85_070_591_730_234_615_865_843_651_857_942_052_864,
+        }),
+    ),
+    (&SIGNED, "A", "T", 1, Ok(Some(Rate { num: 0, den: 1 }))),
+    (&SIGNED, "T", "A", 1, Ok(None)),
+    (&SIGNED, "B", "T", 1, Ok(Some(Rate { num: -5, den: 2 }))),
+    (&SIGNED, "T", "B", 1, Ok(Some(Rate { num: -2, den: 5 }))),
+];
+
+fn check(rt: &impl Abort, alloc: Global, rows: &[Asked]) -> Result<(), Fail> {
+    for (prices, from, target, day, wanted) in rows {
+        let found = rate_of(alloc, prices, from, target, *day)?;
+        assert!(rt; found == *wanted, "{from} {target} {day}");
+    }
+    Ok(())
+}
+
 #[test]
-fn a_product_is_judged_before_it_is_reduced(rt: HostRuntime) -> Result<(), Fail> {
-    let great = 85_070_591_730_234_615_865_843_651_857_942_052_864;
-    let above = RateRange { num: great, den: 1 };
-    let below = RateRange { num: 1, den: great };
-    assert_eq!(rt; rate_of(rt.alloc(), &UNREDUCED, "A", "T", 1)?, Err(above));
-    assert_eq!(rt; rate_of(rt.alloc(), &UNREDUCED, "A", "C", 1)?, Err(below));
+fn rates_are_those_of_the_least_chain(rt: HostRuntime) -> Result<(), Fail> {
+    check(&rt, rt.alloc(), &ASKED)
+}
+
+#[test]
+fn a_target_and_the_last_day(rt: HostRuntime) -> Result<(), Fail> {
+    let prices = Prices::new(rt.alloc(), &items_of(rt.alloc(), &CHANGING)?)?;
+    let symbol = Text::copied(rt.alloc(), "A")?;
+    assert_eq!(rt; prices.last_day(), Some(Day(30)));
+    assert!(rt; prices.default_target(&symbol, Day(4)).is_none());
+    match prices.default_target(&symbol, Day(9)) {
+        Some(target) => assert_eq!(rt; target.as_str(), "A"),
+        None => assert!(rt; false),
+    }
+    match prices.default_target(&symbol, Day(10)) {
+        Some(target) => assert_eq!(rt; target.as_str(), "T"),
+        None => assert!(rt; false),
+    }
     Ok(())
 }
 
@@ -263,76 +290,5 @@ fn values_are_rounded_once(rt: HostRuntime) -> Result<(), Fail> {
     let great = Dec::new(1, 36).ok_or("a number")?;
     let tiny = Rate { num: 1, den: 1_000 };
     assert_eq!(rt; value(great, tiny, 2), Err(DivRange { num: 1, den: 1_000 }));
-    Ok(())
-}
-
-/// An amount with that many places times a rate, with two decimals.
-fn worth(mantissa: i128, places: u8, rate: Rate) -> Option<Result<Dec, DivRange>> {
-    match Dec::new(mantissa, places) {
-        Some(amount) => Some(value(amount, rate, 2)),
-        None => None,
-    }
-}
-
-#[test]
-fn values_by_the_worked_rates(rt: HostRuntime) -> Result<(), Fail> {
-    let six = Dec::new(600, 2).ok_or("a number")?;
-    let half = Dec::new(50, 2).ok_or("a number")?;
-    let ten = Dec::new(1000, 2).ok_or("a number")?;
-    assert_eq!(rt; worth(3, 0, Rate { num: 2, den: 1 }), Some(Ok(six)));
-    assert_eq!(rt; worth(2, 0, Rate { num: 1, den: 4 }), Some(Ok(half)));
-    assert_eq!(rt; worth(1, 0, Rate { num: 10, den: 1 }), Some(Ok(ten)));
-    Ok(())
-}
-
-/// A price of zero, and one below zero.
-const SIGNED: [Row; 2] = [Row(1, "A", 0, 2, "T"), Row(1, "B", -25, 1, "T")];
-
-#[test]
-fn prices_of_zero_and_below(rt: HostRuntime) -> Result<(), Fail> {
-    assert_eq!(rt; rate_of(rt.alloc(), &SIGNED, "A", "T", 1)?, rate(0, 1));
-    assert_eq!(rt; rate_of(rt.alloc(), &SIGNED, "T", "A", 1)?, Ok(None));
-    assert_eq!(rt; rate_of(rt.alloc(), &SIGNED, "B", "T", 1)?, rate(-5, 2));
-    assert_eq!(rt; rate_of(rt.alloc(), &SIGNED, "T", "B", 1)?, rate(-2, 5));
-    Ok(())
-}
-
-/// Ten times this is just below 2^127, and ten times the next number just above.
-const TENTH: i128 = 17_014_118_346_046_923_173_168_730_371_588_410_572;
-
-#[test]
-fn a_denominator_at_the_bound(rt: HostRuntime) -> Result<(), Fail> {
-    let nothing = Dec::new(0, 2).ok_or("a number")?;
-    let next = TENTH + 1;
-    assert_eq!(rt; worth(1, 1, Rate { num: 1, den: TENTH }), Some(Ok(nothing)));
-    assert_eq!(rt;
-        worth(1, 1, Rate { num: 1, den: next }),
-        Some(Err(DivRange { num: 1, den: next }))
-    );
-    Ok(())
-}
-
-/// What a whole number of a symbol is worth in a target by a table, with two decimals.
-fn worth_by_table(
-    alloc: Global,
-    units: i128,
-    from: &str,
-    target: &str,
-) -> Result<Option<Result<Dec, DivRange>>, Memory> {
-    match rate_of(alloc, &WORKED, from, target, 1)? {
-        Ok(Some(rate)) => Ok(worth(units, 0, rate)),
-        _ => Ok(None),
-    }
-}
-
-#[test]
-fn worked_amounts_by_the_rates_of_a_table(rt: HostRuntime) -> Result<(), Fail> {
-    let six = Dec::new(600, 2).ok_or("a number")?;
-    let half = Dec::new(50, 2).ok_or("a number")?;
-    let ten = Dec::new(1000, 2).ok_or("a number")?;
-    assert_eq!(rt; worth_by_table(rt.alloc(), 3, "A", "EUR")?, Some(Ok(six)));
-    assert_eq!(rt; worth_by_table(rt.alloc(), 2, "B", "EUR")?, Some(Ok(half)));
-    assert_eq!(rt; worth_by_table(rt.alloc(), 1, "C", "EUR")?, Some(Ok(ten)));
-    assert_eq!(rt; worth_by_table(rt.alloc(), 1, "X", "EUR")?, None);
     Ok(())
 }
