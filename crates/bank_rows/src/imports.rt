@@ -3,7 +3,7 @@ ghost use Rattle.std.specs.Prelude.{◌<◌, ◌^◌, length};
 
 use crate::shown::{are_lines, entries_of};
 use book::Txn;
-use csv_rules::new_ones;
+use csv_rules::{import_laws, new_ones};
 use hl_base::{Latest, List, Memory, Text};
 use std::alloc::Global;
 use std::test::Fail;
@@ -35,6 +35,7 @@ fn told(state: &Option<Latest>) -> (u32, u32) {
 
 #[test]
 fn a_file_is_imported_and_a_longer_one(rt: HostRuntime) -> Result<(), Fail> {
+    import_laws();
     let alloc = rt.alloc();
     let file = "2024-03-01,rent,-500\n2024-03-02,shop,-20\n2024-03-03,pay,900\n\
         2024-03-05,shop,-7\n2024-03-05,cafe,-3\n";

@@ -2,11 +2,9 @@
 #![tactic(auto)]
 
 #[cfg(test)]
-mod continental;
+mod files;
 #[cfg(test)]
 mod imports;
-#[cfg(test)]
-mod overseas;
 #[cfg(test)]
 mod records;
 #[cfg(test)]

@@ -21,14 +21,6 @@ pub fn entries_of(alloc: Global, rules: &[u8], text: &[u8]) -> Result<List<Txn>,
     }
 }
 
-/// Whether the record with this number is refused as bad.
-pub fn is_bad_record(alloc: Global, rules: &[u8], text: &[u8], number: u64) -> bool {
-    match entries_of(alloc, rules, text) {
-        Err(ConvertFault::BadRecord { n }) => n == number,
-        _ => false,
-    }
-}
-
 /// ` | ACCOUNT AMOUNT SYMBOL`.
 fn push_posting(alloc: Global, line: &mut String, posting: &Posting) -> Result<(), Memory> {
     line.push_str(" | ")?;
