@@ -67,7 +67,7 @@ type Told = (&'static str, u64, u64);
 fn told(reply: &Reply) -> Told {
     match reply {
         Reply::Done { revision } => ("done", *revision, 0),
-        Reply::Text { revision, bytes } => ("text", *revision, bytes.len() as u64),
+        Reply::Text { revision, bytes } => ("text", *revision, bytes.as_slice().len() as u64),
         Reply::Forbidden { .. } => ("forbidden", 0, 0),
         Reply::DiskFault { before, after } => ("disk fault", *before, *after),
         _ => ("another", 0, 0),
