@@ -1,0 +1,4 @@
+pub mod Finding
+pub mod Loops
+pub mod Naming
+pub mod Neighbours

@@ -1,0 +1,4 @@
+pub mod Names
+pub mod Declarations
+pub mod Uses
+pub mod Breaks
