@@ -1,18 +1,24 @@
--- The steps of loops over declarations and names.
-use Rattle.std.proofs.Common.{◌≡◌, ℕ, ◌+◌, ◌<◌, ◌≤◌, Bool, true, false, ◌||◌, List, length, get_or, drop, map, Option, Some, None, sym, ap, subst, ◌∙◌}
+-- The steps of loops over declarations, names and lines.
+use Rattle.std.proofs.Common.{◌≡◌, ℕ, ◌+◌, ◌<◌, ◌≤◌, Bool, true, false, not, ◌&&◌, ◌||◌, List, length, get_or, drop, map, Option, Some, None, sym, ap, subst, ◌∙◌}
 use Rattle.std.specs.List.{find, flat_map, list_any}
 use Rattle.std.specs.Option.{option_map, option_to_list}
 use Rattle.std.specs.Str.{bytes_eq}
+use Rattle.std.proofs.lemmas.Bool.{false≢true}
 use Rattle.book.specs.declared.item.Placed.{Placed}
 use Rattle.book.specs.declared.transaction.Posting.{Posting}
 use Rattle.book.specs.declared.transaction.Tag.{Tag}
 use Rattle.book.specs.declared.transaction.Txn.{Txn}
+use Rattle.entry_reader.specs.Contexts.{Context}
+use Rattle.book_care.specs.Asked.{Asked, entries_in, entries_of, means_of}
 use Rattle.book_care.specs.Declarations.{declared_in, declared_of}
+use Rattle.book_care.specs.Judged.{is_bare, is_fine}
+use Rattle.book_care.specs.Lines.{Moved}
+use Rattle.book_care.specs.Reads.{reads_back}
 use Rattle.book_care.specs.Uses.{Use, amount_symbol, cost_symbol, wanted_symbol, symbols_in, head_names, in_line, lacks, is_lacking, posting_uses, tag_names, uses_in, uses_of}
 use Rattle.book_care.specs.declared.declarations.Declared.{Declared}
 use Rattle.book_care.specs.declared.faults.Check.{Check}
-use Rattle.book_care.proofs.Finding.{named_here, named_more, named_none, part_here, part_more, part_none, of_two_first, of_two_second, of_three_first, of_three_second, of_three_third, find_in_line}
-use Rattle.book_care.proofs.Naming.{any_more, any_all}
+use Rattle.book_care.proofs.Finding.{item_here, item_more, item_none, named_here, named_more, named_none, part_here, part_more, part_none, of_two_first, of_two_second, of_three_first, of_three_second, of_three_third, find_in_line}
+use Rattle.book_care.proofs.Naming.{any_more, any_all, one_more, one_all}
 
 -- ---- declarations
 
@@ -54,6 +60,51 @@ module _ (d : Declared) where
   pub txn_none : (whole : Option Use) (ts : List Txn) (i : ℕ) → whole ≡ find (is_lacking d) (uses_of d.check (drop i ts)) → length ts ≤ i → whole ≡ None
   txn_none whole ts i e le = part_none (is_lacking d) (uses_in d.check) ts i whole e le
 
+-- ---- accounts that are meant
+
+module _ (asked : Asked) (q : List ℕ) (whole old new : Bool) where
+  pub meant_more : (t : Txn) (ps : List Posting) (i : ℕ) (p : Posting) → whole ≡ (list_any (means_of asked q) (map (λ (x : Posting). (x, t)) (drop i ps)) || old) → i < length ps → p ≡ get_or ps i p → new ≡ (means_of asked q (p, t) || old) → whole ≡ (list_any (means_of asked q) (map (λ (x : Posting). (x, t)) (drop (i + 1) ps)) || new)
+  meant_more t ps i p e lt is n = one_more (λ (x : Posting). (x, t)) (means_of asked q) ps i whole old new p lt is e n
+
+  pub meant_all : (t : Txn) (ps : List Posting) (i : ℕ) → whole ≡ (list_any (means_of asked q) (map (λ (x : Posting). (x, t)) (drop i ps)) || old) → length ps ≤ i → old ≡ whole
+  meant_all t ps i e le = one_all (λ (x : Posting). (x, t)) (means_of asked q) ps i whole old new le e
+
+  pub entries_more : (ts : List Txn) (i : ℕ) (t : Txn) → whole ≡ (list_any (means_of asked q) (entries_of (drop i ts)) || old) → i < length ts → t ≡ get_or ts i t → new ≡ (list_any (means_of asked q) (entries_in t) || old) → whole ≡ (list_any (means_of asked q) (entries_of (drop (i + 1) ts)) || new)
+  entries_more ts i t e lt is n = any_more entries_in (means_of asked q) ts i whole old new t lt is e n
+
+  pub entries_all : (ts : List Txn) (i : ℕ) → whole ≡ (list_any (means_of asked q) (entries_of (drop i ts)) || old) → length ts ≤ i → old ≡ whole
+  entries_all ts i e le = any_all entries_in (means_of asked q) ts i whole old new le e
+
+-- ---- lines that can't be written
+
+module _ (whole : Option Moved) (lines : List Moved) (i : ℕ) where
+  pub renamed_here : (context : Context) (m : Moved) → whole ≡ find (λ (x : Moved). not (reads_back context x.account)) (drop i lines) → i < length lines → m ≡ get_or lines i m → not (reads_back context m.account) ≡ true → whole ≡ Some m
+  renamed_here context m e lt is b = item_here (λ (x : Moved). not (reads_back context x.account)) lines i whole e m lt is b
+
+  pub renamed_more : (context : Context) (m : Moved) → whole ≡ find (λ (x : Moved). not (reads_back context x.account)) (drop i lines) → i < length lines → m ≡ get_or lines i m → not (reads_back context m.account) ≡ false → whole ≡ find (λ (x : Moved). not (reads_back context x.account)) (drop (i + 1) lines)
+  renamed_more context m e lt is b = item_more (λ (x : Moved). not (reads_back context x.account)) lines i whole e m lt is b
+
+  pub renamed_none : (context : Context) → whole ≡ find (λ (x : Moved). not (reads_back context x.account)) (drop i lines) → length lines ≤ i → whole ≡ None
+  renamed_none context e le = item_none (λ (x : Moved). not (reads_back context x.account)) lines i whole e le
+
+  pub bare_here : (m : Moved) → whole ≡ find is_bare (drop i lines) → i < length lines → m ≡ get_or lines i m → is_bare m ≡ true → whole ≡ Some m
+  bare_here m e lt is b = item_here is_bare lines i whole e m lt is b
+
+  pub bare_more : (m : Moved) → whole ≡ find is_bare (drop i lines) → i < length lines → m ≡ get_or lines i m → is_bare m ≡ false → whole ≡ find is_bare (drop (i + 1) lines)
+  bare_more m e lt is b = item_more is_bare lines i whole e m lt is b
+
+  pub bare_none : whole ≡ find is_bare (drop i lines) → length lines ≤ i → whole ≡ None
+  bare_none e le = item_none is_bare lines i whole e le
+
+  pub fine_here : (m : Moved) → whole ≡ find is_fine (drop i lines) → i < length lines → m ≡ get_or lines i m → is_fine m ≡ true → whole ≡ Some m
+  fine_here m e lt is b = item_here is_fine lines i whole e m lt is b
+
+  pub fine_more : (m : Moved) → whole ≡ find is_fine (drop i lines) → i < length lines → m ≡ get_or lines i m → is_fine m ≡ false → whole ≡ find is_fine (drop (i + 1) lines)
+  fine_more m e lt is b = item_more is_fine lines i whole e m lt is b
+
+  pub fine_none : whole ≡ find is_fine (drop i lines) → length lines ≤ i → whole ≡ None
+  fine_none e le = item_none is_fine lines i whole e le
+
 -- ---- names of one posting and of one transaction
 
 module _ (d : Declared) where
@@ -87,3 +138,20 @@ module _ (d : Declared) where
 
   pub uses_second : (t : Txn) → find (is_lacking d) (in_line t.line (head_names d.check t)) ≡ None → find (is_lacking d) (uses_in d.check t) ≡ find (is_lacking d) (flat_map (posting_uses d.check) t.postings)
   uses_second t h = of_two_second (is_lacking d) (in_line t.line (head_names d.check t)) (flat_map (posting_uses d.check) t.postings) h
+
+-- ---- one posting that is meant, or isn't
+
+means_by : (m a old new : Bool) → m ≡ true → new ≡ (a || old) → new ≡ ((m && a) || old)
+means_by true a old new e h = h
+means_by false a old new e h = absurd (false≢true e)
+
+means_not : (m a old new : Bool) → m ≡ false → new ≡ old → new ≡ ((m && a) || old)
+means_not true a old new e h = absurd (false≢true (sym e))
+means_not false a old new e h = h
+
+module _ (asked : Asked) (q : List ℕ) (p : Posting) (t : Txn) (old new : Bool) where
+  pub meant_one : asked.means (p, t) ≡ true → new ≡ (bytes_eq q p.account || old) → new ≡ (means_of asked q (p, t) || old)
+  meant_one e h = means_by (asked.means (p, t)) (bytes_eq q p.account) old new e h
+
+  pub meant_none : asked.means (p, t) ≡ false → new ≡ old → new ≡ (means_of asked q (p, t) || old)
+  meant_none e h = means_not (asked.means (p, t)) (bytes_eq q p.account) old new e h

@@ -2,3 +2,11 @@ pub mod Names
 pub mod Declarations
 pub mod Uses
 pub mod Breaks
+pub mod Asked
+pub mod Late
+pub mod Lines
+pub mod Entries
+pub mod Reads
+pub mod Judged
+pub mod Balances
+pub mod Kept

@@ -1,0 +1,16 @@
+use Rattle.std.proofs.Common.{Bool, cond, neg_ℤ, sym, ap, ◌∙◌}
+use Rattle.hl_num.specs.Decimal.{units_of}
+use Rattle.book_care.specs.Lines.{shortest}
+use Rattle.book_care.proofs.Shortened.{units_negated}
+use Rattle.book_care.proofs.lines.signed.Goals as goal
+
+pub returns-then-turns : goal.returns-then-turns
+returns-then-turns c =
+    c.shortened.ensures
+    ∙ ap shortest (ap units_of c.negated.ensures ∙ units_negated c.args.sum)
+    ∙ sym (ap (λ (b : Bool). shortest (cond b (neg_ℤ (units_of c.args.sum)) (units_of c.args.sum))) c.if-turns.true)
+
+pub returns-else-turns : goal.returns-else-turns
+returns-else-turns c =
+    c.shortened-else-turns.ensures
+    ∙ sym (ap (λ (b : Bool). shortest (cond b (neg_ℤ (units_of c.args.sum)) (units_of c.args.sum))) c.if-turns.false)
