@@ -11,7 +11,7 @@ struct File {
     wanted: &'static [&'static str],
 }
 
-const FILES: [File; 21] = [
+const GERMAN_AMERICAN_BRITISH: [File; 3] = [
     // Five lines before the records, of which a blank one doesn't count; semicolons, decimal commas, a column of currencies,
     // and the newest record first.
     File {
@@ -49,6 +49,9 @@ const FILES: [File; 21] = [
             "2024-03-05 () Water ;  | assets:current -30.25 \u{a3} | expenses:unknown 30.25 \u{a3}",
         ],
     },
+];
+
+const FRENCH_SWEDISH_DUTCH: [File; 3] = [
     // Line ends inside quotes, and values of columns that are named.
     File {
         rules: "skip\nseparator ;\nfields date, description, debit, credit\ndecimal-mark ,\n\
@@ -81,6 +84,9 @@ const FILES: [File; 21] = [
             "2024-03-02 () koffie ; memo %0 | assets:bank 6 EUR | expenses:koffie -6 EUR",
         ],
     },
+];
+
+const DAYS_SWISS_GERMAN: [File; 3] = [
     // The days of one day's entries are turned in each run of that day alone.
     File {
         rules: "fields date, description, amount\naccount1 a\naccount2 b\nintra-day-reversed\n",
@@ -162,6 +168,9 @@ const FILES: [File; 21] = [
             "2024-02-29 () B\u{e4}ckerei Gr\u{fc}n & S\u{f6}hne | Kartenzahlung 28.02. 17:03 ;  | assets:bank:giro -12.40 EUR | expenses:food 12.40 EUR",
         ],
     },
+];
+
+const GERMAN_FRENCH_DUTCH: [File; 3] = [
     // A header with blank lines.
     File {
         rules: "skip 5\n\
@@ -260,6 +269,9 @@ const FILES: [File; 21] = [
             "2024-01-12 (GT) Jan de Vries ;  | bezit:betaal 17.50 EUR | income:unknown -17.50 EUR",
         ],
     },
+];
+
+const SWEDISH_AUSTRALIAN_BRAZILIAN: [File; 3] = [
     // The entries of each day in reversed order.
     File {
         rules: "skip 1\n\
@@ -342,6 +354,9 @@ const FILES: [File; 21] = [
             "2024-02-05 (78) TARIFA MENSAL ;  | ativos:banco -29.90 R$ | despesas:tarifas 29.90 R$",
         ],
     },
+];
+
+const INDIAN_JAPANESE_TRAVEL: [File; 3] = [
     // Withdrawals and deposits in columns of their own, groups of two digits.
     File {
         rules: "skip 1\n\
@@ -412,6 +427,9 @@ const FILES: [File; 21] = [
             "2024-07-05 () Uber   trip ;  | assets:travelcard -9.99 EUR | expenses:travel 9.99 EUR",
         ],
     },
+];
+
+const BRITISH_AMERICAN: [File; 3] = [
     // Names of months.
     File {
         rules: "skip 1\n\
@@ -510,6 +528,36 @@ fn check(rt: &impl Abort, alloc: Global, files: &[File]) -> Result<(), Fail> {
 }
 
 #[test]
-fn files_become_entries(rt: HostRuntime) -> Result<(), Fail> {
-    check(&rt, rt.alloc(), &FILES)
+fn german_american_british(rt: HostRuntime) -> Result<(), Fail> {
+    check(&rt, rt.alloc(), &GERMAN_AMERICAN_BRITISH)
+}
+
+#[test]
+fn french_swedish_dutch(rt: HostRuntime) -> Result<(), Fail> {
+    check(&rt, rt.alloc(), &FRENCH_SWEDISH_DUTCH)
+}
+
+#[test]
+fn days_swiss_german(rt: HostRuntime) -> Result<(), Fail> {
+    check(&rt, rt.alloc(), &DAYS_SWISS_GERMAN)
+}
+
+#[test]
+fn german_french_dutch(rt: HostRuntime) -> Result<(), Fail> {
+    check(&rt, rt.alloc(), &GERMAN_FRENCH_DUTCH)
+}
+
+#[test]
+fn swedish_australian_brazilian(rt: HostRuntime) -> Result<(), Fail> {
+    check(&rt, rt.alloc(), &SWEDISH_AUSTRALIAN_BRAZILIAN)
+}
+
+#[test]
+fn indian_japanese_travel(rt: HostRuntime) -> Result<(), Fail> {
+    check(&rt, rt.alloc(), &INDIAN_JAPANESE_TRAVEL)
+}
+
+#[test]
+fn british_american(rt: HostRuntime) -> Result<(), Fail> {
+    check(&rt, rt.alloc(), &BRITISH_AMERICAN)
 }
