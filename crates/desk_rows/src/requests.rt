@@ -266,8 +266,8 @@ fn is_limited(
     is_served(alloc, &whole(head.as_slice()), end, sent)
 }
 
-/// Streams, how the connection over each ends, and what is sent.
-const ROWS: [Row; 28] = [
+/// Streams that ask or are refused, and what is sent.
+const MESSAGES: [Row; 17] = [
     (b"", ConnEnd::Closed, b""),
     (GET, ConnEnd::Closed, GOT),
     (ADD, ConnEnd::Closed, ADDED),
@@ -327,6 +327,10 @@ const ROWS: [Row; 28] = [
         ConnEnd::Closed,
         NO_FORM,
     ),
+];
+
+/// Streams after whose replies the connection ends.
+const ENDS: [Row; 11] = [
     (
         b"GET /download HTTP/1.0\r\n\r\nGET /none HTTP/1.1\r\n\r\n",
         ConnEnd::Closed,
@@ -372,12 +376,21 @@ const ROWS: [Row; 28] = [
     (b"@", ConnEnd::BadHead { at: 0 }, NO_MESSAGE),
 ];
 
-/// The rows, the fronts of a request, heads of 16,384 and 16,385 bytes, and of 64 and 65 fields.
 #[test]
-fn streams(rt: HostRuntime) -> Result<(), Fail> {
+fn messages(rt: HostRuntime) -> Result<(), Fail> {
+    are_served(rt.alloc(), &MESSAGES)
+}
+
+#[test]
+fn ends(rt: HostRuntime) -> Result<(), Fail> {
+    are_served(rt.alloc(), &ENDS)?;
+    are_cut(rt.alloc(), GET)
+}
+
+/// Heads of 16,384 and 16,385 bytes, and of 64 and 65 fields.
+#[test]
+fn limits(rt: HostRuntime) -> Result<(), Fail> {
     let alloc = rt.alloc();
-    are_served(alloc, &ROWS)?;
-    are_cut(alloc, GET)?;
     let long = b"GET /none HTTP/1.1\r\na:";
     is_limited(alloc, long, b"x", 16_358, (ConnEnd::Closed, NO_PATH))?;
     is_limited(alloc, long, b"x", 16_359, (ConnEnd::HeadTooLong, LONG_HEAD))?;
