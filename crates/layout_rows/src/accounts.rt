@@ -26,19 +26,18 @@ fn two_columns(alloc: Global) -> Result<List<Span>, Memory>
     Ok(List::from_vec(columns))
 }
 
-/// A taking of so many hundredths.
-fn taking<'a>(
-    account: &'a str,
-    day: u32,
-    symbol: &'a Text,
-    cents: i128,
-) -> Result<Taking<'a>, Fail> {
-    let value = Dec::new(cents, 2).ok_or("within bounds")?;
-    Ok(Taking {
+/// A taking with an amount.
+fn taking<'a>(account: &'a str, day: u32, symbol: &'a Text, value: Dec) -> Taking<'a> {
+    Taking {
         account,
         day: Day(day),
         amount: Some(Share { symbol, value }),
-    })
+    }
+}
+
+/// A number of hundredths.
+fn cents(mantissa: i128) -> Result<Dec, Fail> {
+    Ok(Dec::new(mantissa, 2).ok_or("within bounds")?)
 }
 
 /// The rows of takings, each column counting its own days.
@@ -59,11 +58,11 @@ fn some_rows(alloc: Global) -> Result<List<CellRow>, Fail>
     let euro = Text::copied(alloc, "EUR")?;
     let dollar = Text::copied(alloc, "USD")?;
     let takings = [
-        taking("assets:bank:checking", 11, &euro, 1051)?,
-        taking("assets:cash", 12, &euro, 500)?,
-        taking("assets:cash", 13, &euro, -500)?,
-        taking("assets:bank", 21, &euro, 501)?,
-        taking("expenses:food", 13, &dollar, 303)?,
+        taking("assets:bank:checking", 11, &euro, cents(1051)?),
+        taking("assets:cash", 12, &euro, cents(500)?),
+        taking("assets:cash", 13, &euro, cents(-500)?),
+        taking("assets:bank", 21, &euro, cents(501)?),
+        taking("expenses:food", 13, &dollar, cents(303)?),
     ];
     let rows = rows_of(alloc, &takings)?;
     Ok(rows)
