@@ -1,0 +1,5 @@
+mod Answering
+mod Checking
+mod Closings
+mod Contexts
+mod Loading

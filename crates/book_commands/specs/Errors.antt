@@ -1,0 +1,86 @@
+-- The lines that are written to the error output.
+use Rattle.std.specs.Prelude.{ℕ, List, ◌++◌, codes}
+use Rattle.std.specs.Fmt.{decimal}
+use Rattle.book.specs.declared.fault.Cause.{Cause}
+use Rattle.book.specs.declared.fault.Cause.TheVariants.{TooLong}
+use Rattle.book.specs.FaultLine.{ended}
+use Rattle.report_cells.specs.declared.fault.ReportFault.{ReportFault}
+use Rattle.report_cells.specs.declared.fault.ReportFault.TheVariants as report_fault
+use Rattle.report_commands.specs.declared.fault.WordsFault.{WordsFault}
+use Rattle.report_commands.specs.declared.fault.WordsFault.TheVariants as words_fault
+
+-- no command
+abbrev pub usage_line : List ℕ
+usage_line = ended (codes "error: usage")
+
+-- a line that ends with what is wrong
+abbrev pub line_with : List ℕ → List ℕ → List ℕ
+line_with front word = ended (front ++ word)
+
+-- a word that has no place
+abbrev pub usage_word_line : List ℕ → List ℕ
+usage_word_line word = line_with (codes "error: usage: ") word
+
+-- two words that exclude each other
+abbrev pub conflict_line : List ℕ → List ℕ → List ℕ
+conflict_line a b = ended (codes "error: usage: " ++ a ++ codes " with " ++ b)
+
+-- a word that is no term of a query, and one of which a pattern isn't built
+abbrev pub term_line : List ℕ → List ℕ
+term_line word = line_with (codes "error: term: ") word
+
+abbrev pub pattern_line : List ℕ → List ℕ
+pattern_line word = line_with (codes "error: pattern: ") word
+
+-- a symbol whose amounts are out of range
+abbrev pub range_line : List ℕ → List ℕ
+range_line symbol = line_with (codes "error: range: ") symbol
+
+-- a count past its limit
+abbrev pub limit_line : ℕ → ℕ → List ℕ
+limit_line count limit = ended (codes "error: limit: " ++ decimal count ++ codes " of " ++ decimal limit)
+
+-- a name under which there is no file
+abbrev pub absent_line : List ℕ → List ℕ
+absent_line name = line_with (codes "error: absent: ") name
+
+abbrev pub read_fault_line : List ℕ
+read_fault_line = ended (codes "error: read fault")
+
+abbrev pub write_fault_line : List ℕ
+write_fault_line = ended (codes "error: write fault")
+
+abbrev pub connection_line : List ℕ
+connection_line = ended (codes "error: connection")
+
+abbrev pub memory_line : List ℕ
+memory_line = ended (codes "error: memory")
+
+-- the exit status of a text with a fault: 7 where an entry is too long, else 1
+abbrev pub fault_status : Cause → ℕ
+fault_status TooLong = 7
+fault_status _ = 1
+
+-- why a report can't be made
+abbrev pub report_line : ReportFault → List ℕ
+report_line (report_fault.Range symbol) = range_line symbol
+report_line (report_fault.TooWide columns limit) = limit_line columns limit
+report_line report_fault.Memory = memory_line
+
+abbrev pub words_line : WordsFault → List ℕ
+words_line (words_fault.NoCommand word) = usage_word_line word
+words_line (words_fault.BadOption word) = usage_word_line word
+words_line (words_fault.Conflict a b) = conflict_line a b
+words_line (words_fault.BadTerm word) = term_line word
+words_line (words_fault.PatternRefused word) = pattern_line word
+words_line (words_fault.Report fault) = report_line fault
+words_line words_fault.Memory = memory_line
+
+-- the exit status of a report that isn't made: 7 where it has too many columns, else 1
+abbrev pub report_status : ReportFault → ℕ
+report_status (report_fault.TooWide columns limit) = 7
+report_status _ = 1
+
+abbrev pub words_status : WordsFault → ℕ
+words_status (words_fault.Report fault) = report_status fault
+words_status _ = 1

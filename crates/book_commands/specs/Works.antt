@@ -1,0 +1,143 @@
+-- What each command answers to a text.
+use Rattle.std.specs.Prelude.{ℕ, Bool, List, [], ◌∷◌, ◌++◌, Option, Some, None, Result, Ok, Err}
+use Rattle.std.specs.List.{flat_map}
+use Rattle.std.specs.Option.{option_or}
+use Rattle.book.specs.declared.item.Book.{Book}
+use Rattle.book.specs.declared.item.Placed.{Placed}
+use Rattle.book.specs.declared.transaction.Txn.{Txn}
+use Rattle.book_care.specs.Asked.{Asked as Closed}
+use Rattle.book_care.specs.Breaks.{first_fault}
+use Rattle.book_care.specs.Entries.{made}
+use Rattle.book_care.specs.Judged.{first_cause}
+use Rattle.book_care.specs.Reads.{context_at_end}
+use Rattle.book_care.specs.declared.faults.Check.{Check}
+use Rattle.book_care.specs.declared.faults.CloseFault.{CloseFault}
+use Rattle.book_care.specs.declared.faults.StrictFault.{StrictFault}
+use Rattle.entry_reader.specs.Contexts.{Context, context_of}
+use Rattle.entry_reader.specs.Lines.{contents_of}
+use Rattle.journal_printer.specs.Entries.{entry_shape}
+use Rattle.journal_printer.specs.Layout.{txn_text}
+use Rattle.journal_printer.specs.declared.detail.Detail.TheVariants as detail
+use Rattle.query.specs.Words.{terms_mean}
+use Rattle.query_terms.specs.Reading.{terms_of}
+use Rattle.query_terms.specs.declared.kinds.Term.{Term}
+use Rattle.report_commands.specs.Matters.{letters_in}
+use Rattle.report_commands.specs.Reports.{Report, answer_over}
+use Rattle.report_commands.specs.declared.asked.Asked.{Asked}
+use Rattle.report_options.specs.Options.{IsValid}
+use Rattle.time_logs.specs.Timeclock.{timeclock}
+use Rattle.time_logs.specs.Timedot.{timedot}
+use Rattle.time_logs.specs.declared.faults.LogFault.{LogFault}
+use Rattle.book_commands.specs.Errors.{term_line, words_line, words_status}
+use Rattle.book_commands.specs.FaultLines.{close_line, log_line, log_status, strict_line}
+use Rattle.book_commands.specs.Outcomes.{Judged, Outcome, refused, written}
+use Rattle.book_commands.specs.Texts.{judged_text}
+use Rattle.book_commands.specs.declared.work.CloseAsked.{CloseAsked}
+use Rattle.book_commands.specs.declared.work.LogForm.{LogForm}
+use Rattle.book_commands.specs.declared.work.LogForm.TheVariants as forms
+use Rattle.book_commands.specs.declared.work.Work.{Work}
+use Rattle.book_commands.specs.declared.work.Work.TheVariants as works
+
+-- ---- transactions as the text of a journal
+
+-- a transaction as an entry that is read in a context, and an empty line
+abbrev pub entry_text : Context → Txn → List ℕ
+entry_text context txn = txn_text (entry_shape context) detail.Written txn ++ (10 ∷ [])
+
+abbrev pub entries_text : Context → List Txn → List ℕ
+entries_text context txns = flat_map (entry_text context) txns
+
+-- ---- reports
+
+-- what is written of a report, or of why there is none
+abbrev pub report_outcome : Report → Outcome
+report_outcome (Ok text) = written text
+report_outcome (Err fault) = refused (words_status fault) (words_line fault)
+
+unfoldable pub report_made : Asked → ℕ → List Placed → Book → Outcome
+report_made asked day items book = report_outcome (answer_over asked day items book)
+
+-- ---- hours
+
+-- the context of a text without directives
+abbrev pub plain_context : Context
+plain_context = context_of None []
+
+-- the transactions of a log, in its order, or its first fault
+abbrev pub log_txns : LogForm → List (List ℕ) → Result (List Txn) LogFault
+log_txns forms.Clock lines = timeclock lines
+log_txns forms.Dot lines = timedot lines
+
+abbrev pub hours_outcome : Result (List Txn) LogFault → Outcome
+hours_outcome (Ok txns) = written (entries_text plain_context txns)
+hours_outcome (Err fault) = refused (log_status fault) (log_line fault)
+
+unfoldable pub hours_made : LogForm → List ℕ → Outcome
+hours_made form text = hours_outcome (log_txns form (contents_of text))
+
+-- ---- strict checks
+
+-- what the first check that fails says, in their order
+abbrev pub first_broken : List Check → List Placed → List Txn → Option StrictFault
+first_broken [] items txns = None
+first_broken (check ∷ checks) items txns = option_or (first_fault check items txns) (first_broken checks items txns)
+
+abbrev pub strict_outcome : Option StrictFault → Outcome
+strict_outcome None = written []
+strict_outcome (Some fault) = refused 1 (strict_line fault)
+
+unfoldable pub strict_made : List Check → List Placed → Book → Outcome
+strict_made checks items book = strict_outcome (first_broken checks items book.txns)
+
+-- ---- closing entries
+
+-- what is asked to be closed, by the terms of a query
+abbrev pub closed_over : CloseAsked → List Placed → Book → List Term → Closed
+closed_over asked items book terms = record {
+  items = items;
+  txns = book.txns;
+  means = λ entry. terms_mean terms (letters_in items) entry.0 entry.1;
+  on = asked.on;
+  into = asked.into;
+}
+
+-- the text of the two entries, if there are any
+abbrev pub pair_text : Context → Option (Txn × Txn) → List ℕ
+pair_text context None = []
+pair_text context (Some entries) = entry_text context entries.0 ++ entry_text context entries.1
+
+abbrev pub close_outcome : Context → Option (Txn × Txn) → Option CloseFault → Outcome
+close_outcome context entries None = written (pair_text context entries)
+close_outcome context entries (Some fault) = refused 1 (close_line fault)
+
+-- the entries of what is closed, or the first cause against them
+abbrev pub closing_outcome : Closed → Outcome
+closing_outcome closed = close_outcome (context_at_end closed.items) (made closed) (first_cause closed)
+
+abbrev pub close_by : CloseAsked → List Placed → Book → Result (List Term) (List ℕ) → Outcome
+close_by asked items book (Ok terms) = closing_outcome (closed_over asked items book terms)
+close_by asked items book (Err word) = refused 1 (term_line word)
+
+unfoldable pub close_made : CloseAsked → ℕ → List Placed → Book → Outcome
+close_made asked day items book = close_by asked items book (terms_of day asked.words)
+
+-- ---- all commands
+
+-- What is judged of a text on a day.
+abbrev pub judge : ℕ → Work → List ℕ → Judged
+judge day (works.Report asked) text = judged_text (report_made asked day) day text
+judge day (works.Hours form) text = Ok (hours_made form text)
+judge day (works.Strict checks) text = judged_text (strict_made checks) day text
+judge day (works.Close asked) text = judged_text (close_made asked day) day text
+
+-- the words of which a pattern may be refused
+abbrev pub words_of : Work → List (List ℕ)
+words_of (works.Report asked) = asked.words
+words_of (works.Hours form) = []
+words_of (works.Strict checks) = []
+words_of (works.Close asked) = asked.words
+
+-- the options of a report are valid
+abbrev pub IsWorkable : Work → Type 0
+IsWorkable (works.Report asked) = IsValid asked.options
+IsWorkable other = Unit {0}

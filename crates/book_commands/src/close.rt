@@ -1,0 +1,129 @@
+//! The entries that close accounts and open them again, as text.
+ghost use Rattle.std.specs.Prelude.{◌≡◌, ◌≢◌, ◌≤◌, ◌<◌, ℕ, List, Ok, Err, IfOk, length};
+ghost use Rattle.hl_time.specs.Calendar.{IsDay, last_day};
+ghost use Rattle.book.specs.Bounds.{TurnoverFits};
+ghost use Rattle.book.specs.Postings.{postings_of};
+ghost use Rattle.book_care.specs.Reads as reads;
+ghost use Rattle.book.specs.declared.item.Book.{Book};
+ghost use Rattle.book.specs.declared.item.Placed.{Placed};
+ghost use Rattle.query.specs.Made.{IsQueryOf};
+ghost use Rattle.book_commands.specs.Answers.{Finds, IsOfReport, IsQuiet, TellsMaker, told_by};
+ghost use Rattle.book_commands.specs.Closed.{IsClosingOf};
+ghost use Rattle.book_commands.specs.Texts.{judged_text};
+ghost use Rattle.book_commands.specs.Works as spec;
+ghost use Rattle.book_commands.specs.declared.work.CloseAsked.{CloseAsked as CloseAskedOf};
+
+use crate::context_end::context_at_end;
+use crate::entries::pair_text;
+use crate::errors::refuse_report;
+use crate::fault_lines::refuse_close;
+use crate::journal::{Kept, load_kept};
+use crate::refusal::Refusal;
+use crate::work::CloseAsked;
+use book::Txn;
+use book_care::{Closing, close_entries};
+use hl_base::{Bytes, Memory, Steps};
+use hl_time::Day;
+use query::{Maker, Query, Types, make_query};
+use report_commands::WordsFault;
+use std::alloc::Global;
+use std::sync::ledger::Ledger;
+
+/// The entries as they are read at the end of the text.
+fn closing_text(
+    alloc: Global,
+    closing: &Closing,
+    entries: &Option<(Txn, Txn)>,
+) -> Result<Bytes, Memory>
+    ensures { IfOk result (λ text.
+        text ≡ spec.pair_text (reads.context_at_end closing.now.items.now) entries.now) }
+{
+    let context = context_at_end(alloc, closing.items.as_slice())?;
+    pair_text(alloc, &context, entries)
+}
+
+/// What is answered of what is closed: the entries, or why they can't be made.
+fn answer_closing(alloc: Global, closing: &Closing) -> Result<Bytes, Refusal>
+    requires fits { TurnoverFits (postings_of closing.now.book.now.txns) }
+    requires day { closing.now.on.0 < last_day }
+    ensures found { (asked : CloseAskedOf) (day : ℕ) (items : List Placed) (book : Book)
+        → IsClosingOf asked day items book closing.now
+        → Finds result (Ok (spec.close_made asked day items book)) }
+    ensures kind { IsOfReport result }
+    ensures quiet { IsQuiet result }
+{
+    match close_entries(alloc, closing) {
+        Ok(entries) => Ok(closing_text(alloc, closing, &entries)?),
+        Err(fault) => Err(refuse_close(alloc, &fault)),
+    }
+}
+
+/// What is asked to be closed of a journal, by the query of its words.
+fn close_by(
+    alloc: Global,
+    asked: &CloseAsked,
+    kept: &Kept,
+    day: Day,
+    query: &Query,
+) -> Result<Bytes, Refusal>
+    requires fits { TurnoverFits (postings_of kept.now.book.txns) }
+    requires query { IsQueryOf day.0 asked.now.words query.now }
+    ensures found { Finds result (Ok (spec.close_made asked.now day.0 kept.now.items kept.now.book)) }
+    ensures kind { IsOfReport result }
+    ensures quiet { IsQuiet result }
+{
+    let types = Types::new(alloc, &kept.items)?;
+    let closing = Closing {
+        items: &kept.items,
+        book: &kept.book,
+        query,
+        types: &types,
+        on: asked.on.day(),
+        into: &asked.into,
+    };
+    answer_closing(alloc, &closing)
+}
+
+/// What is asked to be closed of a journal, on a day: the query of its words is made first.
+fn close_kept<M: Maker>(
+    alloc: Global,
+    asked: &CloseAsked,
+    kept: &Kept,
+    day: Day,
+    maker: &mut M,
+) -> Result<Bytes, Refusal>
+    requires day { IsDay day.0 }
+    requires fits { TurnoverFits (postings_of kept.now.book.txns) }
+    ensures found { Finds result (Ok (spec.close_made asked.now day.0 kept.now.items kept.now.book)) }
+    ensures kind { IsOfReport result }
+    ensures read { result ≢ Err Refusal.ReadFault }
+    ensures maker { TellsMaker day.0 asked.now.words (told_by M.Maker maker.old maker.new) result }
+{
+    match make_query(alloc, asked.words.as_slice(), day, maker) {
+        Ok(query) => close_by(alloc, asked, kept, day, &query),
+        Err(fault) => Err(refuse_report(alloc, WordsFault::from(fault))),
+    }
+}
+
+/// What is asked to be closed of a text, on a day.
+pub(crate) fn close_on<M: Maker, L: Ledger>(
+    alloc: Global,
+    asked: &CloseAsked,
+    text: &[u8],
+    day: Day,
+    maker: &mut M,
+    steps: &mut Steps<L>,
+) -> Result<Bytes, Refusal>
+    requires size { length text.now ≤ 16777216 }
+    requires day { IsDay day.0 }
+    ensures found { Finds result (judged_text (spec.close_made asked.now day.0) day.0 text.now) }
+    ensures kind { IsOfReport result }
+    ensures read { result ≢ Err Refusal.ReadFault }
+    ensures maker { TellsMaker day.0 asked.now.words (told_by M.Maker maker.old maker.new) result }
+{
+    let kept = load_kept(alloc, text, day, steps)?;
+    let found = close_kept(alloc, asked, &kept, day, maker);
+    // The program ends after its answer, so a large journal isn't taken apart first.
+    std::mem::forget(kept);
+    found
+}

@@ -1,0 +1,176 @@
+//! What a text makes that is loaded.
+ghost use Rattle.std.specs.Prelude.{◌≡◌, ◌≤◌, Some, Ok, false, IfOk, IfErr, OnOk, nat_lt, length};
+ghost use Rattle.hl_base.specs.Items.{items_of};
+ghost use Rattle.hl_time.specs.Calendar.{IsDay, year_of};
+ghost use Rattle.book.specs.Bounds.{TurnoverFits};
+ghost use Rattle.book.specs.Postings.{postings_of};
+ghost use Rattle.balancing.specs.Load.{load};
+ghost use Rattle.journal_reader.specs.Items.{items_in};
+ghost use Rattle.journal_reader.specs.Whole.{AreWithin};
+ghost use Rattle.book_commands.specs.Answers.{RefusesText};
+ghost use Rattle.book_commands.specs.Journals.{IsBookIn, IsJournalIn, IsJournalOf, IsKeptOf};
+ghost use Rattle.book_commands.specs.Texts.{Making, judged_text, made_loaded, made_read, most_items};
+
+use crate::errors::{past_limit, refuse_fault};
+use crate::refusal::Refusal;
+use balancing::{CheckFault, check};
+use book::{Book, Items, Styles};
+use hl_base::{Piece, Steps, cut_items};
+use hl_time::{Day, civil_of};
+use journal_reader::{ReadFault, read_items};
+use prices::Prices;
+use query::Types;
+use std::alloc::Global;
+use std::sync::ledger::Ledger;
+
+/// The most items that a text may have.
+const MOST_ITEMS: u64 = 200_000;
+
+/// What the items of a text make: their book, and the styles, types of accounts and prices that they say.
+#[derive(Drop)]
+pub(crate) struct Journal {
+    pub book: Book,
+    pub styles: Styles,
+    pub types: Types,
+    pub prices: Prices,
+}
+
+/// The items of a text and their book.
+#[derive(Drop)]
+pub(crate) struct Kept {
+    pub items: Items,
+    pub book: Book,
+}
+
+/// The items of a text, with a year for dates without one.
+fn read<L: Ledger>(
+    alloc: Global,
+    text: &[u8],
+    pieces: &[Piece],
+    year: u16,
+    steps: &mut Steps<L>,
+) -> Result<Items, Refusal>
+    requires pieces { pieces.now ≡ items_of text.now }
+    requires within { AreWithin text.now pieces.now }
+    ensures items { IfOk result (λ items. items_in (Some year) text.now ≡ Ok items) }
+    ensures refused { IfErr result (λ r. (make : Making)
+        → RefusesText r (made_read make (items_in (Some year) text.now))) }
+{
+    match read_items(alloc, text, pieces, Some(year), steps) {
+        Ok(items) => Ok(items),
+        Err(ReadFault::Read(fault)) => Err(refuse_fault(alloc, &fault)),
+        Err(ReadFault::Memory) => Err(Refusal::Memory),
+    }
+}
+
+/// The book of a text's items.
+fn make_book(alloc: Global, items: Items) -> Result<Book, Refusal>
+    ensures book { IfOk result (λ book. load items ≡ Ok book) }
+    ensures fits { IfOk result (λ book. TurnoverFits (postings_of book.txns)) }
+    ensures refused { IfErr result (λ r. (make : Making)
+        → RefusesText r (made_loaded make items (load items))) }
+{
+    match check(alloc, items) {
+        Ok(book) => Ok(book),
+        Err(CheckFault::Journal(fault)) => Err(refuse_fault(alloc, &fault)),
+        Err(CheckFault::Memory) => Err(Refusal::Memory),
+    }
+}
+
+/// The items of a text within the limit of bytes, with the day's year for dates without one.
+fn load_items<L: Ledger>(
+    alloc: Global,
+    text: &[u8],
+    day: Day,
+    steps: &mut Steps<L>,
+) -> Result<Items, Refusal>
+    requires size { length text.now ≤ 16777216 }
+    requires day { IsDay day.0 }
+    ensures few { OnOk result (nat_lt most_items (length (items_of text.now)) ≡ false) }
+    ensures items { IfOk result (λ items. items_in (Some (year_of day.0)) text.now ≡ Ok items) }
+    ensures refused { IfErr result (λ r. (make : Making)
+        → RefusesText r (judged_text make day.0 text.now)) }
+{
+    let pieces = cut_items(alloc, text)?;
+    let count = pieces.len() as u64;
+    if count > MOST_ITEMS {
+        let line = past_limit(alloc, count, MOST_ITEMS)?;
+        return Err(Refusal::Line { status: 7, line });
+    }
+    let year = civil_of(day).year;
+    read(alloc, text, pieces.as_slice(), year, steps)
+}
+
+/// What a text's items make. Balancing takes the items, so their book is made last.
+fn make_journal(alloc: Global, items: Items) -> Result<Journal, Refusal>
+    ensures made { IfOk result (λ journal. IsJournalOf items journal) }
+    ensures refused { IfErr result (λ r. (make : Making)
+        → RefusesText r (made_loaded make items (load items))) }
+{
+    let styles = Styles::of(alloc, items.as_slice())?;
+    let types = Types::new(alloc, &items)?;
+    let prices = Prices::new(alloc, &items)?;
+    let book = make_book(alloc, items)?;
+    Ok(Journal {
+        book,
+        styles,
+        types,
+        prices,
+    })
+}
+
+/// What a text within the limit of bytes makes, with the day's year for dates without one.
+pub(crate) fn load_journal<L: Ledger>(
+    alloc: Global,
+    text: &[u8],
+    day: Day,
+    steps: &mut Steps<L>,
+) -> Result<Journal, Refusal>
+    requires size { length text.now ≤ 16777216 }
+    requires day { IsDay day.0 }
+    ensures few { OnOk result (nat_lt most_items (length (items_of text.now)) ≡ false) }
+    ensures journal { IfOk result (λ journal. IsJournalIn day.0 text.now journal) }
+    ensures refused { IfErr result (λ r. (make : Making)
+        → RefusesText r (judged_text make day.0 text.now)) }
+{
+    let items = load_items(alloc, text, day, steps)?;
+    make_journal(alloc, items)
+}
+
+/// The book of a text within the limit of bytes, with the day's year for dates without one.
+fn load_book<L: Ledger>(
+    alloc: Global,
+    text: &[u8],
+    day: Day,
+    steps: &mut Steps<L>,
+) -> Result<Book, Refusal>
+    requires size { length text.now ≤ 16777216 }
+    requires day { IsDay day.0 }
+    ensures few { OnOk result (nat_lt most_items (length (items_of text.now)) ≡ false) }
+    ensures book { IfOk result (λ book. IsBookIn day.0 text.now book) }
+    ensures refused { IfErr result (λ r. (make : Making)
+        → RefusesText r (judged_text make day.0 text.now)) }
+{
+    let items = load_items(alloc, text, day, steps)?;
+    make_book(alloc, items)
+}
+
+/// The items of a text within the limit of bytes, with the day's year for dates without one, and their book. It is read
+/// once for the book, which takes its items, and once for those that are kept.
+pub(crate) fn load_kept<L: Ledger>(
+    alloc: Global,
+    text: &[u8],
+    day: Day,
+    steps: &mut Steps<L>,
+) -> Result<Kept, Refusal>
+    requires size { length text.now ≤ 16777216 }
+    requires day { IsDay day.0 }
+    ensures few { OnOk result (nat_lt most_items (length (items_of text.now)) ≡ false) }
+    ensures kept { IfOk result (λ kept. IsKeptOf day.0 text.now kept) }
+    ensures refused { IfErr result (λ r. (make : Making)
+        → RefusesText r (judged_text make day.0 text.now)) }
+{
+    let book = load_book(alloc, text, day, steps)?;
+    let items = load_items(alloc, text, day, steps)?;
+    Ok(Kept { items, book })
+}

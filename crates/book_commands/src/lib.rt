@@ -1,0 +1,21 @@
+//! What the commands over a text answer: the reports, the hours of a time log, strict checks, and closing entries. A text
+//! goes in, and what is to be written comes out, or the line that says why there is nothing.
+#![tactic(auto)]
+
+mod close;
+mod context_end;
+mod entries;
+mod errors;
+mod fault_lines;
+mod hours;
+mod journal;
+mod law;
+mod refusal;
+mod report;
+mod strict_checks;
+mod work;
+
+pub use errors::{absent, no_command, past_limit, words_line};
+pub use law::report_judged;
+pub use refusal::Refusal;
+pub use work::{CloseAsked, ClosingDay, LogForm, Work, answer_text};

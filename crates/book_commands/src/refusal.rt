@@ -1,0 +1,35 @@
+//! Why a command gives no output.
+ghost use Rattle.std.specs.Prelude.{◌≡◌};
+ghost use Rattle.book_commands.specs.declared.refusal.Refusal.TheVariants.{Memory};
+
+use hl_base::{Bytes, Text};
+use std::alloc::AllocError;
+
+/// Why a command gives no output.
+#[derive(Debug, Drop)]
+pub enum Refusal {
+    /// It is refused, with an exit status and the line that says why.
+    Line { status: u8, line: Bytes },
+    /// A pattern of a word isn't built, with the line that says so.
+    Pattern { word: Text, line: Bytes },
+    /// The input or the file couldn't be read.
+    ReadFault,
+    /// Memory ran out.
+    Memory,
+}
+
+impl From<hl_base::Memory> for Refusal {
+    ghost from_gives = { λ _ e. e ≡ Memory };
+
+    fn from(_memory: hl_base::Memory) -> Refusal {
+        Refusal::Memory
+    }
+}
+
+impl From<AllocError> for Refusal {
+    ghost from_gives = { λ _ e. e ≡ Memory };
+
+    fn from(_error: AllocError) -> Refusal {
+        Refusal::Memory
+    }
+}

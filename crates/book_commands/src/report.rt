@@ -1,0 +1,73 @@
+//! The answer of a report to a text.
+ghost use Rattle.std.specs.Prelude.{◌≡◌, ◌≢◌, ◌≤◌, List, Ok, Err, length};
+ghost use Rattle.hl_time.specs.Calendar.{IsDay};
+ghost use Rattle.book.specs.declared.item.Placed.{Placed};
+ghost use Rattle.report_options.specs.Options.{IsValid};
+ghost use Rattle.book_commands.specs.Answers.{Finds, IsOfReport, TellsMaker, told_by};
+ghost use Rattle.book_commands.specs.Journals.{IsJournalOf};
+ghost use Rattle.book_commands.specs.Texts.{judged_text};
+ghost use Rattle.book_commands.specs.Works.{report_made};
+
+use crate::errors::refuse_report;
+use crate::journal::{Journal, load_journal};
+use crate::refusal::Refusal;
+use hl_base::{Bytes, Steps};
+use hl_time::Day;
+use query::Maker;
+use report_commands::{Asked, Material, report_of};
+use std::alloc::Global;
+use std::sync::ledger::Ledger;
+
+/// What is asked of a journal, on a day, over any items that make it.
+fn report_journal<M: Maker>(
+    alloc: Global,
+    asked: &Asked,
+    journal: &Journal,
+    day: Day,
+    maker: &mut M,
+) -> Result<Bytes, Refusal>
+    requires day { IsDay day.0 }
+    requires valid { IsValid asked.now.options }
+    ensures found { (items : List Placed) → IsJournalOf items journal.now
+        → Finds result (Ok (report_made asked.now day.0 items journal.now.book)) }
+    ensures kind { IsOfReport result }
+    ensures read { result ≢ Err Refusal.ReadFault }
+    ensures maker { (items : List Placed) → IsJournalOf items journal.now
+        → TellsMaker day.0 asked.now.words (told_by M.Maker maker.old maker.new) result }
+{
+    let material = Material {
+        book: &journal.book,
+        styles: &journal.styles,
+        types: &journal.types,
+        prices: &journal.prices,
+        day,
+    };
+    match report_of(alloc, asked, &material, maker) {
+        Ok(text) => Ok(text),
+        Err(fault) => Err(refuse_report(alloc, fault)),
+    }
+}
+
+/// What is asked of a text, on a day.
+pub(crate) fn report_on<M: Maker, L: Ledger>(
+    alloc: Global,
+    asked: &Asked,
+    text: &[u8],
+    day: Day,
+    maker: &mut M,
+    steps: &mut Steps<L>,
+) -> Result<Bytes, Refusal>
+    requires size { length text.now ≤ 16777216 }
+    requires day { IsDay day.0 }
+    requires valid { IsValid asked.now.options }
+    ensures found { Finds result (judged_text (report_made asked.now day.0) day.0 text.now) }
+    ensures kind { IsOfReport result }
+    ensures read { result ≢ Err Refusal.ReadFault }
+    ensures maker { TellsMaker day.0 asked.now.words (told_by M.Maker maker.old maker.new) result }
+{
+    let journal = load_journal(alloc, text, day, steps)?;
+    let found = report_journal(alloc, asked, &journal, day, maker);
+    // The program ends after its report, so a large journal isn't taken apart first.
+    std::mem::forget(journal);
+    found
+}
