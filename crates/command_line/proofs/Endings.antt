@@ -2,14 +2,15 @@
 use Rattle.std.proofs.Common.{◌≡◌, ◌≢◌, inl, inr, ℕ, ◌++◌, List, [], ◌∷◌, Option, Some, None, Result, Ok, Err, IfSome, IsSome, length, refl, ap, sym, ◌∙◌, subst, arith, append-nil}
 use Rattle.hl_base.specs.Causes.{Rose}
 use Rattle.query.specs.Building.{IsOneOf}
-use Rattle.report_commands.specs.Reports.{Report}
-use Rattle.command_line.specs.declared.refusal.Refusal.{Refusal}
-use Rattle.command_line.specs.declared.refusal.Refusal.TheVariants as refusal
-use Rattle.command_line.specs.declared.task.ReportTask.{ReportTask}
-use Rattle.command_line.specs.Answers.{Finds, IsErrorLine, IsOfAnswer, IsSourceStatus, IsStatus, IsTextStatus, MakerRefused, MayRefuse, Says, Telling, TellsMaker, Wrote, WrotePrefix, status_of, line_of}
-use Rattle.command_line.specs.Errors.{memory_line, pattern_line, read_fault_line}
-use Rattle.command_line.specs.Output.{Outcome, outcome_of, refused}
-use Rattle.command_line.specs.Runs.{AnswersReport, Reports, ReportsSoundly}
+use Rattle.book_commands.specs.Answers.{Finds, MakerRefused, MayRefuse, TellsMaker, Telling}
+use Rattle.book_commands.specs.Errors.{memory_line, pattern_line, read_fault_line}
+use Rattle.book_commands.specs.Outcomes.{Judged, Outcome, outcome_of, refused}
+use Rattle.book_commands.specs.Works.{words_of}
+use Rattle.book_commands.specs.declared.refusal.Refusal.{Refusal}
+use Rattle.book_commands.specs.declared.refusal.Refusal.TheVariants as refusal
+use Rattle.command_line.specs.declared.task.TextTask.{TextTask}
+use Rattle.command_line.specs.Answers.{IsErrorLine, IsOfAnswer, IsSourceStatus, IsStatus, IsTextStatus, Says, Wrote, WrotePrefix, line_of, status_of}
+use Rattle.command_line.specs.Runs.{AnswersText, RunsText, TextSoundly}
 use Rattle.command_line.specs.Scenes.{OtherStays, Scene, Soundness, SourceIsSound, SourceRose, judged_in, telling}
 
 -- ---- statuses
@@ -98,36 +99,36 @@ abbrev pub failed : Refusal → Result (List ℕ) Refusal
 failed r = Err r
 
 -- what a refusal has of a definition
-told_so : (told : Option (Result Report Outcome)) (status own : ℕ) (line : List ℕ) (old new : Option (List ℕ)) → status ≡ own → Wrote old new line
+told_so : (told : Option Judged) (status own : ℕ) (line : List ℕ) (old new : Option (List ℕ)) → status ≡ own → Wrote old new line
     → IfSome told (λ t. outcome_of t ≡ refused own line) → IfSome told (λ t. ((outcome_of t).status ≡ status) × Wrote old new (outcome_of t).error)
 told_so None status own line old new e w h = tt
 told_so (Some t) status own line old new e w h =
     let F : Outcome → Type 0 = λ o. Wrote old new o.error in
     (ap (λ (o : Outcome). o.status) h ∙ sym e, subst F (sym h) w)
 
-module _ (report : ReportTask) (day status : ℕ) (old mid : Scene) (error : Option (List ℕ)) (faults : ℕ) where
+module _ (given : TextTask) (day status : ℕ) (old mid : Scene) (error : Option (List ℕ)) (faults : ℕ) where
   abbrev new : Scene
   new = with_error mid error faults
 
-  abbrev told : Option (Result Report Outcome)
-  told = judged_in report.file report.asked day old
+  abbrev told : Option Judged
+  told = judged_in given day old
 
   -- the line of a refusal is one of those that may be said
-  is_said : (r : Refusal) (t : Result Report Outcome) → AnswersReport report day (Err r) old mid → Finds (Err r) t
-      → IsErrorLine report.asked.words (outcome_of t) (line_of r)
+  is_said : (r : Refusal) (t : Judged) → AnswersText given day (Err r) old mid → Finds (Err r) t
+      → IsErrorLine (words_of given.work) (outcome_of t) (line_of r)
   is_said (refusal.Line own line) t a found = inl (sym (ap (λ (o : Outcome). o.error) found))
-  is_said (refusal.Pattern word line) t a found = inr (inr (inr (word, refused_word day report.asked.words word (telling old mid) a.maker, a.kind)))
+  is_said (refusal.Pattern word line) t a found = inr (inr (inr (word, refused_word day (words_of given.work) word (telling old mid) a.maker, a.kind)))
   is_said refusal.ReadFault t a found = inr (inr (inl refl))
   is_said refusal.Memory t a found = inr (inl refl)
 
-  front_by : (r : Refusal) (judged : Option (Result Report Outcome)) → AnswersReport report day (Err r) old mid → IfSome judged (Finds (Err r))
+  front_by : (r : Refusal) (judged : Option Judged) → AnswersText given day (Err r) old mid → IfSome judged (Finds (Err r))
       → WrotePrefix old.error error (line_of r)
-      → IfSome judged (λ t. (line : List ℕ) × IsErrorLine report.asked.words (outcome_of t) line × WrotePrefix old.error error line)
+      → IfSome judged (λ t. (line : List ℕ) × IsErrorLine (words_of given.work) (outcome_of t) line × WrotePrefix old.error error line)
   front_by r None a found front = tt
   front_by r (Some t) a found front = (line_of r, is_said r t a found, front)
 
-  unsaid : (r : Refusal) → AnswersReport report day (Err r) old mid → status ≡ 4 → Rose old.error_faults faults → WrotePrefix old.error error (line_of r)
-      → Reports report day status old new
+  unsaid : (r : Refusal) → AnswersText given day (Err r) old mid → status ≡ 4 → Rose old.error_faults faults → WrotePrefix old.error error (line_of r)
+      → RunsText given day status old new
   unsaid r a four rose front = record {
     read = λ e. omega (arith, four, e);
     done = λ e. absurd (not_same status 4 0 four e (λ x. omega arith));
@@ -136,28 +137,28 @@ module _ (report : ReportTask) (day status : ℕ) (old mid : Scene) (error : Opt
     named = λ e. absurd (not_same status 4 8 four e (λ x. omega arith));
     write_fault = λ e. inr ((rose, a.outputs.output), front_by r told a a.found front);
     memory = λ e. absurd (not_same status 4 6 four e (λ x. omega arith));
-    maker = may_of day report.asked.words (telling old mid) (Err r) a.maker;
-    other = other_on report.file old mid error faults a.other;
+    maker = may_of day (words_of given.work) (telling old mid) (Err r) a.maker;
+    other = other_on given.file old mid error faults a.other;
   }
 
-  said_line : (own : ℕ) (line : List ℕ) → AnswersReport report day (Err (refusal.Line own line)) old mid → status ≡ own → Wrote old.error error line
-      → Reports report day status old new
+  said_line : (own : ℕ) (line : List ℕ) → AnswersText given day (Err (refusal.Line own line)) old mid → status ≡ own → Wrote old.error error line
+      → RunsText given day status old new
   said_line own line a is wrote =
-      let kind : IsTextStatus status = text_is status own (any_status report.file own a.kind) is in
+      let kind : IsTextStatus status = text_is status own (any_status given.file own a.kind) is in
       record {
         read = λ e. text_apart status 2 kind e (λ x. omega arith) (λ x. omega arith) (λ x. omega arith);
         done = λ e. absurd (text_apart status 0 kind e (λ x. omega arith) (λ x. omega arith) (λ x. omega arith));
         refused = λ k. record { unwritten = a.outputs.output; cause = inl (told_so told status own line old.error error is wrote a.found, a.maker) };
-        named = λ e. named_status report.file own a.kind (sym is ∙ e);
+        named = λ e. named_status given.file own a.kind (sym is ∙ e);
         read_fault = λ e. absurd (text_apart status 3 kind e (λ x. omega arith) (λ x. omega arith) (λ x. omega arith));
         write_fault = λ e. absurd (text_apart status 4 kind e (λ x. omega arith) (λ x. omega arith) (λ x. omega arith));
         memory = λ e. absurd (text_apart status 6 kind e (λ x. omega arith) (λ x. omega arith) (λ x. omega arith));
         maker = inl a.maker;
-        other = other_on report.file old mid error faults a.other;
+        other = other_on given.file old mid error faults a.other;
       }
 
-  said_pattern : (word line : List ℕ) → AnswersReport report day (Err (refusal.Pattern word line)) old mid → status ≡ 1 → Wrote old.error error line
-      → Reports report day status old new
+  said_pattern : (word line : List ℕ) → AnswersText given day (Err (refusal.Pattern word line)) old mid → status ≡ 1 → Wrote old.error error line
+      → RunsText given day status old new
   said_pattern word line a one wrote =
       let F : List ℕ → Type 0 = λ l. Wrote old.error error l in
       let is : line ≡ pattern_line word = a.kind in
@@ -170,23 +171,23 @@ module _ (report : ReportTask) (day status : ℕ) (old mid : Scene) (error : Opt
         write_fault = λ e. absurd (not_same status 1 4 one e (λ x. omega arith));
         memory = λ e. absurd (not_same status 1 6 one e (λ x. omega arith));
         maker = inr (word, a.maker);
-        other = other_on report.file old mid error faults a.other;
+        other = other_on given.file old mid error faults a.other;
       }
 
-  said_unread : AnswersReport report day (Err refusal.ReadFault) old mid → status ≡ 3 → Wrote old.error error read_fault_line → Reports report day status old new
+  said_unread : AnswersText given day (Err refusal.ReadFault) old mid → status ≡ 3 → Wrote old.error error read_fault_line → RunsText given day status old new
   said_unread a three wrote = record {
     read = λ e. omega (arith, three, e);
     done = λ e. absurd (not_same status 3 0 three e (λ x. omega arith));
     refused = λ k. absurd (no_text status 3 three (λ x. omega arith) (λ x. omega arith) (λ x. omega arith) k);
-    read_fault = λ e. (rose_on report.file old mid error faults (a.rose refl), a.maker, a.outputs.output, wrote);
+    read_fault = λ e. (rose_on given.file old mid error faults (a.rose refl), a.maker, a.outputs.output, wrote);
     named = λ e. absurd (not_same status 3 8 three e (λ x. omega arith));
     write_fault = λ e. absurd (not_same status 3 4 three e (λ x. omega arith));
     memory = λ e. absurd (not_same status 3 6 three e (λ x. omega arith));
     maker = inl a.maker;
-    other = other_on report.file old mid error faults a.other;
+    other = other_on given.file old mid error faults a.other;
   }
 
-  said_memory : AnswersReport report day (Err refusal.Memory) old mid → status ≡ 6 → Wrote old.error error memory_line → Reports report day status old new
+  said_memory : AnswersText given day (Err refusal.Memory) old mid → status ≡ 6 → Wrote old.error error memory_line → RunsText given day status old new
   said_memory a six wrote = record {
     read = λ e. omega (arith, six, e);
     done = λ e. absurd (not_same status 6 0 six e (λ x. omega arith));
@@ -196,11 +197,11 @@ module _ (report : ReportTask) (day status : ℕ) (old mid : Scene) (error : Opt
     write_fault = λ e. absurd (not_same status 6 4 six e (λ x. omega arith));
     memory = λ e. (a.outputs.output, wrote);
     maker = a.maker;
-    other = other_on report.file old mid error faults a.other;
+    other = other_on given.file old mid error faults a.other;
   }
 
-  by_old : (r : Refusal) → AnswersReport report day (Err r) old mid → Says status (status_of r) (line_of r) old.error error old.error_faults faults
-      → Reports report day status old new
+  by_old : (r : Refusal) → AnswersText given day (Err r) old mid → Says status (status_of r) (line_of r) old.error error old.error_faults faults
+      → RunsText given day status old new
   by_old r a (inr h) = unsaid r a h.0 h.1 h.2
   by_old (refusal.Line own line) a (inl h) = said_line own line a h.0 h.1
   by_old (refusal.Pattern word line) a (inl h) = said_pattern word line a h.0 h.1
@@ -208,53 +209,53 @@ module _ (report : ReportTask) (day status : ℕ) (old mid : Scene) (error : Opt
   by_old refusal.Memory a (inl h) = said_memory a h.0 h.1
 
   -- a report was refused, and its line said
-  pub refused_report : (r : Refusal) → AnswersReport report day (Err r) old mid
-      → Says status (status_of r) (line_of r) mid.error error mid.error_faults faults → Reports report day status old new
+  pub refused_report : (r : Refusal) → AnswersText given day (Err r) old mid
+      → Says status (status_of r) (line_of r) mid.error error mid.error_faults faults → RunsText given day status old new
   refused_report r a h =
       by_old r a (says_from status (status_of r) (line_of r) old.error mid.error error old.error_faults mid.error_faults faults a.outputs.error a.outputs.error_faults h)
 
-  own_status : (r : Refusal) → IsOfAnswer report.file (Err r) → IsStatus (status_of r)
-  own_status (refusal.Line own line) k = inr (inl (inl (any_status report.file own k)))
+  own_status : (r : Refusal) → IsOfAnswer given.file (Err r) → IsStatus (status_of r)
+  own_status (refusal.Line own line) k = inr (inl (inl (any_status given.file own k)))
   own_status (refusal.Pattern word line) k = inr (inl (inl (inl refl)))
   own_status refusal.ReadFault k = inr (inr (inl refl))
   own_status refusal.Memory k = inr (inr (inr (inr refl)))
 
-  pub refused_status : (r : Refusal) → AnswersReport report day (Err r) old mid
+  pub refused_status : (r : Refusal) → AnswersText given day (Err r) old mid
       → Says status (status_of r) (line_of r) mid.error error mid.error_faults faults → IsStatus status
   refused_status r a (inl h) = subst (λ (n : ℕ). IsStatus n) (sym h.0) (own_status r a.kind)
   refused_status r a (inr h) = inr (inr (inr (inl h.0)))
 
   -- which refusal has status 3
-  own_three : (r : Refusal) → IsOfAnswer report.file (Err r) → status_of r ≡ 3 → r ≡ refusal.ReadFault
-  own_three (refusal.Line own line) k e = absurd (text_apart own 3 (any_status report.file own k) e (λ x. omega arith) (λ x. omega arith) (λ x. omega arith))
+  own_three : (r : Refusal) → IsOfAnswer given.file (Err r) → status_of r ≡ 3 → r ≡ refusal.ReadFault
+  own_three (refusal.Line own line) k e = absurd (text_apart own 3 (any_status given.file own k) e (λ x. omega arith) (λ x. omega arith) (λ x. omega arith))
   own_three (refusal.Pattern word line) k e = absurd (omega (arith, e))
   own_three refusal.ReadFault k e = refl
   own_three refusal.Memory k e = absurd (omega (arith, e))
 
-  three : (r : Refusal) → AnswersReport report day (Err r) old mid
+  three : (r : Refusal) → AnswersText given day (Err r) old mid
       → Says status (status_of r) (line_of r) mid.error error mid.error_faults faults → status ≡ 3 → r ≡ refusal.ReadFault
   three r a (inl h) e = own_three r a.kind (sym h.0 ∙ e)
   three r a (inr h) e = absurd (not_same status 4 3 h.0 e (λ x. omega arith))
 
-  own_four : (r : Refusal) → IsOfAnswer report.file (Err r) → status_of r ≡ 4 → ⊥
-  own_four (refusal.Line own line) k e = text_apart own 4 (any_status report.file own k) e (λ x. omega arith) (λ x. omega arith) (λ x. omega arith)
+  own_four : (r : Refusal) → IsOfAnswer given.file (Err r) → status_of r ≡ 4 → ⊥
+  own_four (refusal.Line own line) k e = text_apart own 4 (any_status given.file own k) e (λ x. omega arith) (λ x. omega arith) (λ x. omega arith)
   own_four (refusal.Pattern word line) k e = omega (arith, e)
   own_four refusal.ReadFault k e = omega (arith, e)
   own_four refusal.Memory k e = omega (arith, e)
 
-  sound_by : (r : Refusal) (sound : Soundness) (judged : Option (Result Report Outcome)) → AnswersReport report day (Err r) old mid → IfSome judged (Finds (Err r))
+  sound_by : (r : Refusal) (sound : Soundness) (judged : Option Judged) → AnswersText given day (Err r) old mid → IfSome judged (Finds (Err r))
       → (sound.error (length (line_of r)) → status ≡ status_of r)
       → IfSome judged (λ t. sound.output (length (outcome_of t).output)
-      → ((line : List ℕ) → IsErrorLine report.asked.words (outcome_of t) line → sound.error (length line)) → status ≢ 4)
+      → ((line : List ℕ) → IsErrorLine (words_of given.work) (outcome_of t) line → sound.error (length line)) → status ≢ 4)
   sound_by r sound None a found own = tt
   sound_by r sound (Some t) a found own = λ room lines e.
       own_four r a.kind (sym (own (lines (line_of r) (is_said r t a found))) ∙ e)
 
   -- and nothing is said to have failed that can't fail
-  pub refused_soundly : (r : Refusal) (sound : Soundness) → AnswersReport report day (Err r) old mid
+  pub refused_soundly : (r : Refusal) (sound : Soundness) → AnswersText given day (Err r) old mid
       → Says status (status_of r) (line_of r) mid.error error mid.error_faults faults
-      → (SourceIsSound report.file sound → failed r ≢ failed refusal.ReadFault)
-      → (sound.error (length (line_of r)) → status ≡ status_of r) → ReportsSoundly report day status old sound
+      → (SourceIsSound given.file sound → failed r ≢ failed refusal.ReadFault)
+      → (sound.error (length (line_of r)) → status ≡ status_of r) → TextSoundly given day status old sound
   refused_soundly r sound a h unread own = record {
     source = λ s e. unread s (ap failed (three r a h e));
     outputs = sound_by r sound told a a.found own;

@@ -1,8 +1,10 @@
+mod Choosing
 mod Endings
 mod Finishing
 mod Histories
 mod Reporting
 mod Running
+mod Saying
 mod TalkEndings
 mod Talking
 mod Unmade

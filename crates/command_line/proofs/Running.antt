@@ -1,23 +1,25 @@
 -- Runs that end with their words: no reading, or no memory for them.
 use Rattle.std.proofs.Common.{◌≡◌, ◌≢◌, ◌⊎◌, inl, inr, ℕ, List, Option, Some, None, Result, Ok, Err, IfSome, length, refl, sym, subst, arith}
 use Rattle.hl_base.specs.Causes.{Rose}
-use Rattle.report_commands.specs.Commands.{words_cause}
-use Rattle.report_commands.specs.Reports.{Report}
 use Rattle.report_commands.specs.declared.fault.WordsFault.{WordsFault}
 use Rattle.report_commands.specs.declared.fault.WordsFault.TheVariants as words_fault
 use Rattle.web_desk.specs.declared.conn_end.ConnEnd.{ConnEnd}
 use Rattle.web_desk.specs.declared.conn_end.ConnEnd.TheVariants as conn
-use Rattle.command_line.specs.declared.task.ReportTask.{ReportTask}
+use Rattle.command_line.specs.declared.task.TextTask.{TextTask}
 use Rattle.command_line.specs.declared.task.Task.{Task}
 use Rattle.command_line.specs.declared.task.Task.TheVariants as task
-use Rattle.command_line.specs.declared.refusal.Refusal.{Refusal}
-use Rattle.command_line.specs.declared.refusal.Refusal.TheVariants as refusal
-use Rattle.command_line.specs.Answers.{Finds, Refuses, Says, Wrote, WrotePrefix, status_of, line_of}
+use Rattle.command_line.specs.declared.usage.UsageFault.{UsageFault}
+use Rattle.command_line.specs.declared.usage.UsageFault.TheVariants as usages
+use Rattle.book_commands.specs.declared.refusal.Refusal.{Refusal}
+use Rattle.book_commands.specs.declared.refusal.Refusal.TheVariants as refusal
+use Rattle.book_commands.specs.Answers.{Finds, Refuses}
+use Rattle.command_line.specs.Answers.{Says, Wrote, WrotePrefix, status_of, line_of}
 use Rattle.command_line.specs.Commands.{usage_of}
-use Rattle.command_line.specs.Errors.{memory_line}
+use Rattle.command_line.specs.Usage.{usage_cause}
+use Rattle.book_commands.specs.Errors.{memory_line}
 use Rattle.command_line.specs.Help.{help_text, version_text}
-use Rattle.command_line.specs.Output.{Outcome}
-use Rattle.command_line.specs.Runs.{AnswersReport, Connects, Prints, RefusesWords, Runs, RunsSoundly}
+use Rattle.book_commands.specs.Outcomes.{Judged}
+use Rattle.command_line.specs.Runs.{AnswersText, Connects, Prints, RefusesWords, Runs, RunsSoundly}
 use Rattle.command_line.specs.Scenes.{OtherStays, Scene, Soundness, judged_in, telling}
 use Rattle.command_line.specs.Talks.{TellsEnd}
 use Rattle.command_line.proofs.Endings.{none_written, not_same, refused_report, refused_soundly, with_error}
@@ -51,8 +53,8 @@ module _ (status : ℕ) (old : Scene) (error : Option (List ℕ)) (faults : ℕ)
   four_front (inl h) e = absurd (not_same status 6 4 h.0 e (λ x. omega arith))
   four_front (inr h) e = h.2
 
--- a report for which there was no memory
-free_found : (told : Option (Result Report Outcome)) → IfSome told (Finds (Err refusal.Memory))
+-- an answer for which there was no memory
+free_found : (told : Option Judged) → IfSome told (Finds (Err refusal.Memory))
 free_found None = tt
 free_found (Some t) = tt
 
@@ -60,13 +62,13 @@ other_same : (file : Option (List ℕ)) (s : Scene) → OtherStays file s s
 other_same None s = (refl, refl)
 other_same (Some name) s = (refl, refl)
 
-memory_answers : (report : ReportTask) (day : ℕ) (s : Scene) → AnswersReport report day (Err refusal.Memory) s s
-memory_answers report day s = record {
-  found = free_found (judged_in report.file report.asked day s);
+memory_answers : (given : TextTask) (day : ℕ) (s : Scene) → AnswersText given day (Err refusal.Memory) s s
+memory_answers given day s = record {
+  found = free_found (judged_in given day s);
   kind = tt;
   whole = tt;
   rose = λ e. cc;
-  other = other_same report.file s;
+  other = other_same given.file s;
   outputs = record { output = refl; output_faults = refl; error = refl; error_faults = refl };
   maker = inl (unasked s.refusals s.last_refused);
 }
@@ -110,10 +112,10 @@ memory_prints text status old error faults h =
     }
 
 -- there was no memory for the words
-memory_runs : (words : List (List ℕ)) (day status : ℕ) (old : Scene) (error : Option (List ℕ)) (faults : ℕ) (what : Result Task WordsFault) → SaysMemory status old error faults
+memory_runs : (words : List (List ℕ)) (day status : ℕ) (old : Scene) (error : Option (List ℕ)) (faults : ℕ) (what : Result Task UsageFault) → SaysMemory status old error faults
     → Runs words day status old (with_error old error faults) what
-memory_runs words day status old error faults (Ok (task.Report report)) h =
-    refused_report report day status old old error faults refusal.Memory (memory_answers report day old) h
+memory_runs words day status old error faults (Ok (task.Over given)) h =
+    refused_report given day status old old error faults refusal.Memory (memory_answers given day old) h
 memory_runs words day status old error faults (Ok task.Talk) h = memory_talk day status old error faults h
 memory_runs words day status old error faults (Ok task.Help) h = memory_prints help_text status old error faults h
 memory_runs words day status old error faults (Ok task.Version) h = memory_prints version_text status old error faults h
@@ -150,10 +152,10 @@ memory_told r status error_room e h =
     let F : Refusal → Type 0 = λ x. error_room (length (line_of x)) → status ≡ status_of x in
     subst F e h
 
-memory_sound : (words : List (List ℕ)) (day status : ℕ) (old : Scene) (error : Option (List ℕ)) (faults : ℕ) (sound : Soundness) (what : Result Task WordsFault)
+memory_sound : (words : List (List ℕ)) (day status : ℕ) (old : Scene) (error : Option (List ℕ)) (faults : ℕ) (sound : Soundness) (what : Result Task UsageFault)
     → SaysMemory status old error faults → (sound.error (length memory_line) → status ≡ 6) → RunsSoundly words day status old sound what
-memory_sound words day status old error faults sound (Ok (task.Report report)) h own =
-    refused_soundly report day status old old error faults refusal.Memory sound (memory_answers report day old) h (λ s e. cc) own
+memory_sound words day status old error faults sound (Ok (task.Over given)) h own =
+    refused_soundly given day status old old error faults refusal.Memory sound (memory_answers given day old) h (λ s e. cc) own
 memory_sound words day status old error faults sound (Ok task.Talk) h own = tt
 memory_sound words day status old error faults sound (Ok task.Help) h own = λ room line e. not_same status 6 4 (own line) e (λ x. omega arith)
 memory_sound words day status old error faults sound (Ok task.Version) h own = λ room line e. not_same status 6 4 (own line) e (λ x. omega arith)
@@ -170,41 +172,43 @@ refused_sound (refusal.Pattern word told) line status error_room k says usage me
 refused_sound refusal.ReadFault line status error_room k says usage memory e = absurd k
 refused_sound refusal.Memory line status error_room k says usage memory e = not_same status 6 4 (says memory) e (λ x. omega arith)
 
-module _ (words : List (List ℕ)) (day status : ℕ) (old : Scene) (error : Option (List ℕ)) (faults : ℕ) (r : Refusal) (what : Result Task WordsFault) where
+module _ (words : List (List ℕ)) (day status : ℕ) (old : Scene) (error : Option (List ℕ)) (faults : ℕ) (r : Refusal) (what : Result Task UsageFault) where
   -- a fault of the words that is told
-  told_run : (fault : WordsFault) → what ≡ Err fault → Refuses r 2 (usage_of words fault) → SaysRefusal r status old error faults
+  told_run : (fault : UsageFault) → what ≡ Err fault → Refuses r 2 (usage_of words fault) → SaysRefusal r status old error faults
       → Runs words day status old (with_error old error faults) what
   told_run fault told line h =
-      let F : Result Task WordsFault → Type 0 = λ w. Runs words day status old (with_error old error faults) w in
+      let F : Result Task UsageFault → Type 0 = λ w. Runs words day status old (with_error old error faults) w in
       subst F (sym told) (refused_runs r (usage_of words fault) status old error faults line h)
 
-  pub words_run : (fault : WordsFault) → IfSome (words_cause fault) (λ f. what ≡ Err f) → Refuses r 2 (usage_of words fault)
-      → (fault ≡ words_fault.Memory → r ≡ refusal.Memory) → SaysRefusal r status old error faults
+  pub words_run : (fault : UsageFault) → IfSome (usage_cause fault) (λ f. what ≡ Err f) → Refuses r 2 (usage_of words fault)
+      → (fault ≡ usages.Words words_fault.Memory → r ≡ refusal.Memory) → SaysRefusal r status old error faults
       → Runs words day status old (with_error old error faults) what
-  words_run (words_fault.NoCommand word) told line memory h = told_run (words_fault.NoCommand word) told line h
-  words_run (words_fault.BadOption word) told line memory h = told_run (words_fault.BadOption word) told line h
-  words_run (words_fault.Conflict a b) told line memory h = told_run (words_fault.Conflict a b) told line h
-  words_run (words_fault.BadTerm word) told line memory h = told_run (words_fault.BadTerm word) told line h
-  words_run (words_fault.PatternRefused word) told line memory h = told_run (words_fault.PatternRefused word) told line h
-  words_run (words_fault.Report fault) told line memory h = told_run (words_fault.Report fault) told line h
-  words_run words_fault.Memory told line memory h =
+  words_run (usages.Words (words_fault.NoCommand word)) told line memory h = told_run (usages.Words (words_fault.NoCommand word)) told line h
+  words_run (usages.Words (words_fault.BadOption word)) told line memory h = told_run (usages.Words (words_fault.BadOption word)) told line h
+  words_run (usages.Words (words_fault.Conflict a b)) told line memory h = told_run (usages.Words (words_fault.Conflict a b)) told line h
+  words_run (usages.Words (words_fault.BadTerm word)) told line memory h = told_run (usages.Words (words_fault.BadTerm word)) told line h
+  words_run (usages.Words (words_fault.PatternRefused word)) told line memory h = told_run (usages.Words (words_fault.PatternRefused word)) told line h
+  words_run (usages.Words (words_fault.Report fault)) told line memory h = told_run (usages.Words (words_fault.Report fault)) told line h
+  words_run usages.Missing told line memory h = told_run usages.Missing told line h
+  words_run (usages.Words words_fault.Memory) told line memory h =
       memory_runs words day status old error faults what (says_memory r status old error faults (memory refl) h)
 
   -- nothing is said to have failed that can't fail
-  told_sound : (fault : WordsFault) (sound : Soundness) → what ≡ Err fault → Refuses r 2 (usage_of words fault)
+  told_sound : (fault : UsageFault) (sound : Soundness) → what ≡ Err fault → Refuses r 2 (usage_of words fault)
       → (sound.error (length (line_of r)) → status ≡ status_of r) → RunsSoundly words day status old sound what
   told_sound fault sound told line own =
-      let F : Result Task WordsFault → Type 0 = λ w. RunsSoundly words day status old sound w in
+      let F : Result Task UsageFault → Type 0 = λ w. RunsSoundly words day status old sound w in
       subst F (sym told) (refused_sound r (usage_of words fault) status sound.error line own)
 
-  pub words_sound : (fault : WordsFault) (sound : Soundness) → IfSome (words_cause fault) (λ f. what ≡ Err f) → Refuses r 2 (usage_of words fault)
-      → (fault ≡ words_fault.Memory → r ≡ refusal.Memory) → SaysRefusal r status old error faults
+  pub words_sound : (fault : UsageFault) (sound : Soundness) → IfSome (usage_cause fault) (λ f. what ≡ Err f) → Refuses r 2 (usage_of words fault)
+      → (fault ≡ usages.Words words_fault.Memory → r ≡ refusal.Memory) → SaysRefusal r status old error faults
       → (sound.error (length (line_of r)) → status ≡ status_of r) → RunsSoundly words day status old sound what
-  words_sound (words_fault.NoCommand word) sound told line memory h own = told_sound (words_fault.NoCommand word) sound told line own
-  words_sound (words_fault.BadOption word) sound told line memory h own = told_sound (words_fault.BadOption word) sound told line own
-  words_sound (words_fault.Conflict a b) sound told line memory h own = told_sound (words_fault.Conflict a b) sound told line own
-  words_sound (words_fault.BadTerm word) sound told line memory h own = told_sound (words_fault.BadTerm word) sound told line own
-  words_sound (words_fault.PatternRefused word) sound told line memory h own = told_sound (words_fault.PatternRefused word) sound told line own
-  words_sound (words_fault.Report fault) sound told line memory h own = told_sound (words_fault.Report fault) sound told line own
-  words_sound words_fault.Memory sound told line memory h own =
+  words_sound (usages.Words (words_fault.NoCommand word)) sound told line memory h own = told_sound (usages.Words (words_fault.NoCommand word)) sound told line own
+  words_sound (usages.Words (words_fault.BadOption word)) sound told line memory h own = told_sound (usages.Words (words_fault.BadOption word)) sound told line own
+  words_sound (usages.Words (words_fault.Conflict a b)) sound told line memory h own = told_sound (usages.Words (words_fault.Conflict a b)) sound told line own
+  words_sound (usages.Words (words_fault.BadTerm word)) sound told line memory h own = told_sound (usages.Words (words_fault.BadTerm word)) sound told line own
+  words_sound (usages.Words (words_fault.PatternRefused word)) sound told line memory h own = told_sound (usages.Words (words_fault.PatternRefused word)) sound told line own
+  words_sound (usages.Words (words_fault.Report fault)) sound told line memory h own = told_sound (usages.Words (words_fault.Report fault)) sound told line own
+  words_sound usages.Missing sound told line memory h own = told_sound usages.Missing sound told line own
+  words_sound (usages.Words words_fault.Memory) sound told line memory h own =
       memory_sound words day status old error faults sound what (says_memory r status old error faults (memory refl) h) (memory_told r status sound.error (memory refl) own)

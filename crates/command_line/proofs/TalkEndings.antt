@@ -7,7 +7,7 @@ use Rattle.web_desk.specs.declared.conn_end.ConnEnd.TheVariants as conn
 use Rattle.web_desk.specs.declared.conn_end.Way.{Way}
 use Rattle.web_desk.specs.declared.conn_end.Way.TheVariants.{Read, Write}
 use Rattle.command_line.specs.Answers.{IsStatus, Says}
-use Rattle.command_line.specs.Errors.{read_fault_line, write_fault_line}
+use Rattle.book_commands.specs.Errors.{read_fault_line, write_fault_line}
 use Rattle.command_line.specs.Talks.{TellsEnd, end_status}
 
 -- the status is that of the end, or a line couldn't be written

@@ -13,7 +13,7 @@ use Rattle.web_desk.specs.Served.{AreOf, Served}
 use Rattle.web_desk.specs.declared.conn_end.ConnEnd.{ConnEnd}
 use Rattle.web_desk.specs.declared.conn_end.ConnEnd.TheVariants as conn
 use Rattle.web_desk.proofs.ServeLemmas.{served_nothing}
-use Rattle.command_line.specs.Answers.{MakerStays, Telling}
+use Rattle.book_commands.specs.Answers.{MakerStays, Telling}
 use Rattle.command_line.specs.Talks.{IsHistory, NeverFails, Talks, begun, room}
 use Rattle.command_line.proofs.Histories.{history}
 

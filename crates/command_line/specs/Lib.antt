@@ -1,9 +1,10 @@
 pub mod Answers
+pub mod Chores
 pub mod Commands
-pub mod Errors
 pub mod Help
-pub mod Journals
-pub mod Output
 pub mod Runs
+pub mod Said
 pub mod Scenes
+pub mod Sources
 pub mod Talks
+pub mod Usage

@@ -1,19 +1,21 @@
 -- What a run does.
 use Rattle.std.specs.Prelude.{◌≡◌, ◌≢◌, ◌⊎◌, ℕ, ◌++◌, List, Option, Some, IfSome, IsOk, IsSome, OnOk, IfErr, Result, Ok, Err, length}
 use Rattle.hl_base.specs.Causes.{Rose}
-use Rattle.report_commands.specs.declared.fault.WordsFault.{WordsFault}
 use Rattle.web_desk.specs.declared.conn_end.ConnEnd.{ConnEnd}
 use Rattle.web_desk.specs.declared.conn_end.ConnEnd.TheVariants as conn
-use Rattle.command_line.specs.declared.refusal.Refusal.{Refusal}
-use Rattle.command_line.specs.declared.refusal.Refusal.TheVariants as refusal
-use Rattle.command_line.specs.declared.task.ReportTask.{ReportTask}
+use Rattle.book_commands.specs.Answers.{Finds, MakerRefused, MakerStays, MayRefuse, TellsMaker}
+use Rattle.book_commands.specs.Errors.{memory_line, pattern_line, read_fault_line, write_fault_line}
+use Rattle.book_commands.specs.Outcomes.{outcome_of}
+use Rattle.book_commands.specs.Works.{words_of}
+use Rattle.book_commands.specs.declared.refusal.Refusal.{Refusal}
+use Rattle.book_commands.specs.declared.refusal.Refusal.TheVariants as refusal
+use Rattle.command_line.specs.declared.task.TextTask.{TextTask}
 use Rattle.command_line.specs.declared.task.Task.{Task}
 use Rattle.command_line.specs.declared.task.Task.TheVariants as task
-use Rattle.command_line.specs.Answers.{Finds, FindsText, IsErrorLine, IsOfAnswer, IsOfSource, IsTextStatus, MakerRefused, MakerStays, MayRefuse, Says, TellsMaker, Wrote, WrotePrefix}
+use Rattle.command_line.specs.declared.usage.UsageFault.{UsageFault}
+use Rattle.command_line.specs.Answers.{FindsText, IsErrorLine, IsOfAnswer, IsOfSource, IsTextStatus, Says, Wrote, WrotePrefix}
 use Rattle.command_line.specs.Commands.{usage_of}
-use Rattle.command_line.specs.Errors.{memory_line, pattern_line, read_fault_line, write_fault_line}
 use Rattle.command_line.specs.Help.{help_text, version_text}
-use Rattle.command_line.specs.Output.{outcome_of}
 use Rattle.command_line.specs.Scenes.{IsReadWhole, OtherStays, OutputsStay, Scene, Soundness, SourceIsSound, SourceRose, judged_in, telling, text_in}
 use Rattle.command_line.specs.Talks.{Talks, TellsEnd}
 
@@ -27,15 +29,15 @@ pub record ReadsText (file : Option (List ℕ)) (result : Result (List ℕ) Refu
   pub outputs : OutputsStay old new
   pub maker : MakerStays (telling old new)
 
--- What a report answers before anything is written: its text, or why there is none.
-pub record AnswersReport (report : ReportTask) (day : ℕ) (result : Result (List ℕ) Refusal) (old new : Scene) : Type 0 where
-  pub found : IfSome (judged_in report.file report.asked day old) (Finds result)
-  pub kind : IsOfAnswer report.file result
-  pub whole : OnOk result (IsReadWhole report.file old new)
-  pub rose : result ≡ Err refusal.ReadFault → SourceRose report.file old new
-  pub other : OtherStays report.file old new
+-- What a command answers to a text before anything is written: its output, or why there is none.
+pub record AnswersText (given : TextTask) (day : ℕ) (result : Result (List ℕ) Refusal) (old new : Scene) : Type 0 where
+  pub found : IfSome (judged_in given day old) (Finds result)
+  pub kind : IsOfAnswer given.file result
+  pub whole : OnOk result (IsReadWhole given.file old new)
+  pub rose : result ≡ Err refusal.ReadFault → SourceRose given.file old new
+  pub other : OtherStays given.file old new
   pub outputs : OutputsStay old new
-  pub maker : TellsMaker day report.asked.words (telling old new) result
+  pub maker : TellsMaker day (words_of given.work) (telling old new) result
 
 -- The words have no reading: their line is said, with status 2, or want of memory is; all else stays.
 pub record RefusesWords (line : List ℕ) (status : ℕ) (old new : Scene) : Type 0 where
@@ -45,14 +47,14 @@ pub record RefusesWords (line : List ℕ) (status : ℕ) (old new : Scene) : Typ
   pub unwritten : new.output ≡ old.output
   pub maker : MakerStays (telling old new)
 
--- A report is refused by its text or its query, as the definition says; or a pattern of its query isn't built, and the text
--- isn't refused.
-pub record RefusedReport (report : ReportTask) (day status : ℕ) (old new : Scene) : Type 0 where
+-- It is refused by its text or its words, as the definition says; or a pattern of its query isn't built, and the text isn't
+-- refused.
+pub record RefusedText (given : TextTask) (day status : ℕ) (old new : Scene) : Type 0 where
   pub unwritten : new.output ≡ old.output
-  pub cause : (IfSome (judged_in report.file report.asked day old) (λ told.
+  pub cause : (IfSome (judged_in given day old) (λ told.
       ((outcome_of told).status ≡ status) × Wrote old.error new.error (outcome_of told).error) × MakerStays (telling old new))
-      ⊎ ((word : List ℕ) × MakerRefused day report.asked.words word (telling old new) × (status ≡ 1)
-      × Wrote old.error new.error (pattern_line word) × IfSome (judged_in report.file report.asked day old) IsOk)
+      ⊎ ((word : List ℕ) × MakerRefused day (words_of given.work) word (telling old new) × (status ≡ 1)
+      × Wrote old.error new.error (pattern_line word) × IfSome (judged_in given day old) IsOk)
 
 -- A write to the output failed, and that is said.
 abbrev pub OutputFailed : ℕ → Scene → Scene → Type 0
@@ -63,32 +65,32 @@ OutputFailed status old new = Rose old.output_faults new.output_faults
 abbrev pub ErrorFailed : Scene → Scene → Type 0
 ErrorFailed old new = Rose old.error_faults new.error_faults × (new.output ≡ old.output)
 
--- A report over the text of a file or of the input, on a day.
-pub record Reports (report : ReportTask) (day status : ℕ) (old new : Scene) : Type 0 where
+-- What a command does over the text of a file or of the input, on a day.
+pub record RunsText (given : TextTask) (day status : ℕ) (old new : Scene) : Type 0 where
   -- the words have a reading
   pub read : status ≢ 2
-  -- all was done: the input was read to its end, and the report was written
-  pub done : status ≡ 0 → (new.error ≡ old.error) × IsReadWhole report.file old new × MakerStays (telling old new)
-      × IfSome (judged_in report.file report.asked day old) (λ told.
+  -- all was done: the input was read to its end, and the output was written
+  pub done : status ≡ 0 → (new.error ≡ old.error) × IsReadWhole given.file old new × MakerStays (telling old new)
+      × IfSome (judged_in given day old) (λ told.
       ((outcome_of told).status ≡ 0) × Wrote old.output new.output (outcome_of told).output)
-  -- it was refused, and nothing of a report was written
-  pub refused : IsTextStatus status → RefusedReport report day status old new
+  -- it was refused, and nothing of an output was written
+  pub refused : IsTextStatus status → RefusedText given day status old new
   -- there is no file of the name, so one was named
-  pub named : status ≡ 8 → IsSome report.file
+  pub named : status ≡ 8 → IsSome given.file
   -- the source couldn't be read
-  pub read_fault : status ≡ 3 → SourceRose report.file old new × MakerStays (telling old new)
+  pub read_fault : status ≡ 3 → SourceRose given.file old new × MakerStays (telling old new)
       × (new.output ≡ old.output) × Wrote old.error new.error read_fault_line
-  -- a write failed: one to the output, after a front of the report; or one to the error output, after a front of a line
-  -- that says why there is no report
-  pub write_fault : status ≡ 4 → (OutputFailed status old new × IfSome (judged_in report.file report.asked day old) (λ told.
+  -- a write failed: one to the output, after a front of it; or one to the error output, after a front of a line that says
+  -- why there is none
+  pub write_fault : status ≡ 4 → (OutputFailed status old new × IfSome (judged_in given day old) (λ told.
       WrotePrefix old.output new.output (outcome_of told).output))
-      ⊎ (ErrorFailed old new × IfSome (judged_in report.file report.asked day old) (λ told. (line : List ℕ)
-      × IsErrorLine report.asked.words (outcome_of told) line × WrotePrefix old.error new.error line))
-  -- memory ran out, and nothing of a report was written
+      ⊎ (ErrorFailed old new × IfSome (judged_in given day old) (λ told. (line : List ℕ)
+      × IsErrorLine (words_of given.work) (outcome_of told) line × WrotePrefix old.error new.error line))
+  -- memory ran out, and nothing of an output was written
   pub memory : status ≡ 6 → (new.output ≡ old.output) × Wrote old.error new.error memory_line
   -- no pattern was refused but one of the query's words
-  pub maker : MayRefuse day report.asked.words (telling old new)
-  pub other : OtherStays report.file old new
+  pub maker : MayRefuse day (words_of given.work) (telling old new)
+  pub other : OtherStays given.file old new
 
 -- A connection over the input and the output: its messages, answers and end are as they have to be, and its entries are a
 -- history.
@@ -120,30 +122,31 @@ pub record Prints (text : List ℕ) (status : ℕ) (old new : Scene) : Type 0 wh
 
 -- what a run does on a day, by what is asked for
 abbrev pub RunsTask : ℕ → ℕ → Scene → Scene → Task → Type 0
-RunsTask day status old new (task.Report report) = Reports report day status old new
+RunsTask day status old new (task.Over given) = RunsText given day status old new
 RunsTask day status old new task.Talk = Connects day status old new
 RunsTask day status old new task.Help = Prints help_text status old new
 RunsTask day status old new task.Version = Prints version_text status old new
 
 -- What a run does with its words on a day.
-abbrev pub Runs : List (List ℕ) → ℕ → ℕ → Scene → Scene → Result Task WordsFault → Type 0
+abbrev pub Runs : List (List ℕ) → ℕ → ℕ → Scene → Scene → Result Task UsageFault → Type 0
 Runs words day status old new (Ok what) = RunsTask day status old new what
 Runs words day status old new (Err fault) = RefusesWords (usage_of words fault) status old new
 
--- Of a report nothing of the outside is said to have failed that can't fail: a source that is sound, and outputs with room.
-pub record ReportsSoundly (report : ReportTask) (day status : ℕ) (old : Scene) (sound : Soundness) : Type 0 where
-  pub source : SourceIsSound report.file sound → status ≢ 3
-  pub outputs : IfSome (judged_in report.file report.asked day old) (λ told. sound.output (length (outcome_of told).output)
-      → ((line : List ℕ) → IsErrorLine report.asked.words (outcome_of told) line → sound.error (length line)) → status ≢ 4)
+-- Of a command over a text nothing of the outside is said to have failed that can't fail: a source that is sound, and outputs
+-- with room.
+pub record TextSoundly (given : TextTask) (day status : ℕ) (old : Scene) (sound : Soundness) : Type 0 where
+  pub source : SourceIsSound given.file sound → status ≢ 3
+  pub outputs : IfSome (judged_in given day old) (λ told. sound.output (length (outcome_of told).output)
+      → ((line : List ℕ) → IsErrorLine (words_of given.work) (outcome_of told) line → sound.error (length line)) → status ≢ 4)
 
 abbrev pub TaskSoundly : ℕ → ℕ → Scene → Soundness → Task → Type 0
-TaskSoundly day status old sound (task.Report report) = ReportsSoundly report day status old sound
+TaskSoundly day status old sound (task.Over given) = TextSoundly given day status old sound
 TaskSoundly day status old sound task.Talk = Unit {0}
 TaskSoundly day status old sound task.Help = sound.output (length help_text) → sound.error (length memory_line) → status ≢ 4
 TaskSoundly day status old sound task.Version = sound.output (length version_text) → sound.error (length memory_line) → status ≢ 4
 
 -- and of words without a reading no write, if there is room for their line
-abbrev pub RunsSoundly : List (List ℕ) → ℕ → ℕ → Scene → Soundness → Result Task WordsFault → Type 0
+abbrev pub RunsSoundly : List (List ℕ) → ℕ → ℕ → Scene → Soundness → Result Task UsageFault → Type 0
 RunsSoundly words day status old sound (Ok what) = TaskSoundly day status old sound what
 RunsSoundly words day status old sound (Err fault) =
     sound.error (length (usage_of words fault)) → sound.error (length memory_line) → status ≢ 4

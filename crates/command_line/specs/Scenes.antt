@@ -6,11 +6,11 @@ use Rattle.hl_base.specs.declared.outside.Source.{Ghosts as Inputs}
 use Rattle.hl_base.specs.declared.outside.Sink.{Ghosts as Outputs}
 use Rattle.hl_base.specs.declared.shelf.Shelf.{Ghosts as Shelves}
 use Rattle.query_terms.specs.declared.making.Maker.{Ghosts as Makers}
-use Rattle.report_commands.specs.declared.asked.Asked.{Asked}
-use Rattle.report_commands.specs.Reports.{Report}
+use Rattle.book_commands.specs.Answers.{Telling}
+use Rattle.book_commands.specs.Outcomes.{Judged, Outcome}
 use Rattle.command_line.specs.declared.outside.Outside.{Outside}
-use Rattle.command_line.specs.Answers.{Telling}
-use Rattle.command_line.specs.Output.{Outcome, judged, text_under, within_bytes}
+use Rattle.command_line.specs.declared.task.TextTask.{TextTask}
+use Rattle.command_line.specs.Sources.{judged, text_under, within_bytes}
 
 -- what the objects of a run tell: the bytes that are left of the input and those that were written to the output and to
 -- the error output, each with its count of faults; the bytes under each name, whether they are told, how many calls of the
@@ -46,14 +46,6 @@ scene j o e s m outside = record {
 }
 
 -- what a maker of patterns tells, before and after
-abbrev pub told_by : {M : Type 0} → Makers M → M → M → Telling
-told_by m old new = record {
-  count_before = m.refusals old;
-  count_now = m.refusals new;
-  last_before = m.last_refused old;
-  last_now = m.last_refused new;
-}
-
 abbrev pub telling : Scene → Scene → Telling
 telling old new = record {
   count_before = old.refusals;
@@ -67,9 +59,9 @@ abbrev pub text_in : Option (List ℕ) → Scene → Option (Result (List ℕ) O
 text_in None s = option_map within_bytes s.left
 text_in (Some name) s = if s.files_told then Some (text_under name (s.file name)) else None
 
--- what is asked of it, or its refusal
-abbrev pub judged_in : Option (List ℕ) → Asked → ℕ → Scene → Option (Result Report Outcome)
-judged_in file asked day s = option_map (judged asked day) (text_in file s)
+-- what is judged of it on a day, or its refusal
+abbrev pub judged_in : TextTask → ℕ → Scene → Option Judged
+judged_in task day s = option_map (judged day task.work) (text_in task.file s)
 
 -- the input was read to its end, where it is the source
 abbrev pub IsReadWhole : Option (List ℕ) → Scene → Scene → Type 0

@@ -2,21 +2,20 @@
 ghost use Rattle.std.specs.Prelude.{◌≡◌, ◌≢◌, ◌⊎◌, ℕ, List, Err, length};
 ghost use Rattle.hl_base.specs.Causes.{Rose};
 ghost use Rattle.hl_time.specs.Calendar.{IsDay};
-ghost use Rattle.report_options.specs.Options.{IsValid};
+ghost use Rattle.book_commands.specs.Works.{IsWorkable};
 ghost use Rattle.command_line.specs.Answers.{IsStatus, Says, Wrote, WrotePrefix, line_of, status_of};
 ghost use Rattle.command_line.specs.Commands.{IsReadable, task_of};
-ghost use Rattle.command_line.specs.Errors.{write_fault_line};
-ghost use Rattle.command_line.specs.Runs.{AnswersReport, Reports, ReportsSoundly, Runs, RunsSoundly, RunsTask, TaskSoundly};
+ghost use Rattle.book_commands.specs.Errors.{write_fault_line};
+ghost use Rattle.command_line.specs.Runs.{AnswersText, RunsText, TextSoundly, Runs, RunsSoundly, RunsTask, TaskSoundly};
 ghost use Rattle.command_line.specs.Scenes.{SourceIsSound, scene, soundness};
 
 use crate::help::{help_text, version_text};
 use crate::outside::Outside;
-use crate::refusal::Refusal;
-use crate::report::report_on;
 use crate::source::read_text;
 use crate::talk::talk;
-use crate::task::{ReportTask, Task};
+use crate::task::{Task, TextTask};
 use crate::words::{read_words, refuse_words};
+use book_commands::{Refusal, answer_text};
 use hl_base::{Bytes, Shelf, Sink, Source, Steps, Text, write_all};
 use hl_time::Day;
 use query::Maker;
@@ -27,17 +26,17 @@ use std::sync::ledger::Ledger;
 #[derive(Clone, Copy, Debug, PartialEq, Eq)]
 pub struct Status(pub u8);
 
-/// What a report answers, before anything is written.
+/// What is answered to a text, before anything is written.
 fn answer<J: Source, O: Sink, E: Sink, S: Shelf, M: Maker, L: Ledger>(
     alloc: Global,
-    task: &ReportTask,
+    task: &TextTask,
     day: Day,
     outside: &mut Outside<J, O, E, S, M>,
     steps: &mut Steps<L>,
 ) -> Result<Bytes, Refusal>
     requires day { IsDay day.0 }
-    requires valid { IsValid task.now.asked.options }
-    ensures answers { AnswersReport task.now day.0 result
+    requires valid { IsWorkable task.now.work }
+    ensures answers { AnswersText task.now day.0 result
         (scene J.Source O.Sink E.Sink S.Shelf M.Maker outside.old)
         (scene J.Source O.Sink E.Sink S.Shelf M.Maker outside.new) }
     ensures sound { SourceIsSound task.now.file (soundness J.Source O.Sink E.Sink S.Shelf outside.old)
@@ -47,9 +46,9 @@ fn answer<J: Source, O: Sink, E: Sink, S: Shelf, M: Maker, L: Ledger>(
     ensures files { (name : List ℕ) → S.file outside.new.shelf name ≡ S.file outside.old.shelf name }
 {
     let text = read_text(alloc, &task.file, outside)?;
-    report_on(
+    answer_text(
         alloc,
-        &task.asked,
+        &task.work,
         text.as_slice(),
         day,
         &mut outside.maker,
@@ -72,7 +71,8 @@ fn status_and_line(refusal: &Refusal) -> (u8, &[u8])
 
 /// Writes a line that says why a run doesn't end well; where it can't be written the status is 4.
 pub fn say<E: Sink>(err: &mut E, status: u8, line: &[u8]) -> Status
-    ensures { Says result.0 status line.now (E.written err.old) (E.written err.new) (E.faults err.old) (E.faults err.new) }
+    ensures { Says result.0 status line.now
+        (E.written err.old) (E.written err.new) (E.faults err.old) (E.faults err.new) }
 {
     match write_all(err, line) {
         Ok(()) => Status(status),
@@ -84,7 +84,8 @@ pub fn say<E: Sink>(err: &mut E, status: u8, line: &[u8]) -> Status
 fn refuse<E: Sink>(err: &mut E, refusal: &Refusal) -> Status
     ensures told { Says result.0 (status_of refusal.now) (line_of refusal.now)
         (E.written err.old) (E.written err.new) (E.faults err.old) (E.faults err.new) }
-    ensures sound { E.HasRoom err.old (length (line_of refusal.now)) → result.0 ≡ status_of refusal.now }
+    ensures sound { E.HasRoom err.old (length (line_of refusal.now))
+        → result.0 ≡ status_of refusal.now }
 {
     let (status, line) = status_and_line(refusal);
     match write_all(err, line) {
@@ -110,21 +111,21 @@ fn finish<O: Sink, E: Sink>(out: &mut O, err: &mut E, output: &[u8]) -> Status
     }
 }
 
-/// Runs a report: reads the text, and writes the report or the line that says why there is none.
-fn run_report<J: Source, O: Sink, E: Sink, S: Shelf, M: Maker, L: Ledger>(
+/// Runs what is asked of a text: reads it, and writes the output or the line that says why there is none.
+fn run_text<J: Source, O: Sink, E: Sink, S: Shelf, M: Maker, L: Ledger>(
     alloc: Global,
-    task: &ReportTask,
+    task: &TextTask,
     day: Day,
     outside: &mut Outside<J, O, E, S, M>,
     steps: &mut Steps<L>,
 ) -> Status
     requires day { IsDay day.0 }
-    requires valid { IsValid task.now.asked.options }
+    requires valid { IsWorkable task.now.work }
     ensures statuses { IsStatus result.0 }
-    ensures runs { Reports task.now day.0 result.0
+    ensures runs { RunsText task.now day.0 result.0
         (scene J.Source O.Sink E.Sink S.Shelf M.Maker outside.old)
         (scene J.Source O.Sink E.Sink S.Shelf M.Maker outside.new) }
-    ensures sound { ReportsSoundly task.now day.0 result.0
+    ensures sound { TextSoundly task.now day.0 result.0
         (scene J.Source O.Sink E.Sink S.Shelf M.Maker outside.old)
         (soundness J.Source O.Sink E.Sink S.Shelf outside.old) }
     ensures files { (name : List ℕ) → S.file outside.new.shelf name ≡ S.file outside.old.shelf name }
@@ -159,7 +160,7 @@ fn run_task<J: Source, O: Sink, E: Sink, S: Shelf, M: Maker, L: Ledger>(
     ensures files { (name : List ℕ) → S.file outside.new.shelf name ≡ S.file outside.old.shelf name }
 {
     match task {
-        Task::Report(report) => run_report(alloc, report, day, outside, steps),
+        Task::Over(given) => run_text(alloc, given, day, outside, steps),
         Task::Talk => talk(
             alloc,
             day,
@@ -182,11 +183,12 @@ fn run_task<J: Source, O: Sink, E: Sink, S: Shelf, M: Maker, L: Ledger>(
 }
 
 /// Runs the program: reads what the words ask for, and writes the answer or the line that says why there is none.
-/// The status is 0 where all was done; 1 where the text has a fault, the query or the range of a report refuses, or a
-/// connection ended badly; 2 where the words have no reading; 3 where the input or the file couldn't be read; 4 where
-/// an output couldn't be written; 6 where memory ran out; 7 where the text or a report is past a limit; and 8 where
-/// there is no file of that name. Dates without a year have that of the day. `talk` answers the requests of one
-/// connection over the input and the output, to a journal that begins empty. No file is changed.
+/// The status is 0 where all was done; 1 where the text has a fault, the query or the range of a report refuses, a check
+/// fails, accounts can't be closed, a time log isn't read, or a connection ended badly; 2 where the words have no
+/// reading; 3 where the input or the file couldn't be read; 4 where an output couldn't be written; 6 where memory ran
+/// out; 7 where the text or a report is past a limit; and 8 where there is no file of that name. Dates without a year
+/// have that of the day. `talk` answers the requests of one connection over the input and the output, to a journal that
+/// begins empty. No file is changed.
 pub fn run<J: Source, O: Sink, E: Sink, S: Shelf, M: Maker, L: Ledger>(
     alloc: Global,
     words: &[Text],

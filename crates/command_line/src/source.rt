@@ -1,14 +1,14 @@
 //! The text that a report is over.
 ghost use Rattle.std.specs.Prelude.{◌≡◌, ◌≢◌, ◌≤◌, ℕ, List, Some, [], Err, IfOk, IfErr, IfSome, OnOk, IsTrue, None, ◌<◌, length};
 ghost use Rattle.hl_base.specs.Causes.{Rose};
-ghost use Rattle.command_line.specs.Answers.{FindsText, IsOfFile, IsOfText};
-ghost use Rattle.command_line.specs.Output.{text_under, within_bytes};
+ghost use Rattle.book_commands.specs.Answers.{IsOfText};
+ghost use Rattle.command_line.specs.Answers.{FindsText, IsOfFile};
+ghost use Rattle.command_line.specs.Sources.{text_under, within_bytes};
 ghost use Rattle.command_line.specs.Runs.{ReadsText};
 ghost use Rattle.command_line.specs.Scenes.{SourceIsSound, scene, soundness};
 
-use crate::errors::{absent, past_limit};
 use crate::outside::Outside;
-use crate::refusal::Refusal;
+use book_commands::{Refusal, absent, past_limit};
 use hl_base::{Bytes, ReadAllFault, Shelf, ShelfFault, Sink, Source, Text, read_all};
 use query::Maker;
 use std::alloc::Global;
@@ -18,7 +18,8 @@ const MOST_BYTES: u64 = 16_777_216;
 
 /// The refusal of a text with more bytes than it may have.
 fn too_long(alloc: Global) -> Refusal
-    ensures refused { (text : List ℕ) → 16777216 < length text → FindsText (Err result) (within_bytes text) }
+    ensures refused { (text : List ℕ) → 16777216 < length text
+        → FindsText (Err result) (within_bytes text) }
     ensures kind { IsOfText result }
     ensures file { IsOfFile result }
     ensures read { result ≢ Refusal.ReadFault }

@@ -9,7 +9,7 @@ ghost use Rattle.web_desk.specs.Counts.{Counted};
 ghost use Rattle.web_desk.specs.declared.conn_end.ConnEnd.{ConnEnd};
 ghost use Rattle.web_desk.specs.declared.conn_end.ConnEnd.TheVariants as conn;
 ghost use Rattle.command_line.specs.Answers.{IsStatus};
-ghost use Rattle.command_line.specs.Scenes.{told_by};
+ghost use Rattle.book_commands.specs.Answers.{told_by};
 ghost use Rattle.command_line.specs.Talks.{IsWantOfMemory, NeverFails, Talks, TellsEnd, begun, room};
 
 use crate::program::{Status, say};
@@ -87,8 +87,10 @@ fn talk_over<K: Link, M: Maker, L: Ledger>(
 ) -> ConnEnd
     requires { IsDay day.0 }
     ensures talked { IfSome (K.coming link.old) (λ bytes. IfSome (K.sent link.old) (λ before.
-        (text : List ℕ) × (K.sent link.new ≡ Some (before ++ text)) × Talks day.0 (told_by M.Maker maker.old maker.new) bytes result text)) }
-    ensures counted { Counted result (K.read_faults link.old) (K.read_faults link.new) (K.write_faults link.old) (K.write_faults link.new) }
+        (text : List ℕ) × (K.sent link.new ≡ Some (before ++ text))
+        × Talks day.0 (told_by M.Maker maker.old maker.new) bytes result text)) }
+    ensures counted { Counted result
+        (K.read_faults link.old) (K.read_faults link.new) (K.write_faults link.old) (K.write_faults link.new) }
     ensures unspent { result ≢ ConnEnd.Spent }
 {
     let Ok(mut desk) = machine(alloc, steps) else {
@@ -107,7 +109,8 @@ fn talk_over<K: Link, M: Maker, L: Ledger>(
 
 /// The exit status of a read or a write that failed, with its line.
 fn tell_fault<E: Sink>(err: &mut E, way: Way) -> Status
-    ensures { TellsEnd (ConnEnd.LinkFault way) result.0 (E.written err.old) (E.written err.new) (E.faults err.old) (E.faults err.new) }
+    ensures { TellsEnd (ConnEnd.LinkFault way) result.0
+        (E.written err.old) (E.written err.new) (E.faults err.old) (E.faults err.new) }
 {
     match way {
         Way::Read => say(err, 3, b"error: read fault\n"),
@@ -117,7 +120,8 @@ fn tell_fault<E: Sink>(err: &mut E, way: Way) -> Status
 
 /// The exit status of an end. Where it isn't a good one its line is written.
 fn tell_end<E: Sink>(err: &mut E, end: ConnEnd) -> Status
-    ensures { TellsEnd end result.0 (E.written err.old) (E.written err.new) (E.faults err.old) (E.faults err.new) }
+    ensures { TellsEnd end result.0
+        (E.written err.old) (E.written err.new) (E.faults err.old) (E.faults err.new) }
 {
     match end {
         ConnEnd::Closed => Status(0),
@@ -145,12 +149,17 @@ pub fn talk<J: Source, O: Sink, E: Sink, M: Maker, L: Ledger>(
     ensures statuses { IsStatus result.0 }
     ensures read { result.0 ≢ 2 }
     ensures talked { (end : ConnEnd) × (end ≢ conn.Spent)
-        × TellsEnd end result.0 (E.written err.old) (E.written err.new) (E.faults err.old) (E.faults err.new)
-        × IfSome (J.left streams.old.input) (λ bytes. IfSome (O.written streams.old.output) (λ before.
+        × TellsEnd end result.0
+        (E.written err.old) (E.written err.new) (E.faults err.old) (E.faults err.new)
+        × IfSome (J.left streams.old.input) (λ bytes.
+        IfSome (O.written streams.old.output) (λ before.
         (text : List ℕ) × (O.written streams.new.output ≡ Some (before ++ text))
         × Talks day.0 (told_by M.Maker maker.old maker.new) bytes end text)) }
-    ensures read_fault { result.0 ≡ 3 → Rose (J.faults streams.old.input) (J.faults streams.new.input) }
-    ensures write_fault { result.0 ≡ 4 → Rose (O.faults streams.old.output) (O.faults streams.new.output) ⊎ Rose (E.faults err.old) (E.faults err.new) }
+    ensures read_fault { result.0 ≡ 3
+        → Rose (J.faults streams.old.input) (J.faults streams.new.input) }
+    ensures write_fault { result.0 ≡ 4
+        → Rose (O.faults streams.old.output) (O.faults streams.new.output)
+        ⊎ Rose (E.faults err.old) (E.faults err.new) }
 {
     let end = talk_over(alloc, day, streams, maker, steps);
     tell_end(err, end)

@@ -1,22 +1,22 @@
 //! What the words of the program ask for.
 
+use book_commands::Work;
 use hl_base::Text;
-use report_commands::Asked;
 
-/// A report over the text of a file, or over that of the input.
+/// What is asked of the text of a file, or of that of the input.
 #[derive(Drop)]
-pub struct ReportTask {
+pub struct TextTask {
     /// The name of the file; none is the input.
     pub file: Option<Text>,
     /// What is asked of the text.
-    pub asked: Asked,
+    pub work: Work,
 }
 
 /// What the words ask for.
 #[derive(Drop)]
 pub enum Task {
-    /// A report.
-    Report(ReportTask),
+    /// Something of a text.
+    Over(TextTask),
     /// A connection over the input and the output.
     Talk,
     /// The commands.

@@ -17,7 +17,7 @@ returns-clause-answers g c =
     let old = scene g.J.Source g.O.Sink g.E.Sink g.S.Shelf g.M.Maker c.args.outside.now in
     let mid = scene g.J.Source g.O.Sink g.E.Sink g.S.Shelf g.M.Maker c.read_text.new.outside in
     let F : List ℕ → Type 0 = λ t. ReadsText c.args.task.now.file (Ok t) old mid in
-    let told = c.report_on.ensures in
-    read_report c.args.task.now c.args.day.0 c.as_slice.result.now c.report_on.result old mid
-    (g.M.Maker.refusals c.report_on.new.maker) (g.M.Maker.last_refused c.report_on.new.maker)
+    let told = c.answer_text.ensures in
+    read_report c.args.task.now c.args.day.0 c.as_slice.result.now c.answer_text.result old mid
+    (g.M.Maker.refusals c.answer_text.new.maker) (g.M.Maker.last_refused c.answer_text.new.maker)
     (subst F (sym c.as_slice.ensures) c.in_ok-text.ensures.reads) told.found told.kind told.read told.maker

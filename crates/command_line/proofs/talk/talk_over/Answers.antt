@@ -1,5 +1,5 @@
 use Rattle.hl_base.specs.declared.mem_disk.MemDisk.{MemDisk}
-use Rattle.command_line.specs.Scenes.{told_by}
+use Rattle.book_commands.specs.Answers.{told_by}
 use Rattle.command_line.proofs.Talking.{nothing_done, talked, unasked}
 use Rattle.command_line.proofs.talk.talk_over.Goals as goal
 

@@ -1,10 +1,10 @@
 use Rattle.std.proofs.Common.{ℕ, List, Ok, length, sym, subst}
 use Rattle.command_line.specs.Answers.{line_of}
-use Rattle.command_line.specs.Runs.{AnswersReport}
+use Rattle.command_line.specs.Runs.{AnswersText}
 use Rattle.command_line.specs.Scenes.{scene, soundness}
 use Rattle.command_line.proofs.Endings.{refused_report, refused_soundly, refused_status}
 use Rattle.command_line.proofs.Finishing.{finished_report, finished_soundly}
-use Rattle.command_line.proofs.program.run_report.Goals as goal
+use Rattle.command_line.proofs.program.run_text.Goals as goal
 
 pub returns-in-Err-clause-statuses : goal.returns-in-Err-clause-statuses
 returns-in-Err-clause-statuses g c =
@@ -37,7 +37,7 @@ returns-in-Ok-clause-runs g c =
     let err = g.E.Sink in
     let old = scene g.J.Source g.O.Sink err g.S.Shelf g.M.Maker c.args.outside.now in
     let mid = scene g.J.Source g.O.Sink err g.S.Shelf g.M.Maker c.answer.new.outside in
-    let F : List ℕ → Type 0 = λ o. AnswersReport c.args.task.now c.args.day.0 (Ok o) old mid in
+    let F : List ℕ → Type 0 = λ o. AnswersText c.args.task.now c.args.day.0 (Ok o) old mid in
     finished_report c.args.task.now c.args.day.0 c.finish.result.0 c.as_slice.result.now old mid
     (g.O.Sink.written c.finish.new.out) (g.O.Sink.faults c.finish.new.out) (err.written c.finish.new.err) (err.faults c.finish.new.err)
     (subst F (sym c.as_slice.ensures) c.in-Ok.ensures.answers)
@@ -48,7 +48,7 @@ returns-in-Ok-clause-sound g c =
     let err = g.E.Sink in
     let old = scene g.J.Source g.O.Sink err g.S.Shelf g.M.Maker c.args.outside.now in
     let mid = scene g.J.Source g.O.Sink err g.S.Shelf g.M.Maker c.answer.new.outside in
-    let F : List ℕ → Type 0 = λ o. AnswersReport c.args.task.now c.args.day.0 (Ok o) old mid in
+    let F : List ℕ → Type 0 = λ o. AnswersText c.args.task.now c.args.day.0 (Ok o) old mid in
     finished_soundly c.args.task.now c.args.day.0 c.finish.result.0 c.as_slice.result.now old mid
     (soundness g.J.Source g.O.Sink err g.S.Shelf c.args.outside.now)
     (subst F (sym c.as_slice.ensures) c.in-Ok.ensures.answers)

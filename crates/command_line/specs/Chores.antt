@@ -1,0 +1,56 @@
+-- The commands over a text that are no reports, and their options.
+use Rattle.std.specs.Prelude.{ℕ, Bool, true, false, List, codes, Option, Some, None, if◌then◌else◌}
+use Rattle.std.specs.Str.{bytes_eq}
+use Rattle.book_care.specs.declared.faults.Check.{Check}
+use Rattle.book_care.specs.declared.faults.Check.TheVariants as checks
+use Rattle.command_line.specs.declared.chores.Chore.{Chore}
+use Rattle.command_line.specs.declared.chores.Chore.TheVariants as chores
+use Rattle.command_line.specs.declared.chores.Name.{Name}
+use Rattle.command_line.specs.declared.chores.Name.TheVariants as names
+
+-- the command that a word names
+unfoldable pub chore_named : List ℕ → Option Chore
+chore_named word =
+    if bytes_eq word (codes "hours") then Some chores.Hours
+    else if bytes_eq word (codes "strict") then Some chores.Strict
+    else if bytes_eq word (codes "close") then Some chores.Close
+    else None
+
+-- the check that a word names
+unfoldable pub check_named : List ℕ → Option Check
+check_named word =
+    if bytes_eq word (codes "accounts") then Some checks.Accounts
+    else if bytes_eq word (codes "commodities") then Some checks.Commodities
+    else if bytes_eq word (codes "payees") then Some checks.Payees
+    else if bytes_eq word (codes "tags") then Some checks.Tags
+    else if bytes_eq word (codes "ordereddates") then Some checks.OrderedDates
+    else None
+
+-- the option that a word names, without a value behind `=`
+unfoldable pub name_of : List ℕ → Option Name
+name_of word =
+    if bytes_eq word (codes "--dot") then Some names.Dot
+    else if bytes_eq word (codes "-f") then Some names.File
+    else if bytes_eq word (codes "--on") then Some names.On
+    else if bytes_eq word (codes "--into") then Some names.Into
+    else None
+
+-- a value has to be written
+abbrev pub takes_value : Name → Bool
+takes_value names.Dot = false
+takes_value _ = true
+
+abbrev pub is_hours : Chore → Bool
+is_hours chores.Hours = true
+is_hours _ = false
+
+abbrev pub is_close : Chore → Bool
+is_close chores.Close = true
+is_close _ = false
+
+-- a command has an option
+abbrev pub has_option : Chore → Name → Bool
+has_option chore names.File = true
+has_option chore names.Dot = is_hours chore
+has_option chore names.On = is_close chore
+has_option chore names.Into = is_close chore
