@@ -43,7 +43,7 @@ pub struct Seen {
 const ROOM: u64 = 65536;
 
 /// An empty file, and no fault.
-fn nothing() -> Beside<'static> {
+pub fn nothing() -> Beside<'static> {
     Beside {
         name: "empty",
         text: &[],
@@ -73,11 +73,6 @@ fn maker_of(alloc: Global, beside: &Beside) -> Result<ListMaker, Memory> {
     let mut refused = Vec::new(alloc);
     refused.push(Text::copied(alloc, beside.refused)?)?;
     Ok(ListMaker::new(List::from_vec(refused)))
-}
-
-/// Runs the program on the case.
-pub fn answer(alloc: Global, case: &Case) -> Result<Seen, Memory> {
-    answer_beside(alloc, case, &nothing())
 }
 
 /// Runs the program on the case, beside a file.

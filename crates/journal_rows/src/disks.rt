@@ -1,6 +1,6 @@
 //! Additions to a machine of which calls of a disk fail.
 use crate::ends::{at_once, is};
-use crate::served::served_with_faults;
+use crate::served::served;
 use crate::talks::{ADD, ADDED};
 use std::alloc::Global;
 use std::test::Fail;
@@ -46,22 +46,17 @@ fn sent_after(alloc: Global, faults: usize) -> Result<Vec<u8>, Fail> {
 fn goes_on(alloc: Global, disk_fails: &[u64]) -> Result<bool, Fail> {
     let coming = coming_after(alloc, disk_fails.len())?;
     let sent = sent_after(alloc, disk_fails.len())?;
-    let ended = served_with_faults(alloc, disk_fails, &at_once(coming.as_slice()))?;
+    let ended = served(alloc, disk_fails, &at_once(coming.as_slice()))?;
     Ok(is(&ended, ConnEnd::Closed, sent.as_slice()))
 }
 
-/// The first addition writes and syncs the record in the calls 11 and 12 of its disk, and opens its gate in 13 and 14.
+/// The first addition writes and syncs the record in the calls 11 and 12 of its disk, and opens its gate in 13 and 14;
+/// with 12 and 13 the repair before the second addition fails too.
 #[test]
-fn goes_on_after_a_call_that_failed(rt: HostRuntime) -> Result<(), Fail> {
+fn goes_on_after_calls_that_failed(rt: HostRuntime) -> Result<(), Fail> {
     for call in 11..15 {
         assert!(rt; goes_on(rt.alloc(), &[call])?, "call {call}");
     }
-    Ok(())
-}
-
-/// The repair before the second addition fails too.
-#[test]
-fn goes_on_after_a_repair_that_failed(rt: HostRuntime) -> Result<(), Fail> {
     assert!(rt; goes_on(rt.alloc(), &[12, 13])?);
     Ok(())
 }

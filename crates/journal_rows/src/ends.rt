@@ -24,7 +24,7 @@ pub fn is(ended: &Ended, end: ConnEnd, sent: &[u8]) -> bool {
 fn a_request_is_cut_everywhere(rt: HostRuntime) -> Result<(), Fail> {
     for had in 1..GET.len() {
         let (front, _) = GET.split_at(had);
-        let ended = served(rt.alloc(), &at_once(front))?;
+        let ended = served(rt.alloc(), &[], &at_once(front))?;
         assert!(rt; is(&ended, ConnEnd::HeadCut { had: had as u64 }, b""));
     }
     Ok(())
@@ -48,7 +48,7 @@ fn an_addition_is_cut_everywhere(rt: HostRuntime) -> Result<(), Fail> {
     for had in 1..ADD.len() {
         let (front, _) = ADD.split_at(had);
         let coming = joined(rt.alloc(), GET, front)?;
-        let ended = served(rt.alloc(), &at_once(coming.as_slice()))?;
+        let ended = served(rt.alloc(), &[], &at_once(coming.as_slice()))?;
         assert!(rt; is(&ended, cut_addition(had), LISTED));
     }
     Ok(())
@@ -80,33 +80,24 @@ fn failing(alloc: Global, call: u64) -> Result<Ended, Fail> {
         most: 1,
         fails: &[call],
     };
-    Ok(served(alloc, &connection)?)
+    Ok(served(alloc, &[], &connection)?)
 }
 
+/// Reads are the calls 1 to 34, 36 to 168 and 170, writes 35 and 169.
 #[test]
-fn each_read_of_a_request_fails(rt: HostRuntime) -> Result<(), Fail> {
+fn each_call_fails(rt: HostRuntime) -> Result<(), Fail> {
     for call in 1..35 {
         let ended = failing(rt.alloc(), call)?;
         assert!(rt; is(&ended, ConnEnd::LinkFault { way: Way::Read }, b""));
     }
-    Ok(())
-}
-
-#[test]
-fn each_read_of_an_addition_fails(rt: HostRuntime) -> Result<(), Fail> {
     for call in 36..169 {
         let ended = failing(rt.alloc(), call)?;
         assert!(rt; is(&ended, ConnEnd::LinkFault { way: Way::Read }, LISTED));
     }
-    Ok(())
-}
-
-#[test]
-fn each_write_fails(rt: HostRuntime) -> Result<(), Fail> {
-    let ended = failing(rt.alloc(), 35)?;
-    assert!(rt; is(&ended, ConnEnd::LinkFault { way: Way::Write }, b""));
-    let ended = failing(rt.alloc(), 169)?;
-    assert!(rt; is(&ended, ConnEnd::LinkFault { way: Way::Write }, LISTED));
+    for (call, sent) in [(35, b"".as_slice()), (169, LISTED)] {
+        let ended = failing(rt.alloc(), call)?;
+        assert!(rt; is(&ended, ConnEnd::LinkFault { way: Way::Write }, sent));
+    }
     Ok(())
 }
 
@@ -134,7 +125,7 @@ fn a_bad_head_is_answered_at_its_end(rt: HostRuntime) -> Result<(), Fail> {
         most: 65536,
         fails: &[2],
     };
-    let ended = served(rt.alloc(), &connection)?;
+    let ended = served(rt.alloc(), &[], &connection)?;
     assert!(rt; is(&ended, ConnEnd::LinkFault { way: Way::Write }, b""));
     Ok(())
 }

@@ -1,8 +1,6 @@
-//! Runs of the program over memory, and tables of what they must answer.
+//! Runs of the program over memory: what only a public call can show. Rows of commands stand in tests/commands.
 #![tactic(auto)]
 
-#[cfg(test)]
-mod assigned_rows;
 pub mod case;
 mod cuts;
 #[cfg(test)]
@@ -10,15 +8,9 @@ mod disks;
 #[cfg(test)]
 mod ends;
 #[cfg(test)]
-mod file_rows;
-#[cfg(test)]
 mod heads;
 #[cfg(test)]
-mod limits;
-#[cfg(test)]
-mod report_rows;
-#[cfg(test)]
-mod rows;
+mod runs;
 pub mod served;
 #[cfg(test)]
 mod talks;

@@ -98,11 +98,7 @@ pub fn served_both(
 }
 
 /// One connection to such a machine.
-pub fn served_with_faults(
-    alloc: Global,
-    disk_fails: &[u64],
-    connection: &Connection,
-) -> Result<Ended, Memory> {
+pub fn served(alloc: Global, disk_fails: &[u64], connection: &Connection) -> Result<Ended, Memory> {
     let none = Connection {
         coming: &[],
         most: 1,
@@ -110,9 +106,4 @@ pub fn served_with_faults(
     };
     let (ended, _) = served_both(alloc, disk_fails, connection, &none)?;
     Ok(ended)
-}
-
-/// One connection to a machine that begins with the empty text, over disks without a fault.
-pub fn served(alloc: Global, connection: &Connection) -> Result<Ended, Memory> {
-    served_with_faults(alloc, &[], connection)
 }
