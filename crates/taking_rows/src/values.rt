@@ -35,6 +35,24 @@ fn columns_in(columns: &List<Span>) -> &[Span]
     columns.as_slice()
 }
 
+/// Whether a taking has this value.
+fn is_worth(taking: &Taking, wanted: Dec) -> bool {
+    match &taking.amount {
+        Some(share) => share.value == wanted,
+        None => false,
+    }
+}
+
+/// Whether all takings have this value.
+fn are_worth(takings: &[Taking], wanted: Dec) -> bool {
+    for taking in takings {
+        if !is_worth(taking, wanted) {
+            return false;
+        }
+    }
+    true
+}
+
 #[test]
 fn values_on_days(rt: HostRuntime) -> Result<(), Fail> {
     let alloc = rt.alloc();
@@ -58,15 +76,8 @@ fn values_on_days(rt: HostRuntime) -> Result<(), Fail> {
     }];
     let values = value_takings(alloc, &takings, &Dates::On(Day(738_930)), &market)?;
     let wanted = Dec::new(3, 0).ok_or("within bounds")?;
-    match values.as_slice() {
-        [
-            Taking {
-                amount: Some(share),
-                ..
-            },
-        ] => assert!(rt; share.value == wanted),
-        _ => return Err(Fail::new("one value")),
-    }
+    assert_eq!(rt; values.len(), 1);
+    assert!(rt; are_worth(&values, wanted));
     let columns = two_columns(alloc)?;
     let plan = Plan {
         columns: columns_in(&columns),
