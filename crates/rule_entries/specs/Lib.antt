@@ -1,0 +1,7 @@
+pub mod Occurring
+pub mod Amounts
+pub mod Accounts
+pub mod Added
+pub mod Making
+pub mod Ordered
+pub mod Counted
