@@ -1,0 +1,12 @@
+use Rattle.std.proofs.Common.{◌≡◌, ◌++◌, take}
+use Rattle.std.specs.List.{flat_map}
+use Rattle.query.specs.OwnLetters.{own_in}
+use Rattle.generated.specs.Added.{added_by}
+use Rattle.generated.specs.Asking.{AllAsk, all_asked}
+use Rattle.generated.proofs.adding.add_behind.Given as goal
+
+abbrev pub invariant-loop-asker : goal.invariant-loop-asker
+invariant-loop-asker l = record {
+  added : l.postings.items ≡ l.fn.postings.items ++ flat_map (added_by (own_in l.types) l.txn l.posting) (take l.asker-index (all_asked l.fn.askers));
+  ask : AllAsk l.fn.askers l.askers;
+}

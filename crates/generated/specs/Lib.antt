@@ -1,0 +1,10 @@
+pub mod Refusals
+pub mod Judged
+pub mod Periodic
+pub mod Windows
+pub mod Rules
+pub mod Queries
+pub mod Reading
+pub mod Added
+pub mod Auto
+pub mod Asking
