@@ -3,6 +3,7 @@ pub mod Amounts
 pub mod Bytes
 pub mod Checked
 pub mod Clock
+pub mod Commanded
 pub mod Contents
 pub mod Cuts
 pub mod Days

@@ -1,5 +1,5 @@
 -- Transactions as a journal's text, and as they are read from it.
-use Rattle.std.specs.Prelude.{◌≡◌, ◌≤◌, ℕ, ◌+◌, List, [], ◌∷◌, ◌++◌, length, Option, None, Ok}
+use Rattle.std.specs.Prelude.{◌≡◌, ◌≤◌, ℕ, ◌+◌, List, [], ◌∷◌, ◌++◌, length, Option, Ok}
 use Rattle.std.specs.List.{flat_map, AllByRecursion}
 use Rattle.hl_num.specs.Decimal.{Decimal}
 use Rattle.book.specs.declared.item.Placed.{Placed}
@@ -7,11 +7,8 @@ use Rattle.book.specs.declared.transaction.Posting.{Posting}
 use Rattle.book.specs.declared.transaction.Txn.{Txn}
 use Rattle.book.specs.Postings.{txns_of}
 use Rattle.entry_reader.specs.Causes.{◌>>=◌}
-use Rattle.entry_reader.specs.Contexts.{context_of}
 use Rattle.balancing.specs.Load.{load}
 use Rattle.journal_printer.specs.declared.detail.Detail.{Detail}
-use Rattle.journal_printer.specs.declared.detail.Detail.TheVariants as detailed
-use Rattle.journal_printer.specs.Entries.{entry_shape}
 use Rattle.journal_printer.specs.Layout.{txn_text}
 use Rattle.journal_printer.specs.Texts.{Shaping}
 use Rattle.journal_reader.specs.Items.{items_in}
@@ -24,10 +21,6 @@ IsOwn shape = (value : Decimal) → shape (hours value) ≡ (hours value).shape
 -- the lines of each transaction, with an empty line after them
 abbrev pub journal_of : Shaping → Detail → List Txn → List ℕ
 journal_of shape detail txns = flat_map (λ t. txn_text shape detail t ++ (10 ∷ [])) txns
-
--- the same as entries of a text without directives
-abbrev pub hours_text : List Txn → List ℕ
-hours_text txns = journal_of (entry_shape (context_of None [])) detailed.Written txns
 
 -- the same posting in another line
 abbrev pub numbered_posting : ℕ → Posting → Posting

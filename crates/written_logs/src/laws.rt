@@ -1,9 +1,14 @@
 //! What becomes of the text that is written of a log.
 ghost use Rattle.std.specs.Prelude.{◌≡◌, ◌≤◌, ◌^◌, ℕ, List, [], length, Option, Ok};
 ghost use Rattle.book.specs.declared.transaction.Txn.{Txn};
+ghost use Rattle.book_commands.specs.Outcomes.{written};
+ghost use Rattle.book_commands.specs.Works.{entries_text, judge, log_txns, plain_context};
+ghost use Rattle.book_commands.specs.declared.work.LogForm.{LogForm};
+ghost use Rattle.book_commands.specs.declared.work.Work.TheVariants as works;
 ghost use Rattle.entry_reader.specs.Contexts.{context_of};
 ghost use Rattle.entry_reader.specs.Lines.{contents_of};
 ghost use Rattle.journal_printer.specs.declared.detail.Detail.{Detail};
+ghost use Rattle.journal_printer.specs.declared.detail.Detail.TheVariants as detailed;
 ghost use Rattle.journal_printer.specs.Entries.{entry_shape};
 ghost use Rattle.journal_printer.specs.Texts.{Shaping};
 ghost use Rattle.time_logs.specs.Timeclock.{timeclock};
@@ -51,4 +56,16 @@ pub fn hours_load()
 /// An entry of a text without directives shows hours as they are.
 pub fn hours_own()
     ensures { (year : Option ℕ) → IsOwn (entry_shape (context_of year [])) }
+{}
+
+/// So what the command `hours` writes of a log, on whatever day, loads to the book of the log's transactions, where the
+/// log has at most 16,777,216 bytes and no entry is over 65,536.
+pub fn command_loads()
+    ensures written { (day : ℕ) (form : LogForm) (log : List ℕ) (txns : List Txn)
+        → log_txns form (contents_of log) ≡ Ok txns
+        → judge day (works.Hours form) log ≡ Ok (written (entries_text plain_context txns)) }
+    ensures loads { (year : Option ℕ) (form : LogForm) (log : List ℕ) (txns : List Txn)
+        → length log ≤ 2 ^ 24 → log_txns form (contents_of log) ≡ Ok txns
+        → AreShort (entry_shape plain_context) detailed.Written txns
+        → Loads year (entries_text plain_context txns) (numbered 1 txns) }
 {}
