@@ -1,5 +1,5 @@
 //! Sums and values worked out by hand.
-ghost use Rattle.std.specs.Prelude.{◌≡◌, IfSome};
+ghost use Rattle.std.specs.Prelude.{◌≡◌, ◌≤◌, IfSome};
 
 use book::{Amount, Book, Item, Items, Mark, Placed, Posting, Price, Side, Styles, Txn, Written};
 use hl_base::{Kind, List, Memory, Piece, Text};
@@ -146,13 +146,54 @@ fn options(bounds: Period) -> Options
     }
 }
 
-#[test]
-fn sums_on_the_last_days_of_columns(rt: HostRuntime) -> Result<(), Fail> {
-    let alloc = rt.alloc();
+/// The days from the first posting to the last.
+const DAYS: Span = Span {
+    from: 738_895,
+    end: 738_922,
+};
+
+/// The sums of two months, of one account.
+fn months_are_summed(alloc: Global, job: &Job) -> Result<(), Fail>
+    requires { IfSome job.now.scope.options.now.bounds.interval (λ interval. 1 ≤ interval.n) }
+{
+    let columns = columns_of(alloc, &job.scope)?;
+    let cells = sums(alloc, job, columns)?;
+    if cells.rows.len() == 1 && cells.totals.len() == 2 {
+        Ok(())
+    } else {
+        Err(Fail::new("one account in two months"))
+    }
+}
+
+/// The postings on the days are taken.
+fn postings_are_taken(alloc: Global, job: &Job) -> Result<(), Fail> {
+    let entries = chosen_entries(alloc, &job.scope, Start::Change, DAYS)?;
+    let takings = take_entries(alloc, &job.scope, &entries)?;
+    if takings.len() == 3 {
+        Ok(())
+    } else {
+        Err(Fail::new("three postings"))
+    }
+}
+
+/// What is taken on the days is valued.
+fn takings_are_valued(alloc: Global, job: &Job) -> Result<(), Fail> {
+    let takings = take(alloc, &job.scope, &[DAYS])?;
+    let values = valued_takings(alloc, job, takings, DAYS)?;
+    if values.len() == 3 {
+        Ok(())
+    } else {
+        Err(Fail::new("three values"))
+    }
+}
+
+/// The sums, postings and values of a report with these options.
+fn report_is_made(alloc: Global, options: &Options) -> Result<(), Fail>
+    requires { IfSome options.now.bounds.interval (λ interval. 1 ≤ interval.n) }
+{
     let book = book_of(alloc, &SHARES)?;
     let query = make_query(alloc, &[], TODAY, &mut RegexMaker::new())?;
     let types = Types::new(alloc, &List::new(alloc))?;
-    let options = options(bounds());
     let items = two_prices(alloc)?;
     let prices = Prices::new(alloc, &items)?;
     let styles = Styles::of(alloc, items.as_slice())?;
@@ -161,31 +202,19 @@ fn sums_on_the_last_days_of_columns(rt: HostRuntime) -> Result<(), Fail> {
             book: &book,
             query: &query,
             types: &types,
-            options: &options,
+            options,
             day: TODAY,
         },
         prices: &prices,
         styles: &styles,
     };
-    let columns = columns_of(alloc, &job.scope)?;
-    let cells = sums(alloc, &job, columns)?;
-    assert_eq!(rt; cells.rows.len(), 1);
-    match cells.totals.as_slice() {
-        [first, second] => {
-            assert_eq!(rt; first.entries().len(), 1);
-            assert_eq!(rt; second.entries().len(), 1);
-        }
-        _ => return Err(Fail::new("two months")),
-    }
+    months_are_summed(alloc, &job)?;
+    postings_are_taken(alloc, &job)?;
+    takings_are_valued(alloc, &job)
+}
+
+#[test]
+fn sums_on_the_last_days_of_columns(rt: HostRuntime) -> Result<(), Fail> {
     assert_eq!(rt; COLUMN_LIMIT, 1_200);
-    let span = Span {
-        from: 738_895,
-        end: 738_922,
-    };
-    let entries = chosen_entries(alloc, &job.scope, Start::Change, span)?;
-    assert_eq!(rt; take_entries(alloc, &job.scope, &entries)?.len(), 3);
-    let takings = take(alloc, &job.scope, &[span])?;
-    let values = valued_takings(alloc, &job, takings, span)?;
-    assert_eq!(rt; values.len(), 3);
-    Ok(())
+    report_is_made(rt.alloc(), &options(bounds()))
 }
