@@ -68,7 +68,6 @@ fn told(reply: &Reply) -> Told {
     match reply {
         Reply::Done { revision } => ("done", *revision, 0),
         Reply::Text { revision, bytes } => ("text", *revision, bytes.as_slice().len() as u64),
-        Reply::Forbidden { .. } => ("forbidden", 0, 0),
         Reply::DiskFault { before, after } => ("disk fault", *before, *after),
         _ => ("another", 0, 0),
     }
@@ -91,30 +90,40 @@ fn expect<L: Ledger>(
     }
 }
 
-/// An entry that was added is in the report, and there after the next opening; a replacement isn't allowed where entries
-/// may be added.
-fn adds_an_entry<L: Ledger>(
+/// An addition has this reply.
+fn is_added<L: Ledger>(
     alloc: Global,
+    desk: &mut Desk<MemDisk>,
     entry: &[u8],
-    list: &[u8],
+    wanted: Told,
     steps: &mut Steps<L>,
 ) -> Result<(), Fail> {
-    let mut desk = new_desk(alloc, 4000, Allow::Add, &[], steps)?;
-    expect(alloc, &mut desk, &add(alloc, entry)?, ("done", 1, 0), steps)?;
-    let words = balance(alloc)?;
-    let text = ("text", 1, list.len() as u64);
-    expect(alloc, &mut desk, &Request::Report { words }, text, steps)?;
-    let text = Bytes::copied(alloc, entry)?;
-    let edit = Request::Replace { base: 1, text };
-    expect(alloc, &mut desk, &edit, ("forbidden", 0, 0), steps)?;
+    let request = add(alloc, entry)?;
+    expect(alloc, desk, &request, wanted, steps)
+}
+
+/// The text is there after the next opening, and one request is counted then.
+fn is_kept<L: Ledger>(
+    alloc: Global,
+    desk: Desk<MemDisk>,
+    text: &[u8],
+    steps: &mut Steps<L>,
+) -> Result<(), Fail> {
     let mut desk = opened_again(alloc, desk, Allow::View, steps)?;
-    let text = ("text", 1, entry.len() as u64);
-    expect(alloc, &mut desk, &Request::Download, text, steps)?;
+    let wanted = ("text", 1, text.len() as u64);
+    expect(alloc, &mut desk, &Request::Download, wanted, steps)?;
     if desk.counts() == (1, 1, 0) {
         Ok(())
     } else {
         Err(Fail::new("the counts"))
     }
+}
+
+/// An entry that was added is there after the next opening.
+fn adds_an_entry<L: Ledger>(alloc: Global, entry: &[u8], steps: &mut Steps<L>) -> Result<(), Fail> {
+    let mut desk = new_desk(alloc, 4000, Allow::Add, &[], steps)?;
+    is_added(alloc, &mut desk, entry, ("done", 1, 0), steps)?;
+    is_kept(alloc, desk, entry, steps)
 }
 
 /// The first sync of a record fails, which is the twelfth call of its disk; then the entry is added again.
@@ -124,9 +133,8 @@ fn goes_on_after_a_fault<L: Ledger>(
     steps: &mut Steps<L>,
 ) -> Result<(), Fail> {
     let mut desk = new_desk(alloc, 4000, Allow::Edit, &[12], steps)?;
-    let request = add(alloc, entry)?;
-    expect(alloc, &mut desk, &request, ("disk fault", 0, 1), steps)?;
-    expect(alloc, &mut desk, &request, ("done", 1, 0), steps)
+    is_added(alloc, &mut desk, entry, ("disk fault", 0, 1), steps)?;
+    is_added(alloc, &mut desk, entry, ("done", 1, 0), steps)
 }
 
 /// The report of a text.
@@ -163,7 +171,7 @@ fn each_request<L: Ledger>(
 {
     let mut steps = Steps::<L>::start(blank);
     let steps = &mut steps;
-    adds_an_entry(alloc, entry, list, steps)?;
+    adds_an_entry(alloc, entry, steps)?;
     goes_on_after_a_fault(alloc, entry, steps)?;
     reports(alloc, entry, list, steps)
 }

@@ -26,6 +26,52 @@ fn put<L: Ledger>(live: &mut Live, edit: &Edit, steps: &mut Steps<L>) -> Result<
     Ok(at)
 }
 
+/// An edit of an earlier revision is refused.
+fn is_stale<L: Ledger>(
+    alloc: Global,
+    live: &mut Live,
+    text: &[u8],
+    steps: &mut Steps<L>,
+) -> Result<(), Fail> {
+    let text = Bytes::copied(alloc, text)?;
+    match live.prepare(&Edit::Replace { base: 4, text }, steps) {
+        Err(
+            EditFault::Stale {
+                base: 4,
+                current: 5,
+            },
+        ) => Ok(()),
+        _ => Err(Fail::new("stale")),
+    }
+}
+
+/// An entry is put in.
+fn add<L: Ledger>(
+    alloc: Global,
+    live: &mut Live,
+    entry: &[u8],
+    steps: &mut Steps<L>,
+) -> Result<(), Fail> {
+    let entry = Bytes::copied(alloc, entry)?;
+    put(live, &Edit::Add { entry }, steps)?;
+    Ok(())
+}
+
+/// A journal has this text at revision 6, of two entries and a gap, and no decimal places.
+fn has(alloc: Global, live: &Live, text: &[u8]) -> Result<(), Fail> {
+    if live.text() != text || live.revision() != 6 {
+        return Err(Fail::new("the text and its revision"));
+    }
+    if live.items().len() != 3 || live.book().txns.len() != 2 {
+        return Err(Fail::new("two entries and a gap"));
+    }
+    let symbol = Text::copied(alloc, "EUR")?;
+    if live.styles().style(&symbol).places != 0 {
+        return Err(Fail::new("no decimal places"));
+    }
+    Ok(())
+}
+
 /// An edit of an earlier revision is refused, and an entry is put behind the text, with a blank line between.
 fn each_journal<L: Ledger>(
     alloc: Global,
@@ -41,28 +87,9 @@ fn each_journal<L: Ledger>(
     let mut steps = Steps::<L>::start(blank);
     let steps = &mut steps;
     let mut live = Live::open(alloc, text, None, 5, steps)?;
-    let text = Bytes::copied(alloc, text)?;
-    match live.prepare(&Edit::Replace { base: 4, text }, steps) {
-        Err(
-            EditFault::Stale {
-                base: 4,
-                current: 5,
-            },
-        ) => {}
-        _ => return Err(Fail::new("stale")),
-    }
-    let entry = Bytes::copied(alloc, entry)?;
-    put(&mut live, &Edit::Add { entry }, steps)?;
-    if live.text() != after || live.revision() != 6 {
-        return Err(Fail::new("the text and its revision"));
-    }
-    if live.items().len() != 3 || live.book().txns.len() != 2 {
-        return Err(Fail::new("two entries and a gap"));
-    }
-    if live.styles().style(&Text::copied(alloc, "EUR")?).places != 0 {
-        return Err(Fail::new("no decimal places"));
-    }
-    Ok(())
+    is_stale(alloc, &mut live, text, steps)?;
+    add(alloc, &mut live, entry, steps)?;
+    has(alloc, &live, after)
 }
 
 #[test]
