@@ -92,12 +92,12 @@ const DAYS_SWISS_GERMAN: [File; 3] = [
         rules: "fields date, description, amount\naccount1 a\naccount2 b\nintra-day-reversed\n",
         text: "2024-03-01,A,1\n2024-03-01,B,1\n2024-03-02,C,1\n2024-03-01,D,1\n2024-03-02,E,1\n2024-03-02,F,1\n",
         wanted: &[
-            "2024-03-01 () B ;  | a 1 | b -1",
-            "2024-03-01 () A ;  | a 1 | b -1",
-            "2024-03-01 () D ;  | a 1 | b -1",
-            "2024-03-02 () C ;  | a 1 | b -1",
-            "2024-03-02 () F ;  | a 1 | b -1",
-            "2024-03-02 () E ;  | a 1 | b -1",
+            "2024-03-01 () B ;  | a 1  | b -1 ",
+            "2024-03-01 () A ;  | a 1  | b -1 ",
+            "2024-03-01 () D ;  | a 1  | b -1 ",
+            "2024-03-02 () C ;  | a 1  | b -1 ",
+            "2024-03-02 () F ;  | a 1  | b -1 ",
+            "2024-03-02 () E ;  | a 1  | b -1 ",
         ],
     },
     // Tabs, line ends in quotes, doubled quotes, and the end at a remark of the bank.
