@@ -45,11 +45,15 @@ pub fn plain_loads()
 
 /// So the text that is written of a log loads to the book of its transactions.
 pub fn hours_load()
-    ensures timeclock { (shape : Shaping) (detail : Detail) (year : Option ℕ) (text : List ℕ) (txns : List Txn)
-        → length text ≤ 2 ^ 24 → timeclock (contents_of text) ≡ Ok txns → IsOwn shape → AreShort shape detail txns
+    ensures timeclock { (shape : Shaping) (detail : Detail) (year : Option ℕ)
+        (text : List ℕ) (txns : List Txn)
+        → length text ≤ 2 ^ 24 → timeclock (contents_of text) ≡ Ok txns
+        → IsOwn shape → AreShort shape detail txns
         → Loads year (journal_of shape detail txns) (numbered 1 txns) }
-    ensures timedot { (shape : Shaping) (detail : Detail) (year : Option ℕ) (text : List ℕ) (txns : List Txn)
-        → length text ≤ 2 ^ 24 → timedot (contents_of text) ≡ Ok txns → IsOwn shape → AreShort shape detail txns
+    ensures timedot { (shape : Shaping) (detail : Detail) (year : Option ℕ)
+        (text : List ℕ) (txns : List Txn)
+        → length text ≤ 2 ^ 24 → timedot (contents_of text) ≡ Ok txns
+        → IsOwn shape → AreShort shape detail txns
         → Loads year (journal_of shape detail txns) (numbered 1 txns) }
 {}
 
