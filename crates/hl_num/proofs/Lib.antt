@@ -2,6 +2,7 @@ pub mod CompareLemmas
 pub mod DecimalLaws
 pub mod DecimalLemmas
 pub mod NearestLaws
+pub mod PlainLemmas
 pub mod PrintingLemmas
 pub mod ReadBackLaws
 pub mod ReadingLemmas

@@ -1,8 +1,8 @@
 //! The numbers that people write.
-ghost use Rattle.std.specs.Prelude.{◌≡◌, ◌+◌, ◌*◌, ◌^◌, ◌<◌, ◌≤◌, ◌==◌, IsTrue, length, take, drop, reverse, nat_lt, if◌then◌else◌, not, IfSome, IfNone, ◌||◌};
+ghost use Rattle.std.specs.Prelude.{◌≡◌, ◌+◌, ◌*◌, ◌^◌, ◌<◌, ◌≤◌, ◌==◌, IsTrue, length, take, drop, reverse, nat_lt, if◌then◌else◌, not, IfSome, IfNone, ◌||◌, ◌&&◌, Some, unwrap_or};
 ghost use Rattle.std.specs.List.{list_all, list_any, count_by, find, prefix_len};
 ghost use Rattle.hl_num.specs.Groups.{IsSummary};
-ghost use Rattle.hl_num.specs.Reading.{is_digit, is_mark, other_mark, decimal_mark, undecided_mark, kept_mark, is_number_byte, whole_len, group_sizes, are_groups, first_size, rest_size, mantissa_of, value_with, is_written, number_with, number_end, reading};
+ghost use Rattle.hl_num.specs.Reading.{is_digit, is_mark, other_mark, decimal_mark, undecided_mark, kept_mark, is_number_byte, whole_len, group_sizes, are_groups, first_size, rest_size, mantissa_of, value_with, is_written, number_of, number_with, number_end, reading};
 
 use crate::decimal::Dec;
 
@@ -336,10 +336,100 @@ fn are_digits(text: &[u8]) -> bool
 pub fn read_number(text: &[u8], mark: Option<u8>) -> Result<Number, BadNumber>
     ensures { result ≡ reading text.now mark }
 {
+    match plain_number(text, mark) {
+        Some(number) => Ok(number),
+        None => read_any(text, mark),
+    }
+}
+
+/// The number that the whole text is, whatever marks stand in it.
+fn read_any(text: &[u8], mark: Option<u8>) -> Result<Number, BadNumber>
+    ensures { result ≡ reading text.now mark }
+{
     match number_with(text, decimal_mark(text, mark)) {
         Some(number) => Ok(number),
         None => Err(BadNumber {
             at: number_end(text) as u64,
         }),
     }
+}
+
+/// The number that digits with one mark between them are, where the digits are few: as most amounts are written.
+fn plain_number(text: &[u8], decided: Option<u8>) -> Option<Number>
+    ensures { IfSome result (λ number. number_of text.now decided ≡ Some number) }
+{
+    let end = digits_end(text);
+    if text.len() <= end || text.len() < 2 {
+        return None;
+    }
+    let mark = text[end];
+    let decimals = &text[end + 1..];
+    if !is_own_mark(mark, decided) || !are_few_digits(decimals) {
+        return None;
+    }
+    let digits = small_mantissa(text)?;
+    Some(Number {
+        value: Dec {
+            mantissa: i128::from(digits),
+            places: decimals.len() as u8,
+        },
+        mark: Some(mark),
+        group: None,
+        first: 3,
+        rest: 3,
+    })
+}
+
+/// The place of the first byte that is no digit, or the length.
+fn digits_end(text: &[u8]) -> usize
+    ensures { result ≡ prefix_len is_digit text.now }
+{
+    for (i, byte) in text.iter().enumerate() {
+        if !is_digit(*byte) {
+            return i;
+        }
+    }
+    text.len()
+}
+
+/// Whether the only mark of a text is its decimal mark.
+fn is_own_mark(mark: u8, decided: Option<u8>) -> bool
+    ensures { result ≡ (is_mark mark && unwrap_or decided mark == mark) }
+{
+    is_mark(mark) && decided.unwrap_or(mark) == mark
+}
+
+/// Whether some bytes are digits, and at most 18.
+fn are_few_digits(bytes: &[u8]) -> bool
+    ensures few { IsTrue result → length bytes.now ≤ 18 }
+    ensures digits { IsTrue result → IsTrue (list_all is_digit bytes.now) }
+{
+    bytes.len() <= 18 && are_digits(bytes)
+}
+
+/// What no digits may reach before the last one, so that their value fits 64 bits.
+const FEW: u64 = 1_000_000_000_000_000_000;
+
+/// The value of the digits, where they are few.
+fn small_mantissa(text: &[u8]) -> Option<u64>
+    ensures { IfSome result (λ value. value ≡ mantissa_of text.now) }
+{
+    let mut value: u64 = 0;
+    for byte in text {
+        value = with_digit(value, *byte)?;
+    }
+    Some(value)
+}
+
+/// The value after one more byte, where it was small.
+fn with_digit(value: u64, byte: u8) -> Option<u64>
+    ensures { IfSome result (λ more. more ≡ value_with value byte) }
+{
+    if !is_digit(byte) {
+        return Some(value);
+    }
+    if FEW <= value {
+        return None;
+    }
+    Some(value * 10 + u64::from(byte - b'0'))
 }
