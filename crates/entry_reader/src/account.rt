@@ -150,6 +150,7 @@ pub fn read_name(text: &[u8], line: u64) -> Result<(Side, &[u8]), ReadFault>
 /// The account that a written name stands for in a context. The name has 1 to 64 parts, none of them empty, as it is
 /// written and as the context changes it.
 #[tactic(auto, using(crate::proofs::Named::unchanged_name))]
+#[inline]
 pub fn read_name_in(
     alloc: Global,
     context: &Context,

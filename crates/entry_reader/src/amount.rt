@@ -74,6 +74,7 @@ fn read_left(text: &[u8], line: u64) -> Result<Left<'_>, ReadFault>
 
 /// The symbol behind a number, where none stands before it.
 #[tactic(auto, using(crate::proofs::Texts::empty_utf8), unfolding(crate::specs::Amounts::right_at))]
+#[inline]
 pub fn read_right(text: &[u8], has_symbol: bool) -> Right<'_>
     ensures value { spec.right_with result.symbol.now result.spaced result.is_good result.rest.now ≡ spec.right_at has_symbol text.now }
     ensures utf8 { is_utf8 text.now ≡ true → (is_utf8 result.symbol.now ≡ true) × (is_utf8 result.rest.now ≡ true) }

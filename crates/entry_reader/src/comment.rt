@@ -82,6 +82,7 @@ pub fn append(text: &mut String, bytes: &[u8]) -> Result<(), Memory>
 
 /// A comment on a line and the comment lines at the front of what follows, joined by LF.
 #[tactic(auto, using(crate::proofs::Fronts::no_comments))]
+#[inline]
 pub fn read_comment(alloc: Global, own: &[u8], after: &[u8]) -> Result<Text, Memory>
     requires own { is_utf8 own.now ≡ true }
     requires after { is_utf8 after.now ≡ true }
@@ -103,6 +104,7 @@ pub fn read_comment(alloc: Global, own: &[u8], after: &[u8]) -> Result<Text, Mem
 
 /// The tags of a comment on a line and of the comment lines at the front of what follows.
 #[tactic(auto, using(crate::proofs::Fronts::no_tags))]
+#[inline]
 pub fn read_tags(alloc: Global, own: &[u8], after: &[u8]) -> Result<List<Tag>, Memory>
     requires own { is_utf8 own.now ≡ true }
     requires after { is_utf8 after.now ≡ true }

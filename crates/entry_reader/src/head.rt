@@ -85,6 +85,7 @@ fn has_second_mark(text: &[u8]) -> bool
 
 /// The mark that a text begins with, if any, and what follows it and white space.
 #[tactic(auto, unfolding(crate::specs::Heads::mark_at))]
+#[inline]
 pub fn read_mark(text: &[u8], line: u64) -> Result<(Mark, &[u8]), ReadFault>
     ensures value { Gives (λ x. (x.0, x.1.now)) cause_in result (spec.mark_at line text.now) }
     ensures utf8 { is_utf8 text.now ≡ true → IfOk result (λ x. is_utf8 x.1.now ≡ true) }
