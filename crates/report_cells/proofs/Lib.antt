@@ -1,6 +1,7 @@
 pub mod Choosing
 pub mod Counting
 pub mod Ending
+pub mod Fronts
 pub mod Gathering
 pub mod Holding
 pub mod Joining

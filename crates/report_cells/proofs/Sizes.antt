@@ -261,3 +261,8 @@ module _ (kept : Turnovers) (ts : List Taken) (h : Sized kept ts) where
   -- where none is, all sums stay below the bound
   pub small_from : option_map (λ (e : List ℕ × (ℕ × ℕ)). e.0) (find (λ (e : List ℕ × (ℕ × ℕ)). is_full e.1) kept) ≡ None → TurnoverFits ts
   small_from none q = found_small (entries.find (slice_cmp nat_cmp) q kept) q (h.each q) (none_full kept q none)
+
+-- ---- a number of the same decimals
+
+pub scaled_once : (n : ℕ) → min n (2 ^ 127) ≡ scaled n 0
+scaled_once n = omega arith

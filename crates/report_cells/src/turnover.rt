@@ -64,8 +64,28 @@ impl Turnover {
     }
 }
 
-/// `number * 10^more`, or 2^127 where that is less.
+/// `number * 10^more`, or 2^127 where that is less. Most amounts of a symbol have the same decimals, and are as they are.
 fn scaled(number: u128, more: u8) -> u128
+    requires { more ≤ 36 }
+    ensures { result ≡ scaled number more }
+{
+    if more == 0 {
+        unscaled(number)
+    } else {
+        multiplied(number, more)
+    }
+}
+
+/// The number, or 2^127 where that is less.
+#[tactic(auto, using(crate::proofs::Sizes::scaled_once))]
+fn unscaled(number: u128) -> u128
+    ensures { result ≡ scaled number 0 }
+{
+    number.min(LIMIT)
+}
+
+/// `number * 10^more`, or 2^127 where that is less.
+fn multiplied(number: u128, more: u8) -> u128
     requires { more ≤ 36 }
     ensures { result ≡ scaled number more }
 {

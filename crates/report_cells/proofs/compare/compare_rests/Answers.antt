@@ -1,6 +1,6 @@
 use Rattle.std.proofs.Common.{◌≡◌, ◌<◌, ◌≤◌, length, sym, ◌∙◌, arith}
 use Rattle.book.proofs.Accounts.{same_more, ends_right, ends_left}
-use Rattle.report_cells.proofs.compare.compare_names.Goals as goal
+use Rattle.report_cells.proofs.compare.compare_rests.Goals as goal
 
 pub loop-i-preserved : goal.loop-i-preserved
 loop-i-preserved c =
