@@ -34,6 +34,13 @@ impl<'a> Entry<'a> {
     ghost use Rattle.std.specs.Prelude.{◌≡◌};
     ghost use Rattle.report_takings.specs.Entries.{day_in};
 
+    /// A posting with its transaction.
+    pub(crate) fn new(posting: &'a Posting, txn: &'a Txn) -> Entry<'a>
+        ensures { result ≡ (posting.now, txn.now) }
+    {
+        Entry { posting, txn }
+    }
+
     /// The posting.
     pub fn posting(&self) -> &'a Posting
         ensures { result.now ≡ self.now.0 }
@@ -84,7 +91,7 @@ pub enum Part {
 
 /// Whether a posting is chosen.
 #[tactic(auto, using(crate::proofs::Serving::posting_is, crate::proofs::Serving::boundless_is, crate::proofs::Serving::serves_still))]
-fn is_chosen(
+pub(crate) fn is_chosen(
     search: &mut Search,
     scope: &Scope,
     start: Start,

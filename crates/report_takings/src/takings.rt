@@ -1,18 +1,21 @@
 //! What a report takes of the postings of its book.
-ghost use Rattle.std.specs.Prelude.{◌≡◌, ◌++◌, true, map, IfOk, IfErr, OnOk};
+ghost use Rattle.std.specs.Prelude.{◌≡◌, ◌++◌, true, false, None, map, filter, IfOk, IfErr, OnOk};
 ghost use Rattle.std.specs.Option.{option_copied};
 ghost use Rattle.entry_balance.specs.Entry.{amount_cost_fits};
-ghost use Rattle.report_takings.specs.Asking.{question_of};
+ghost use Rattle.report_takings.specs.Asking.{Serves, entries, question_of};
 ghost use Rattle.report_takings.specs.Costs.{is_at_cost};
 ghost use Rattle.report_takings.specs.Takings as spec;
+ghost use Rattle.report_takings.specs.Walked.{taken_in, taken_of};
 ghost use Rattle.report_takings.specs.declared.entries.Part.TheVariants.{Counted, Named};
 
 use crate::costs::{first_out, is_at_cost, moved};
 use crate::cuts::cut_to;
-use crate::entries::{Entry, Part, kept_entries};
+use crate::entries::{Entry, Part, is_chosen, kept_entries};
 use crate::scope::Scope;
+use book::Txn;
 use hl_base::{Memory, Text};
 use hl_time::Span;
+use query::Search;
 use report_cells::{ReportFault, Taking};
 use std::alloc::Global;
 
@@ -31,11 +34,105 @@ pub fn take<'a>(
     ensures fault { IfErr result (spec.IsOut (question_of scope.now) columns.now) }
 {
     let shown = shown_in(columns);
-    let entries = kept_entries(alloc, scope, Part::Counted, shown)?;
-    let mut takings = take_entries(alloc, scope, &entries)?;
+    let mut takings = take_counted(alloc, scope, shown)?;
     let others = kept_entries(alloc, scope, Part::Named, shown)?;
     push_named(scope, &others, &mut takings)?;
     Ok(takings)
+}
+
+/// What is taken for their amounts of the postings that are kept for these. As they are written they are taken in one
+/// walk over the book, and at cost from a list, since the least symbol whose cost is out of range is sought before.
+fn take_counted<'a>(
+    alloc: Global,
+    scope: &Scope<'a>,
+    shown: Span,
+) -> Result<Vec<Taking<'a>>, ReportFault>
+    ensures taken { IfOk result (λ takings. takings.items ≡ map (spec.taken Counted (question_of scope.now))
+        (filter (spec.is_kept Counted (question_of scope.now) shown) (entries (question_of scope.now)))) }
+    ensures within { OnOk result (spec.out_among scope.now.options.now
+        (filter (spec.is_kept Counted (question_of scope.now) shown) (entries (question_of scope.now))) ≡ None) }
+    ensures fault { IfErr result (spec.IsOutAmong scope.now.options.now
+        (filter (spec.is_kept Counted (question_of scope.now) shown) (entries (question_of scope.now)))) }
+{
+    if is_at_cost(scope.options) {
+        return take_kept(alloc, scope, shown);
+    }
+    Ok(take_written(alloc, scope, shown)?)
+}
+
+/// What is taken for their amounts of the postings that are kept for these, from a list of them.
+fn take_kept<'a>(
+    alloc: Global,
+    scope: &Scope<'a>,
+    shown: Span,
+) -> Result<Vec<Taking<'a>>, ReportFault>
+    ensures taken { IfOk result (λ takings. takings.items ≡ map (spec.taken Counted (question_of scope.now))
+        (filter (spec.is_kept Counted (question_of scope.now) shown) (entries (question_of scope.now)))) }
+    ensures within { OnOk result (spec.out_among scope.now.options.now
+        (filter (spec.is_kept Counted (question_of scope.now) shown) (entries (question_of scope.now))) ≡ None) }
+    ensures fault { IfErr result (spec.IsOutAmong scope.now.options.now
+        (filter (spec.is_kept Counted (question_of scope.now) shown) (entries (question_of scope.now)))) }
+{
+    let entries = kept_entries(alloc, scope, Part::Counted, shown)?;
+    take_entries(alloc, scope, &entries)
+}
+
+/// What is taken for their amounts, as they are written, of the postings that are kept for these.
+fn take_written<'a>(
+    alloc: Global,
+    scope: &Scope<'a>,
+    shown: Span,
+) -> Result<Vec<Taking<'a>>, Memory>
+    requires { is_at_cost scope.now.options.now ≡ false }
+    ensures { IfOk result (λ takings. takings.items ≡ map (spec.taken Counted (question_of scope.now))
+        (filter (spec.is_kept Counted (question_of scope.now) shown) (entries (question_of scope.now)))) }
+{
+    let mut search = scope.query.search(alloc)?;
+    let mut takings = Vec::new(alloc);
+    for txn in scope.book.txns.as_slice() {
+        take_all(&mut search, scope, shown, txn, &mut takings)?;
+    }
+    Ok(takings)
+}
+
+/// Puts what is taken of the postings of a transaction that are kept for their amounts, as they are written.
+fn take_all<'a>(
+    search: &mut Search,
+    scope: &Scope<'a>,
+    shown: Span,
+    txn: &'a Txn,
+    takings: &mut Vec<Taking<'a>>,
+) -> Result<(), Memory>
+    requires serves { Serves search.old scope.now.query.now }
+    requires written { is_at_cost scope.now.options.now ≡ false }
+    ensures taken { OnOk result (takings.new.items ≡ takings.old.items ++ taken_in (question_of scope.now) shown txn.now) }
+    ensures serves { Serves search.new scope.now.query.now }
+{
+    for posting in txn.postings.as_slice() {
+        let entry = Entry::new(posting, txn);
+        take_one(search, scope, shown, &entry, takings)?;
+    }
+    Ok(())
+}
+
+/// Puts what is taken of a posting, as it is written, if it is kept for its amount.
+fn take_one<'a>(
+    search: &mut Search,
+    scope: &Scope<'a>,
+    shown: Span,
+    entry: &Entry<'a>,
+    takings: &mut Vec<Taking<'a>>,
+) -> Result<(), Memory>
+    requires serves { Serves search.old scope.now.query.now }
+    requires written { is_at_cost scope.now.options.now ≡ false }
+    ensures taken { OnOk result (takings.new.items ≡ takings.old.items ++ taken_of (question_of scope.now) shown entry.now) }
+    ensures serves { Serves search.new scope.now.query.now }
+{
+    let start = scope.options.start;
+    if is_chosen(search, scope, start, shown, entry.posting(), entry.txn()) {
+        takings.push(counted(scope, entry, false))?;
+    }
+    Ok(())
 }
 
 /// What is taken of postings of the report's book for their amounts: of each its account cut to the query's depth, its
