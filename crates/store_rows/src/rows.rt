@@ -196,6 +196,27 @@ fn a_new_store_has_47_bytes(rt: HostRuntime) -> Result<(), Fail> {
     read_as(store, &MADE, b"")
 }
 
+// Why no store of the empty text is made in two files, of which the first is empty.
+fn refused(alloc: Global, second: &[u8], limit: u64) -> Result<Option<StoreFault>, Fail> {
+    let files = files_of(alloc, b"", second)?;
+    match Store::create(alloc, files.first, files.second, b"", limit) {
+        Ok(_store) => Ok(None),
+        Err((_first, _second, fault)) => Ok(Some(fault)),
+    }
+}
+
+#[test]
+fn what_is_there_is_not_overwritten(rt: HostRuntime) -> Result<(), Fail> {
+    let exists = StoreFault::Exists { len: 3 };
+    let full = StoreFault::Full {
+        size: 47,
+        limit: 46,
+    };
+    assert_eq!(rt; refused(rt.alloc(), b"abc", 47)?, Some(exists));
+    assert_eq!(rt; refused(rt.alloc(), b"abc", 46)?, Some(full));
+    Ok(())
+}
+
 // What comes of an entry that is added to an empty store with a limit.
 fn added(alloc: Global, limit: u64) -> Result<Result<u64, StoreFault>, Fail> {
     let add = splice(alloc, 0, &ENTRY)?;

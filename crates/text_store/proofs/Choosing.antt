@@ -47,7 +47,7 @@ module _ (file : List ℕ) where
   word = take-take 8 32 file (omega arith)
 
   -- number_8 reads the first 8 bytes
-  head_number : (n m : ℕ) → 8 ≤ m → n + m ≡ 32 → number_8 (drop n (take 32 file)) ≡ number_8 (drop n file)
+  pub head_number : (n m : ℕ) → 8 ≤ m → n + m ≡ 32 → number_8 (drop n (take 32 file)) ≡ number_8 (drop n file)
   head_number n m le is = ap (λ (l : List ℕ). from_le_bytes w64 l) (part n m le is)
 
   same_test : (bytes_eq (take 8 (take 32 file)) (letters ++ 2 ∷ []) && nat_le (number_8 (drop 16 (take 32 file))) 2 && nat_le (number_8 (drop 24 (take 32 file))) (2 ^ 62)) ≡ is_head
@@ -144,7 +144,7 @@ module _ (file : List ℕ) (r : Record) (next : IsNext file 32 (Some r)) where
         equals a b e = grind (arith, nat_tests)
 
     pub half_is : (h : LiveHalf) → h.limit ≡ head.limit → h.generation ≡ head.generation → h.base ≡ head.base → h.at ≡ r.payload + r.len
-        → checkpointed (take (r.payload + r.len - r.payload) (drop r.payload file)) ≡ Some (content_in_code h.start) → AreWritable h.start.latest.items → IsLiveHalf file h
+        → checkpointed (take (r.payload + r.len - r.payload) (drop r.payload file)) ≡ Some (content_in_code h.start) → AreWritable h.start.latest.states.items → IsLiveHalf file h
     half_is h limit generation base at reads writable =
         let is_at : 32 ≤ length file = omega (arith, next.1, next.2) in
         let begun : IsFront 32 (take 32 file) [] = subst (λ (n : ℕ). IsFront n (take 32 file) []) (let e : length (take 32 file) ≡ 32 = omega (arith, length-take 32 file, is_at) in e) (front_begins (take 32 file)) in

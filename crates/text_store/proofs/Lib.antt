@@ -5,6 +5,7 @@ pub mod Ending
 pub mod Decoding
 pub mod Unwritten
 pub mod Walking
+pub mod Framing
 pub mod Gates
 pub mod Growing
 pub mod HalfImages
@@ -13,13 +14,16 @@ pub mod Listing
 pub mod Making
 pub mod Mending
 pub mod Moments
+pub mod Named
 pub mod OpenEntries
 pub mod Opened
 pub mod Opening
+pub mod Payloads
 pub mod Places
 pub mod Prefixes
 pub mod Reading
 pub mod Resting
+pub mod Sizes
 pub mod Rewriting
 pub mod Rows
 pub mod Wholes

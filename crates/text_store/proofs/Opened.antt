@@ -6,12 +6,12 @@ use Rattle.text_store.specs.declared.fault.StoreFault.TheVariants.{DiskFault, No
 use Rattle.text_store.specs.declared.finding.Place.{Place}
 use Rattle.text_store.specs.declared.finding.Place.TheVariants.{Half as InHalf, Older}
 use Rattle.text_store.specs.declared.image.Image.{Image}
-use Rattle.text_store.specs.Files.{WhileOpened}
+use Rattle.text_store.specs.Files.{WhileOpened, ShowsOf}
 use Rattle.text_store.specs.Found.{IsFound, ImageRefused}
 use Rattle.text_store.specs.Image.{image}
 use Rattle.text_store.specs.Refusals.{OpenRefused, ReadTheSame, Told}
 use Rattle.text_store.specs.Rest.{IsReadOn}
-use Rattle.text_store.specs.Stores.{placed, Tell, Throughout, Shows, Keeps}
+use Rattle.text_store.specs.Stores.{placed, Tell, Throughout, Keeps}
 use Rattle.text_store.proofs.Both.{then_on, less_said}
 use Rattle.text_store.proofs.Opening.{in_place, found_image, image_placed}
 use Rattle.text_store.proofs.Resting.{tells_still}
@@ -60,8 +60,9 @@ module _ {D : Type 0} (g : Ghosts D) (first second first_1 second_1 : D) (reads 
   refused_at a b Memory told refused = read_the_same
 
   pub opened_run : (f s : List ℕ) (shown : Image) (end : D × D) → image f s ≡ Ok shown
-      → Throughout g (first, second) (first_1, second_1) (WhileOpened g (first, second) f s) → Throughout g (first_1, second_1) end (Shows shown)
+      → Throughout g (first, second) (first_1, second_1) (WhileOpened g (first, second) f s) → Throughout g (first_1, second_1) end (ShowsOf g (first_1, second_1) f s shown)
       → Throughout g (first, second) end (WhileOpened g (first, second) f s)
   opened_run f s shown end is before after =
       then_on g (first, second) (first_1, second_1) end (WhileOpened g (first, second) f s) before
-      (less_said g (first_1, second_1) end (Shows shown) (WhileOpened g (first, second) f s) (λ a b shows. inr (shows ∙ sym is)) after)
+      (less_said g (first_1, second_1) end (ShowsOf g (first_1, second_1) f s shown) (WhileOpened g (first, second) f s)
+      (λ a b shows. inr ((reads.0.no_more f shows.0.0, reads.1.no_more s shows.0.1), shows.1 ∙ sym is)) after)

@@ -10,21 +10,21 @@ use Rattle.text_store.specs.declared.store.Store.{Store}
 use Rattle.text_store.specs.Changes.{AreStates}
 use Rattle.text_store.specs.Ends.{IsShutAt}
 use Rattle.text_store.specs.Entries.{body, open_entries}
-use Rattle.text_store.specs.Files.{header, whole_payload, IsWritable, limit_in, opened_limit}
+use Rattle.text_store.specs.Files.{header, whole_payload, IsWritable, ShowsOf, limit_in, opened_limit}
 use Rattle.text_store.specs.declared.finding.Place.{Place}
 use Rattle.text_store.specs.declared.finding.Place.TheVariants.{Half as InHalf, Older}
 use Rattle.text_store.specs.Edits.{whole_size}
 use Rattle.text_store.specs.Found.{IsHalfInUse, half_found, IsFound}
 use Rattle.text_store.specs.Image.{Half, live, chosen, image, image_of}
-use Rattle.text_store.specs.Rest.{RestsAs, StandsIn, IsRewritten, IsReadOn}
+use Rattle.text_store.specs.Rest.{RestsAs, StandsIn, SomeLeft, IsRewritten, IsReadOn}
 use Rattle.text_store.specs.Stores.{Tell, Throughout, Shows, fault_count, image_beside, IsChosen, Leads, Holds, Keeps}
 use Rattle.text_store.proofs.Appending.{rose_left, rose_right}
 use Rattle.text_store.specs.Stores.{placed}
-use Rattle.text_store.proofs.Both.{stays, once, then_on, moves_live, tell_live, tell_spare}
+use Rattle.text_store.proofs.Both.{Beside, stays, once, then_on, less_said, moves_live, tell_live, tell_spare}
 use Rattle.text_store.proofs.Ending.{shut_from, same_half}
 use Rattle.text_store.proofs.Growing.{none_some}
 use Rattle.text_store.proofs.Holding.{choice, holds, led, shown_at, leads_on}
-use Rattle.text_store.proofs.Moments.{weakened}
+use Rattle.text_store.proofs.Moments.{weakened, both_said}
 use Rattle.text_store.proofs.OpenEntries.{shut_gate}
 use Rattle.text_store.proofs.Prefixes.{front_chosen}
 use Rattle.text_store.proofs.Resting.{rest_stands, stands_more}
@@ -45,6 +45,17 @@ module _ {D : Type 0} (g : Ghosts D) (counts_now : (disk : D) (t : ℕ) (c : Lis
       then_on g (first, second) (first_1, second) (first_1, second_1) Left first_read
       (once g counts_now (first_1, second) (first_1, second_1) Left
       (inr (refl, weakened g.moment g.left_since second second_1 (g.may_leave second) _ more.any_moment (λ d left c beside. (reads.no_more c beside, left)))))
+
+-- two files in their places, and a fact beside
+beside_and : (b : Bool) (X : Type 0) (P : List ℕ → List ℕ → Type 0) (file beside : List ℕ) → X → Beside b P file beside → Beside b (λ a c. X × P a c) file beside
+beside_and true X P file beside x p = (x, p)
+beside_and false X P file beside x p = (x, p)
+
+-- two files that might be left, in their order
+left_in_order : {D : Type 0} (g : Ghosts D) (b : Bool) (first second : D) (f s : List ℕ) → g.may_leave (placed b first second).0 (placed b f s).0 × g.may_leave (placed b first second).1 (placed b f s).1
+    → g.may_leave first f × g.may_leave second s
+left_in_order g true first second f s left = (left.1, left.0)
+left_in_order g false first second f s left = left
 
 -- the half in use and the other file
 pub in_place : (first second : List ℕ) (b : Bool) (u : InUse) (shown : Image) → half_found first second b u shown → IsHalfInUse (placed b first second).0 (placed b first second).1 u shown
@@ -101,27 +112,39 @@ module _ (file beside : List ℕ) (u : InUse) (shown : Image) (is : IsHalfInUse 
     pub stands_shut : RestsAs g.seen g.tells_crashes g.may_leave live file → StandsIn g.seen g.tells_crashes g.may_leave live (IsShutAt front)
     stands_shut rests = stands_more g.seen g.tells_crashes g.may_leave live (λ c. c ≡ file) (IsShutAt front) (λ c same. subst (λ (l : List ℕ). IsShutAt front l) (sym same) is_shut) (rest_stands g.seen g.tells_crashes g.may_leave live file rests)
 
-    pub resuming : RestsAs g.seen g.tells_crashes g.may_leave spare beside → Tell g (placed u.in_second live spare)
-        → (IsTrue (g.tells_crashes live) → LeavesOnly g.moment g.left_since live next (IsShutAt front))
-        → Throughout g (placed u.in_second live spare) (placed u.in_second next spare) (Shows shown)
-    resuming aside tell run =
-        once g counts_now (placed u.in_second live spare) (placed u.in_second next spare) (Shows shown)
-        (moves_live g u.in_second live next spare (IsShutAt front) (λ c. c ≡ beside) (Shows shown)
-        (run (tell_live g u.in_second live spare tell)) (aside.durable (tell_spare g u.in_second live spare tell))
-        (λ c other at same. shown_at u.in_second c other shown
-        (ap (λ (l : List ℕ). image_beside u.in_second c l) same ∙ led u.in_second u.generation c beside shown (leads_at c at))))
+    -- the two files might have been left before
+    abbrev Might_leave : Type 0
+    Might_leave = g.may_leave live file × g.may_leave spare beside
+
+    pub resuming : RestsAs g.seen g.tells_crashes g.may_leave live file → RestsAs g.seen g.tells_crashes g.may_leave spare beside → Tell g (placed u.in_second live spare)
+        → (IsTrue (g.tells_crashes live) → LeavesOnly g.moment g.left_since live next (IsShutAt front)) → LeavesOnly g.moment g.left_since live next (SomeLeft (g.may_leave live))
+        → Throughout g (placed u.in_second live spare) (placed u.in_second next spare) (λ a b. Might_leave × Shows shown a b)
+    resuming rests aside tell run comes =
+        let telling = tell_live g u.in_second live spare tell in
+        let still = tell_spare g u.in_second live spare tell in
+        once g counts_now (placed u.in_second live spare) (placed u.in_second next spare) (λ a b. Might_leave × Shows shown a b)
+        (moves_live g u.in_second live next spare (λ c. IsShutAt front c × g.may_leave live file) (λ c. (c ≡ beside) × g.may_leave spare beside) (λ a b. Might_leave × Shows shown a b)
+        (weakened g.moment g.left_since live next (λ c. IsShutAt front c × SomeLeft (g.may_leave live) c) (λ c. IsShutAt front c × g.may_leave live file)
+        (both_said g.moment g.left_since live next (IsShutAt front) (SomeLeft (g.may_leave live)) (run telling) comes)
+        (λ c both. (both.0, subst (λ (l : List ℕ). g.may_leave live l) (rests.durable telling both.1.0 both.1.1) both.1.1)))
+        (λ c left. (aside.durable still c left, subst (λ (l : List ℕ). g.may_leave spare l) (aside.durable still c left) left))
+        (λ c other at same. beside_and u.in_second Might_leave (Shows shown) c other (at.1, same.1) (shown_at u.in_second c other shown
+        (ap (λ (l : List ℕ). image_beside u.in_second c l) same.0 ∙ led u.in_second u.generation c beside shown (leads_at c at.0)))))
+
+-- the chosen half is the one that was found
+pub picked : (f s : List ℕ) (u : InUse) (shown : Image) (is : half_found f s u.in_second u shown) → chosen (live f) (live s) ≡ Some (in_place f s u.in_second u shown is).half
+picked f s u shown is = let at = in_place f s u.in_second u shown is in by_place u.in_second at.half at.is_live at.generation at.is_chosen
+  where
+    by_place : (b : Bool) (half : Half) → live (placed b f s).0 ≡ Some half → half.generation ≡ u.generation → IsChosen b u.generation (live (placed b f s).1) → chosen (live f) (live s) ≡ Some half
+    by_place true half is_live number is_chosen = ap (λ (h : Option Half). chosen (live f) h) is_live ∙ choice true u.generation half (live f) number is_chosen
+    by_place false half is_live number is_chosen = ap (λ (h : Option Half). chosen h (live s)) is_live ∙ choice false u.generation half (live s) number is_chosen
 
 -- which limit a store has whose half is found
 pub limit_found : (f s : List ℕ) (u : InUse) (shown : Image) → half_found f s u.in_second u shown → opened_limit f s ≡ u.limit
 limit_found f s u shown is =
     let at = in_place f s u.in_second u shown is in
-    let picked : chosen (live f) (live s) ≡ Some at.half = pick u.in_second at.half at.is_live at.generation at.is_chosen in
     let shows : image f s ≡ Ok shown = sym (image_placed f s u.in_second) ∙ found_image (placed u.in_second f s).0 (placed u.in_second f s).1 u shown at in
-    (λ i. limit_in (picked i) f (shows i)) ∙ at.limit
-  where
-    pick : (b : Bool) (half : Half) → live (placed b f s).0 ≡ Some half → half.generation ≡ u.generation → IsChosen b u.generation (live (placed b f s).1) → chosen (live f) (live s) ≡ Some half
-    pick true half is_live number is_chosen = ap (λ (h : Option Half). chosen (live f) h) is_live ∙ choice true u.generation half (live f) number is_chosen
-    pick false half is_live number is_chosen = ap (λ (h : Option Half). chosen h (live s)) is_live ∙ choice false u.generation half (live s) number is_chosen
+    (λ i. limit_in (picked f s u shown is i) f (shows i)) ∙ at.limit
 
 -- the counts of two disks of which one has moved
 pub rose_live : {D : Type 0} (g : Ghosts D) (b : Bool) (live spare next : D) → Rose (g.failures live) (g.failures next) → Rose (fault_count g (placed b live spare)) (fault_count g (placed b next spare))
@@ -155,12 +178,14 @@ module _ {D : Type 0} (g : Ghosts D) (first second : D) (f s : List ℕ) (u : In
 
   pub resume_run : (next : D) → ((disk : D) (t : ℕ) (c : List ℕ) → t ≤ g.moment disk → g.may_leave disk c → g.left_since disk t c) → Tell g (first, second)
       → ((front : List ℕ) → length front ≡ u.gate → StandsIn g.seen g.tells_crashes g.may_leave pair.0 (IsShutAt front) → IsTrue (g.tells_crashes pair.0)
-      → LeavesOnly g.moment g.left_since pair.0 next (IsShutAt front))
-      → Throughout g (first, second) (placed u.in_second next pair.1) (Shows shown)
-  resume_run next counts_now tell run =
-      subst (λ (d : D × D). Throughout g d (placed u.in_second next pair.1) (Shows shown)) same_pair
-      (resuming file aside u shown at g counts_now pair.0 pair.1 next spare_rests (subst (λ (d : D × D). Tell g d) (sym same_pair) tell)
-      (λ telling. run (take u.gate file) (place file aside u shown at) (stands_shut file aside u shown at g counts_now pair.0 pair.1 next live_rests) telling))
+      → LeavesOnly g.moment g.left_since pair.0 next (IsShutAt front)) → LeavesOnly g.moment g.left_since pair.0 next (SomeLeft (g.may_leave pair.0))
+      → Throughout g (first, second) (placed u.in_second next pair.1) (ShowsOf g (first, second) f s shown)
+  resume_run next counts_now tell run comes =
+      less_said g (first, second) (placed u.in_second next pair.1) (λ a b. (g.may_leave pair.0 file × g.may_leave pair.1 aside) × Shows shown a b) (ShowsOf g (first, second) f s shown)
+      (λ a b shows. (left_in_order g u.in_second first second f s (subst (λ (p : D × D). g.may_leave p.0 file × g.may_leave p.1 aside) is shows.0), shows.1))
+      (subst (λ (d : D × D). Throughout g d (placed u.in_second next pair.1) (λ a b. (g.may_leave pair.0 file × g.may_leave pair.1 aside) × Shows shown a b)) same_pair
+      (resuming file aside u shown at g counts_now pair.0 pair.1 next live_rests spare_rests (subst (λ (d : D × D). Tell g d) (sym same_pair) tell)
+      (λ telling. run (take u.gate file) (place file aside u shown at) (stands_shut file aside u shown at g counts_now pair.0 pair.1 next live_rests) telling) comes))
 
   pub resume_opened : (store : Store D g) (next : D) → store.in_second ≡ u.in_second → store.generation ≡ u.generation → store.live.gate ≡ u.gate → store.live.device ≡ next → store.spare ≡ pair.1
       → ((disk : D) (t : ℕ) (c : List ℕ) → t ≤ g.moment disk → g.may_leave disk c → g.left_since disk t c)
@@ -246,22 +271,32 @@ module _ (limit : ℕ) (shown : Image) (small : limit < 2 ^ 64) (within : shown.
         }))
 
   module _ {D : Type 0} (g : Ghosts D) (counts_now : (disk : D) (t : ℕ) (c : List ℕ) → t ≤ g.moment disk → g.may_leave disk c → g.left_since disk t c) (first second next : D) where
-    pub renewing : image f s ≡ Ok shown → RestsAs g.seen g.tells_crashes g.may_leave first f → Tell g (first, second)
-        → LeavesOnly g.moment g.left_since second next (IsRewritten s head entry) → Throughout g (first, second) (first, next) (Shows shown)
-    renewing is rests tell run =
-        once g counts_now (first, second) (first, next) (Shows shown)
+    pub renewing : image f s ≡ Ok shown → RestsAs g.seen g.tells_crashes g.may_leave first f → RestsAs g.seen g.tells_crashes g.may_leave second s → Tell g (first, second)
+        → LeavesOnly g.moment g.left_since second next (IsRewritten s head entry) → LeavesOnly g.moment g.left_since second next (SomeLeft (g.may_leave second))
+        → Throughout g (first, second) (first, next) (ShowsOf g (first, second) f s shown)
+    renewing is rests aside tell run comes =
+        once g counts_now (first, second) (first, next) (ShowsOf g (first, second) f s shown)
         (inr (
           refl,
-          weakened g.moment g.left_since second next (IsRewritten s head entry) _ run
-              (λ c at d left. subst (λ (l : List ℕ). image l c ≡ Ok shown) (sym (rests.durable tell.0 d left)) (renew_shows is c at)),
+          weakened g.moment g.left_since second next (λ c. IsRewritten s head entry c × SomeLeft (g.may_leave second) c) _
+              (both_said g.moment g.left_since second next (IsRewritten s head entry) (SomeLeft (g.may_leave second)) run comes)
+              (λ c both d left. let same = rests.durable tell.0 d left in (
+                (subst (λ (l : List ℕ). g.may_leave first l) same left, subst (λ (l : List ℕ). g.may_leave second l) (aside.durable tell.1 both.1.0 both.1.1) both.1.1),
+                subst (λ (l : List ℕ). image l c ≡ Ok shown) (sym same) (renew_shows is c both.0),
+              )),
         ))
 
 -- two files at rest show their image
 pub both_shows : {D : Type 0} (g : Ghosts D) (first second : D) (f s : List ℕ) (shown : Image) → RestsAs g.seen g.tells_crashes g.may_leave first f → RestsAs g.seen g.tells_crashes g.may_leave second s
-    → image f s ≡ Ok shown → Tell g (first, second) → Throughout g (first, second) (first, second) (Shows shown)
+    → image f s ≡ Ok shown → Tell g (first, second) → Throughout g (first, second) (first, second) (ShowsOf g (first, second) f s shown)
 both_shows g first second f s shown rests_first rests_second is tell =
-    stays g (first, second) (Shows shown)
-    (λ c d of_first of_second. (λ i. image (rests_first.durable tell.0 c of_first i) (rests_second.durable tell.1 d of_second i)) ∙ is)
+    stays g (first, second) (ShowsOf g (first, second) f s shown)
+    (λ c d of_first of_second.
+    let same_first = rests_first.durable tell.0 c of_first in
+    let same_second = rests_second.durable tell.1 d of_second in (
+      (subst (λ (l : List ℕ). g.may_leave first l) same_first of_first, subst (λ (l : List ℕ). g.may_leave second l) same_second of_second),
+      (λ i. image (same_first i) (same_second i)) ∙ is,
+    ))
 
 -- what was found, by where it stands
 pub found_in_half : (f s : List ℕ) (shown : Image) (place : Place) (u : InUse) → place ≡ InHalf u → IsFound f s shown place → half_found f s u.in_second u shown
@@ -271,11 +306,7 @@ pub found_older : (f s : List ℕ) (shown : Image) (place : Place) (limit : ℕ)
 found_older f s shown place limit is found = subst (λ (p : Place). IsFound f s shown p) is found
 
 pub half_chosen : (f s : List ℕ) (u : InUse) (shown : Image) → half_found f s u.in_second u shown → (half : Half) × (chosen (live f) (live s) ≡ Some half)
-half_chosen f s u shown is = let at = in_place f s u.in_second u shown is in (at.half, by_place u.in_second at.half at.is_live at.generation at.is_chosen)
-  where
-    by_place : (b : Bool) (half : Half) → live (placed b f s).0 ≡ Some half → half.generation ≡ u.generation → IsChosen b u.generation (live (placed b f s).1) → chosen (live f) (live s) ≡ Some half
-    by_place true half is_live number is_chosen = ap (λ (h : Option Half). chosen (live f) h) is_live ∙ choice true u.generation half (live f) number is_chosen
-    by_place false half is_live number is_chosen = ap (λ (h : Option Half). chosen h (live s)) is_live ∙ choice false u.generation half (live s) number is_chosen
+half_chosen f s u shown is = ((in_place f s u.in_second u shown is).half, picked f s u shown is)
 
 pub keeps_half : {D : Type 0} (g : Ghosts D) (old new : D × D) (f s : List ℕ) (u : InUse) (shown : Image) (b : Bool) → half_found f s b u shown
     → Keeps g old new (if b then (0, u.gate + 1) else (u.gate + 1, 0)) → Keeps g old new (max (opened_limit f s) (length f), max (opened_limit f s) (length s))

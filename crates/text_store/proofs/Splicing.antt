@@ -1,13 +1,13 @@
 -- How a splice and an import's state are read.
-use Rattle.std.proofs.Common.{◌≡◌, ◌∙◌, ℕ, suc, ◌+◌, ◌≤◌, ◌<◌, ◌^◌, ◌&&◌, ◌++◌, nat_le, nat_lt, Bool, true, false, MatchBool, Result, Ok, Err, IfOk, if◌then◌else◌, List, ◌∷◌, length, get_or, take, drop, Option, Some, None, refl, sym, ap, subst, arith, length-drop}
+use Rattle.std.proofs.Common.{◌≡◌, ◌∙◌, ℕ, ◌+◌, ◌≤◌, ◌<◌, ◌^◌, ◌&&◌, ◌++◌, nat_le, nat_lt, Bool, true, false, MatchBool, Result, Ok, Err, IfOk, if◌then◌else◌, List, length, take, drop, Option, Some, None, refl, sym, ap, subst, arith, length-drop}
 use Rattle.std.specs.Int.{w32, from_le_bytes}
 use Rattle.std.specs.Str.{is_utf8, IsUtf8}
 use Rattle.std.proofs.lemmas.Str.{IsUtf8-from_is_utf8}
 use Rattle.std.proofs.lemmas.Bool.Decides.{nat_tests}
-use Rattle.std.proofs.lemmas.List.{drop-drop, drop_more}
+use Rattle.std.proofs.lemmas.List.{drop-drop}
 use Rattle.hl_base.specs.declared.fault.Memory.{Memory}
 use Rattle.hl_base.specs.declared.change.Latest.{Latest}
-use Rattle.text_store.specs.Image.{number_4, number_8, spliced, mark_at, same_name, with_mark, imported, with_text, Content}
+use Rattle.text_store.specs.Image.{number_4, number_8, spliced, mark_at, with_mark, imported, with_text, Content}
 
 le_true : (a b : ℕ) → a ≤ b → nat_le a b ≡ true
 le_true a b le = grind (arith, nat_tests)
@@ -89,14 +89,6 @@ not_utf8 bytes bad = by_test (is_utf8 bytes) refl
     by_test : (b : Bool) → is_utf8 bytes ≡ b → b ≡ false
     by_test true is = absurd (bad (IsUtf8-from_is_utf8 bytes is))
     by_test false is = refl
-
--- a state of that name stands there
-pub mark_here : (state : Latest) (states : List Latest) (i : ℕ) (x : Latest) → i < length states → x ≡ get_or states i x → same_name x state ≡ true
-    → with_mark state (drop i states) ≡ state ∷ drop (suc i) states
-mark_here state states i x less is same =
-    ap (with_mark state) (drop_more states i x less ∙ ap (λ (y : Latest). y ∷ drop (i + 1) states) (sym is))
-    ∙ ap (λ (b : Bool). if b then state ∷ drop (i + 1) states else x ∷ with_mark state (drop (i + 1) states)) same
-    ∙ ap (λ (n : ℕ). state ∷ drop n states) (let e : i + 1 ≡ suc i = omega arith in e)
 
 -- an import's state and its splice
 pub imports : (content : Content) (payload : List ℕ) (state : Latest) (rest part : List ℕ) (latest : List Latest) (text : List ℕ) (r : Result Bool Memory) → mark_at payload ≡ Some (state, rest)

@@ -10,7 +10,7 @@ use Rattle.text_store.specs.Image.{Content, mark_at, marks_at}
 use Rattle.text_store.specs.Reads.{from_place}
 
 abbrev pub content_in_code : Read → Content
-content_in_code content = record { text = content.text.items; latest = content.latest.items }
+content_in_code content = record { text = content.text.items; latest = content.latest.states.items }
 
 abbrev pub if_content_in_code : Option Read → Option Content
 if_content_in_code None = None

@@ -3,4 +3,4 @@ use Rattle.text_store.specs.declared.folding.Current.{Current}
 use Rattle.text_store.specs.Image.{Content}
 
 abbrev pub current_in_code : Current → Content
-current_in_code content = record { text = content.text; latest = content.latest.items }
+current_in_code content = record { text = content.text; latest = content.latest.states.items }

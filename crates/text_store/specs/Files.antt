@@ -1,12 +1,12 @@
 -- The bytes of a half that was just written, and the moments of making and opening a store.
-use Rattle.std.specs.Prelude.{◌≡◌, ◌⊎◌, ℕ, ◌+◌, ◌%◌, ◌^◌, ◌<◌, max, true, List, [], ◌∷◌, ◌++◌, length, flat_map, drop, Option, Some, None, Result, Ok, Err, IsErr}
+use Rattle.std.specs.Prelude.{◌≡◌, ◌⊎◌, ℕ, ◌+◌, ◌%◌, ◌^◌, ◌<◌, max, true, List, [], ◌∷◌, ◌++◌, length, flat_map, sum_by, drop, Option, Some, None, Result, Ok, Err, IsErr}
 use Rattle.std.specs.Int.{w32, w64, to_le_bytes}
 use Rattle.hl_base.specs.declared.change.Latest.{Latest}
 use Rattle.hl_base.specs.declared.disk.Disk.{Ghosts}
 use Rattle.text_store.specs.declared.image.Image.{Image}
 use Rattle.text_store.specs.Changes.{mark_payload}
 use Rattle.text_store.specs.Edits.{whole_size}
-use Rattle.text_store.specs.Entries.{body}
+use Rattle.text_store.specs.Entries.{Entry, body}
 use Rattle.text_store.specs.Image.{Half, NoImage, letters, live, chosen, image, have_own_names, number_8}
 
 -- the letters, the version 2, and then the limit, the generation and the base revision in 8 bytes each
@@ -46,9 +46,17 @@ fresh text = record { text = text; latest = []; revision = 0 }
 abbrev pub WhileMade : {D : Type 0} → Ghosts D → D × D → Image → List ℕ → List ℕ → Type 0
 WhileMade g old shown first second = (g.may_leave old.0 first × g.may_leave old.1 second) ⊎ (IsErr (image first second) ⊎ (image first second ≡ Ok shown))
 
--- files that a crash might have left before, or files with the image, or the want of one, of those that the disks read as
+-- files that a crash might have left before, or files with the image, or the want of one, of those that the disks read as,
+-- which a crash might have left before
 abbrev pub WhileOpened : {D : Type 0} → Ghosts D → D × D → List ℕ → List ℕ → List ℕ → List ℕ → Type 0
-WhileOpened g old seen_first seen_second first second = (g.may_leave old.0 first × g.may_leave old.1 second) ⊎ (image first second ≡ image seen_first seen_second)
+WhileOpened g old seen_first seen_second first second =
+    (g.may_leave old.0 first × g.may_leave old.1 second)
+    ⊎ ((g.may_leave old.0 seen_first × g.may_leave old.1 seen_second) × (image first second ≡ image seen_first seen_second))
+
+-- files with an image in place of two that a crash might have left before
+abbrev pub ShowsOf : {D : Type 0} → Ghosts D → D × D → List ℕ → List ℕ → Image → List ℕ → List ℕ → Type 0
+ShowsOf g old seen_first seen_second shown first second =
+    (g.may_leave old.0 seen_first × g.may_leave old.1 seen_second) × (image first second ≡ Ok shown)
 
 -- the limit of a store of two files: that of the chosen half; of an older store its own, or the length of a file that holds
 -- its image, if that is greater; 0 where there is no image
@@ -59,3 +67,21 @@ limit_in (Some half) first (Ok shown) = half.limit
 
 abbrev pub opened_limit : List ℕ → List ℕ → ℕ
 opened_limit first second = limit_in (chosen (live first) (live second)) first (image first second)
+
+-- the length of a record with its gate
+abbrev pub record_size : Entry → ℕ
+record_size entry = 10 + length entry.payload
+
+-- the length of a half: that of a file which holds its first image alone, and its further records
+abbrev pub half_size : Half → ℕ
+half_size half = whole_size (record { text = half.start.text; latest = half.start.latest; revision = half.base }) + sum_by record_size half.entries
+
+-- the length of the half in use of a store of two files: that of the chosen half; of an older store that of a file which holds
+-- its image; 0 where there is no image
+abbrev pub size_in : Option Half → Result Image NoImage → ℕ
+size_in chosen_half (Err none) = 0
+size_in None (Ok shown) = whole_size shown
+size_in (Some half) (Ok shown) = half_size half
+
+abbrev pub opened_size : List ℕ → List ℕ → ℕ
+opened_size first second = size_in (chosen (live first) (live second)) (image first second)

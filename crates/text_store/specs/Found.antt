@@ -37,7 +37,7 @@ pub record IsLiveHalf (file : List ℕ) (h : LiveHalf) : Type 0 where
   pub inside : h.at < length file
   pub generation : h.generation < 3
   pub base : h.base ≤ 2 ^ 62
-  pub writable : AreWritable h.start.latest.items
+  pub writable : AreWritable h.start.latest.states.items
 
 abbrev pub IfLive : List ℕ → Option LiveHalf → Type 0
 IfLive file None = live file ≡ None

@@ -7,9 +7,12 @@ pub mod Entries
 pub mod Faults
 pub mod Files
 pub mod Found
+pub mod Frames
 pub mod Halves
 pub mod Image
 pub mod Joined
+pub mod Names
+pub mod Parsed
 pub mod Pieces
 pub mod Reads
 pub mod Refusals

@@ -12,6 +12,10 @@ pub record RestsAs {D : Type 0} (seen : D → Option (List ℕ)) (tells : D → 
   pub told : seen device ≡ Some file
   pub durable : IsTrue (tells device) → Only file (may_leave device)
 
+-- an outcome of a crash that comes of an earlier one
+abbrev pub SomeLeft : (List ℕ → Type 0) → List ℕ → Type 0
+SomeLeft outcomes c = (d : List ℕ) × outcomes d
+
 -- where the disk told its file before, it rests now as what was made of it
 abbrev pub Comes : {D : Type 0} → (D → Option (List ℕ)) → (D → Bool) → (D → List ℕ → Type 0) → D → D → (List ℕ → List ℕ) → Type 0
 Comes seen tells may_leave old new made = (file : List ℕ) → seen old ≡ Some file → RestsAs seen tells may_leave new (made file)

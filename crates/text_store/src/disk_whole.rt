@@ -42,8 +42,8 @@ fn read_more<D: Disk>(
     Ok(())
 }
 
-// Reads all of a file.
-fn read_all<D: Disk>(alloc: Global, device: &mut D) -> Result<Vec<u8>, StoreFault>
+/// Reads all of a file.
+pub fn read_all<D: Disk>(alloc: Global, device: &mut D) -> Result<Vec<u8>, StoreFault>
     ensures bytes { IfOk result (λ bytes. (file : List ℕ) → D.seen device.old ≡ Some file → bytes.items ≡ file) }
     ensures reads { IsReadOn D.Disk device.old device.new }
     ensures cause { IfErr result (λ e. ReadRefused (D.failures device.old) (D.failures device.new) e) }

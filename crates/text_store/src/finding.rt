@@ -9,6 +9,7 @@ ghost use Rattle.text_store.specs.Stores.{IsChosen};
 use crate::fault::StoreFault;
 use crate::folding::{Content, Folded, fold_from, whole_content};
 use crate::image::Image;
+use crate::marks::Marks;
 use crate::records::{number_at, record_at};
 use crate::whole::following;
 use hl_base::{Bytes, List, Memory};
@@ -125,13 +126,13 @@ fn choose(first: Option<LiveHalf>, second: Option<LiveHalf>) -> Choice
     }
 }
 
-// The image of a content.
-fn image_of(content: Content, revision: u64) -> Image
-    ensures { result ≡ record { text = content.text.items; latest = content.latest.items; revision = revision } }
+/// The image of a content.
+pub fn image_of(content: Content, revision: u64) -> Image
+    ensures { result ≡ record { text = content.text.items; latest = content.latest.states.items; revision = revision } }
 {
     Image {
         text: Bytes::from_vec(content.text),
-        latest: List::from_vec(content.latest),
+        latest: List::from_vec(content.latest.states),
         revision,
     }
 }
@@ -187,11 +188,11 @@ fn read_old(alloc: Global, file: &[u8]) -> Result<Image, StoreFault>
 
 // A text without import states.
 fn text_alone(alloc: Global, text: &[u8]) -> Result<Content, Memory>
-    ensures { IfOk result (λ content. (content.text.items ≡ text.now) × (content.latest.items ≡ [])) }
+    ensures { IfOk result (λ content. (content.text.items ≡ text.now) × (content.latest.states.items ≡ [])) }
 {
     Ok(Content {
         text: Vec::from_slice(alloc, text)?,
-        latest: Vec::new(alloc),
+        latest: Marks::new(alloc),
     })
 }
 

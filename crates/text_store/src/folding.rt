@@ -1,13 +1,13 @@
 //! The records of a file as changes of a text and of import states.
 ghost use Rattle.std.specs.Prelude.{◌≡◌, ℕ, ◌<◌, ◌≤◌, ◌+◌, ◌^◌, length, take, drop, true, false, Some, None, IfOk, IfSome, OnOk, MatchBool};
 ghost use Rattle.std.specs.Int.{w32, from_le_bytes};
-ghost use Rattle.std.specs.List.{list_any};
 ghost use Rattle.text_store.specs.Contents.{content_in_code, if_content_in_code, end_in_code, IsStateAt, AreStatesAt, IsEnd};
 ghost use Rattle.text_store.specs.Files.{AreWritable};
-ghost use Rattle.text_store.specs.Image.{with_mark, spliced, changed, imported, mark_at, same_name, have_own_names, checkpointed, folded};
+ghost use Rattle.text_store.specs.Image.{spliced, changed, imported, mark_at, checkpointed, folded};
 ghost use Rattle.text_store.specs.Currents.{current_in_code};
 ghost use Rattle.text_store.specs.Reads.{from_place};
 
+use crate::marks::Marks;
 use crate::pieces::Pieces;
 use crate::records::{number_at, record_at};
 use hl_base::{Latest, Memory, Text};
@@ -17,14 +17,14 @@ use std::alloc::Global;
 #[derive(Drop)]
 pub struct Content {
     pub text: Vec<u8>,
-    pub latest: Vec<Latest>,
+    pub latest: Marks,
 }
 
 // A content whose text is in pieces, while records are applied to it.
 #[derive(Drop)]
 struct Current {
     text: Pieces,
-    latest: Vec<Latest>,
+    latest: Marks,
 }
 
 /// What the records of a file from a place on come to: a content, the place of the gate behind them, and how many they are.
@@ -65,22 +65,8 @@ fn splice_in(alloc: Global, text: &mut Pieces, payload: &[u8]) -> Result<bool, M
     text.replace(alloc, at, removed, inserted)
 }
 
-// Puts a state in the place of that of its name, or behind the others.
-fn put_state(latest: &mut Vec<Latest>, state: Latest) -> Result<(), Memory>
-    ensures { OnOk result (latest.new.items ≡ with_mark state latest.old.items) }
-{
-    for i in 0..latest.len() {
-        if latest[i].name.as_bytes() == state.name.as_bytes() {
-            latest[i] = state;
-            return Ok(());
-        }
-    }
-    latest.push(state)?;
-    Ok(())
-}
-
-// An import's state at a place, and the place behind it, if one reads there.
-fn state_at(alloc: Global, bytes: &[u8], at: usize) -> Result<Option<(Latest, usize)>, Memory>
+/// An import's state at a place, and the place behind it, if one reads there.
+pub fn state_at(alloc: Global, bytes: &[u8], at: usize) -> Result<Option<(Latest, usize)>, Memory>
     requires { at ≤ length bytes.now }
     ensures { IfOk result (λ found. IsStateAt bytes.now at found) }
 {
@@ -113,7 +99,7 @@ fn make_change(
     ensures changed { (at : ℕ) → IfOk result (λ good. MatchBool good
         (changed (current_in_code content.old) (record { at = at; kind = kind; payload = payload.now }) ≡ Some (current_in_code content.new))
         (changed (current_in_code content.old) (record { at = at; kind = kind; payload = payload.now }) ≡ None)) }
-    ensures writable { IfOk result (λ good. good ≡ true → AreWritable content.old.latest.items → AreWritable content.new.latest.items) }
+    ensures writable { IfOk result (λ good. good ≡ true → AreWritable content.old.latest.states.items → AreWritable content.new.latest.states.items) }
 {
     match kind {
         b'T' => {
@@ -131,13 +117,13 @@ fn import_in(alloc: Global, content: &mut Current, payload: &[u8]) -> Result<boo
     ensures changed { IfOk result (λ good. MatchBool good
         (imported (current_in_code content.old) (mark_at payload.now) ≡ Some (current_in_code content.new))
         (imported (current_in_code content.old) (mark_at payload.now) ≡ None)) }
-    ensures writable { IfOk result (λ good. good ≡ true → AreWritable content.old.latest.items → AreWritable content.new.latest.items) }
+    ensures writable { IfOk result (λ good. good ≡ true → AreWritable content.old.latest.states.items → AreWritable content.new.latest.states.items) }
 {
     let Some((state, behind)) = state_at(alloc, payload, 0)? else {
         return Ok(false);
     };
-    put_state(&mut content.latest, state)?;
-    if content.latest.len() as u64 >= 1 << 32 {
+    content.latest.put(alloc, state)?;
+    if content.latest.states.len() as u64 >= 1 << 32 {
         return Ok(false);
     }
     splice_in(alloc, &mut content.text, &payload[behind..])
@@ -162,34 +148,10 @@ fn states_at(alloc: Global, bytes: &[u8], at: usize, count: u32) -> Result<Optio
     Ok(Some(States { latest, behind }))
 }
 
-// Whether one of the states has a name.
-fn is_named(latest: &[Latest], state: &Latest) -> bool
-    ensures { result ≡ list_any (same_name state.now) latest.now }
-{
-    for other in latest {
-        if state.name.as_bytes() == other.name.as_bytes() {
-            return true;
-        }
-    }
-    false
-}
-
-// Whether the names of the states differ.
-fn names_differ(latest: &[Latest]) -> bool
-    ensures { result ≡ have_own_names latest.now }
-{
-    for i in 0..latest.len() {
-        if is_named(&latest[i + 1..], &latest[i]) {
-            return false;
-        }
-    }
-    true
-}
-
 /// The content of a record of a whole image, if its payload reads.
 pub fn whole_content(alloc: Global, payload: &[u8]) -> Result<Option<Content>, Memory>
     ensures reads { IfOk result (λ found. checkpointed payload.now ≡ if_content_in_code found) }
-    ensures writable { IfOk result (λ found. IfSome found (λ content. AreWritable content.latest.items)) }
+    ensures writable { IfOk result (λ found. IfSome found (λ content. AreWritable content.latest.states.items)) }
 {
     if payload.len() < 4 {
         return Ok(None);
@@ -198,14 +160,11 @@ pub fn whole_content(alloc: Global, payload: &[u8]) -> Result<Option<Content>, M
     let Some(states) = states_at(alloc, payload, 4, count)? else {
         return Ok(None);
     };
-    if !names_differ(&states.latest) {
-        return Ok(None);
-    }
     let text = Vec::from_slice(alloc, &payload[states.behind..])?;
-    Ok(Some(Content {
-        text,
-        latest: states.latest,
-    }))
+    let Some(latest) = Marks::of(alloc, states.latest)? else {
+        return Ok(None);
+    };
+    Ok(Some(Content { text, latest }))
 }
 
 /// What the open records of a file from a place on come to, or the gate of the first bad one.
@@ -218,7 +177,7 @@ pub fn fold_from(
     requires { start < length file.now }
     ensures folds { IfOk result (λ end. folded (from_place file.now start) (content_in_code content) ≡ end_in_code end) }
     ensures ends { IfOk result (λ end. IfOk end (λ all. IsEnd file.now start all.gate all.count)) }
-    ensures writable { IfOk result (λ end. IfOk end (λ all. AreWritable content.latest.items → AreWritable all.content.latest.items)) }
+    ensures writable { IfOk result (λ end. IfOk end (λ all. AreWritable content.latest.states.items → AreWritable all.content.latest.states.items)) }
 {
     let mut current = Current {
         text: Pieces::of(alloc, content.text)?,

@@ -1,10 +1,10 @@
 //! Records behind gates: what stands behind a gate counts once the gate is open.
 ghost use Rattle.std.specs.Prelude.{◌≡◌, ℕ, ◌+◌, ◌^◌, ◌<◌, ◌≤◌, ◌∷◌, [], ◌++◌, List, length, max, IsTrue, Some, IfErr, OnOk, OnErr};
 ghost use Rattle.hl_base.specs.Causes.{HasCause};
-ghost use Rattle.hl_base.specs.Disk.{LeavesOnly, NoMore};
+ghost use Rattle.hl_base.specs.Disk.{overwritten, Torn, Becomes, Follows, LeavesOnly, NoMore};
 ghost use Rattle.text_store.specs.Ends.{IsShutAt};
 ghost use Rattle.text_store.specs.Faults.{EmptyRefused};
-ghost use Rattle.text_store.specs.Rest.{RestsAs, StandsIn, IsAt, IsRewritten, HasHeadBegun, IsBegun};
+ghost use Rattle.text_store.specs.Rest.{AfterStep, Comes, RestsAs, StandsIn, SomeLeft, IsAt, IsRewritten, HasHeadBegun, IsBegun};
 
 use crate::durable::{cut_durably, write_durably};
 use crate::fault::StoreFault;
@@ -22,12 +22,30 @@ pub fn append_entry<D: Disk>(device: &mut D, gate: u64, entry: &[u8]) -> Result<
     ensures any_moment { (front : List ℕ) → length front ≡ gate → RestsAs D.seen D.tells_crashes D.may_leave device.old (front ++ 0 ∷ [])
         → IsTrue (D.tells_crashes device.old) → LeavesOnly D.moment D.left_since device.old device.new (IsAt front entry.now) }
 
+    // What a crash leaves at any moment comes of what one might have left before.
+    ensures comes { LeavesOnly D.moment D.left_since device.old device.new (SomeLeft (D.may_leave device.old)) }
+
     ensures reach { D.reach device.new ≤ max (D.reach device.old) (gate + 1 + length entry.now) }
     ensures cause { HasCause (D.failures device.old) (D.failures device.new) result }
     ensures tells { D.tells_crashes device.new ≡ D.tells_crashes device.old }
     ensures unfailing { D.unfailing_to device.new ≡ D.unfailing_to device.old }
 {
     write_durably(device, gate + 1, entry)?;
+    open_gate(device, gate)
+}
+
+/// Opens a gate. At Ok each crash leaves it open.
+fn open_gate<D: Disk>(device: &mut D, gate: u64) -> Result<(), Failed>
+    requires { gate + 1 < 2 ^ 64 }
+    ensures rests { OnOk result (Comes D.seen D.tells_crashes D.may_leave device.old device.new (λ file. overwritten file gate (1 ∷ []))) }
+    ensures torn { Becomes (Torn gate 1) (D.seen device.old) (D.seen device.new) }
+    ensures crash { Follows (Torn gate 1) (D.may_leave device.old) (D.may_leave device.new) }
+    ensures any_moment { LeavesOnly D.moment D.left_since device.old device.new (AfterStep (Torn gate 1) (D.may_leave device.old)) }
+    ensures reach { D.reach device.new ≡ max (D.reach device.old) (gate + 1) }
+    ensures cause { HasCause (D.failures device.old) (D.failures device.new) result }
+    ensures tells { D.tells_crashes device.new ≡ D.tells_crashes device.old }
+    ensures unfailing { D.unfailing_to device.new ≡ D.unfailing_to device.old }
+{
     write_durably(device, gate, &[1])
 }
 
@@ -48,6 +66,9 @@ pub fn shut_gate<D: Disk>(device: &mut D, gate: u64) -> Result<(), Failed>
     ensures any_end { (front : List ℕ) → length front ≡ gate → StandsIn D.seen D.tells_crashes D.may_leave device.old (IsShutAt front)
         → IsTrue (D.tells_crashes device.old) → LeavesOnly D.moment D.left_since device.old device.new (IsShutAt front) }
 
+    // What a crash leaves at any moment comes of what one might have left before.
+    ensures comes { LeavesOnly D.moment D.left_since device.old device.new (SomeLeft (D.may_leave device.old)) }
+
     ensures reach { D.reach device.new ≤ max (D.reach device.old) (gate + 1) }
     ensures cause { HasCause (D.failures device.old) (D.failures device.new) result }
     ensures tells { D.tells_crashes device.new ≡ D.tells_crashes device.old }
@@ -66,6 +87,8 @@ fn head_anew<D: Disk>(device: &mut D, header: &[u8]) -> Result<(), Failed>
         → StandsIn D.seen D.tells_crashes D.may_leave device.new (IsRewritten file head entry)) }
     ensures any_moment { (file head entry : List ℕ) → RestsAs D.seen D.tells_crashes D.may_leave device.old file → IsTrue (D.tells_crashes device.old)
         → LeavesOnly D.moment D.left_since device.old device.new (IsRewritten file head entry) }
+    // What a crash leaves at any moment comes of what one might have left before.
+    ensures comes { LeavesOnly D.moment D.left_since device.old device.new (SomeLeft (D.may_leave device.old)) }
     ensures reach { D.reach device.new ≤ max (D.reach device.old) 33 }
     ensures cause { HasCause (D.failures device.old) (D.failures device.new) result }
     ensures tells { D.tells_crashes device.new ≡ D.tells_crashes device.old }
@@ -102,6 +125,9 @@ pub fn write_anew<D: Disk>(device: &mut D, header: &[u8], entry: &[u8]) -> Resul
         → StandsIn D.seen D.tells_crashes D.may_leave device.new (IsRewritten file head entry.now)) }
     ensures any_moment { (file head : List ℕ) → header.now ≡ head ++ 0 ∷ [] → RestsAs D.seen D.tells_crashes D.may_leave device.old file
         → IsTrue (D.tells_crashes device.old) → LeavesOnly D.moment D.left_since device.old device.new (IsRewritten file head entry.now) }
+
+    // What a crash leaves at any moment comes of what one might have left before.
+    ensures comes { LeavesOnly D.moment D.left_since device.old device.new (SomeLeft (D.may_leave device.old)) }
 
     ensures reach { D.reach device.new ≤ max (D.reach device.old) (33 + length entry.now) }
     ensures cause { HasCause (D.failures device.old) (D.failures device.new) result }

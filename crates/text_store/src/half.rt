@@ -1,8 +1,11 @@
 //! A file in use as a half of a store.
 ghost use Rattle.std.specs.Prelude.{◌<◌, ◌+◌, ◌^◌};
 
+use crate::disk_whole::read_all;
+use crate::fault::StoreFault;
 use crate::gate::{append_entry, shut_gate};
 use hl_base::{Disk, Failed};
+use std::alloc::Global;
 use std::mem::swap;
 
 /// A file of a header and whole records, with a shut gate at its end. After a device fault a repair is due.
@@ -16,11 +19,13 @@ pub struct Half<D: Disk> {
 }
 
 impl<D: Disk> Half<D> {
-    ghost use Rattle.std.specs.Prelude.{◌≡◌, ◌+◌, ◌-◌, ◌^◌, ◌≤◌, ◌∷◌, [], ◌++◌, ℕ, List, length, max, false, true, IsTrue, OnOk, OnErr};
+    ghost use Rattle.std.specs.Prelude.{◌≡◌, ◌+◌, ◌-◌, ◌^◌, ◌≤◌, ◌∷◌, [], ◌++◌, ℕ, List, length, max, false, true, Some, IsTrue, IfOk, IfErr, OnOk, OnErr};
     ghost use Rattle.hl_base.specs.Causes.{HasCause};
     ghost use Rattle.hl_base.specs.Disk.{LeavesOnly};
     ghost use Rattle.text_store.specs.Entries.{Entry, body};
+    ghost use Rattle.text_store.specs.Faults.{ReadRefused};
     ghost use Rattle.text_store.specs.Halves.{HasEitherImage};
+    ghost use Rattle.text_store.specs.Rest.{IsReadOn};
     ghost use Rattle.text_store.specs.Settled.{IsSettled, IsUnsettled};
 
     /// The half of a file whose last gate is at a place, with a limit of the file's length.
@@ -84,6 +89,17 @@ impl<D: Disk> Half<D> {
         ensures { result ≡ self.device }
     {
         self.device
+    }
+
+    /// Reads all of the file.
+    pub fn read_whole(&mut self, alloc: Global) -> Result<Vec<u8>, StoreFault>
+        ensures bytes { IfOk result (λ bytes. (file : List ℕ) → D.seen self.old.device ≡ Some file → bytes.items ≡ file) }
+        ensures reads { IsReadOn D.Disk self.old.device self.new.device }
+        ensures same { (self.new.gate ≡ self.old.gate) × (self.new.limit ≡ self.old.limit) × (self.new.is_torn ≡ self.old.is_torn) }
+        ensures cause { IfErr result (λ e. ReadRefused (D.failures self.old.device) (D.failures self.new.device) e) }
+        ensures no_fault { OnOk result (D.failures self.new.device ≡ D.failures self.old.device) }
+    {
+        read_all(alloc, &mut self.device)
     }
 
     /// How many bytes more the file may have.

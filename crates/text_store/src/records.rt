@@ -43,22 +43,3 @@ pub fn number_at(file: &[u8], at: usize) -> u64
     bytes.copy_from_slice(&file[at..at + 8]);
     u64::from_le_bytes(bytes)
 }
-
-#[cfg(test)]
-mod tests {
-    use super::*;
-    use std::test::Fail;
-
-    #[test]
-    fn open_records_are_read(rt: HostRuntime) -> Result<(), Fail> {
-        let file = b"head\x01T\x02\0\0\0\0\0\0\0ab\x01S\0\0\0\0\0\0\0\0\0T\x01\0\0\0\0\0\0\0c\0";
-        let first = record_at(file, 4).ok_or("the first")?;
-        assert_eq!(rt; first.kind, b'T');
-        assert_eq!(rt; first.len, 2);
-        let second = record_at(file, first.payload + first.len).ok_or("the second")?;
-        assert_eq!(rt; second.at, 16);
-        assert_eq!(rt; second.payload, 26);
-        assert!(rt; record_at(file, second.payload).is_none());
-        Ok(())
-    }
-}

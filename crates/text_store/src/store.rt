@@ -5,6 +5,7 @@ use crate::change::{Change, record_of};
 use crate::disk_whole::read_both;
 use crate::durable::cut_durably;
 use crate::fault::StoreFault;
+use crate::feeding::frames_of;
 use crate::finding::{Found, InUse, Place, read_image};
 use crate::gate::{rest_empty, shut_gate, write_anew, write_new};
 use crate::half::Half;
@@ -36,8 +37,10 @@ impl<D: Disk> Store<D> {
     ghost use Rattle.text_store.specs.Changes.{kind_of, payload_of, HasShortName};
     ghost use Rattle.text_store.specs.Edits.{edited, whole_size};
     ghost use Rattle.text_store.specs.Entries.{body};
+    ghost use Rattle.text_store.specs.Faults.{ReadRefused};
+    ghost use Rattle.text_store.specs.Frames.{frames_of};
     ghost use Rattle.text_store.specs.Image.{image, live, chosen};
-    ghost use Rattle.text_store.specs.Files.{new_front, next_generation, IsWritable, fresh, WhileMade, WhileOpened, opened_limit};
+    ghost use Rattle.text_store.specs.Files.{new_front, next_generation, IsWritable, fresh, WhileMade, WhileOpened, ShowsOf, opened_limit, opened_size};
     ghost use Rattle.text_store.specs.Refusals.{PutRefused, CreateRefused, OpenRefused, RenewRefused, Told};
     ghost use Rattle.text_store.specs.Stores.{disks, disks_made, disks_opened, size_of, limit_of, repair_due, Tell, fault_count, placed, Throughout, Shows, ShowsEither, Holds, MayShow, bounds, NoWider, Keeps};
 
@@ -123,6 +126,7 @@ impl<D: Disk> Store<D> {
     pub fn open(alloc: Global, first: D, second: D) -> Result<(Store<D>, Image), (D, D, StoreFault)>
         ensures opened { IfOk result (λ opened. Told D.Disk (first, second) (λ f s. (image f s ≡ Ok opened.1) × Holds opened.0 opened.1
             × (limit_of opened.0 ≡ opened_limit f s))) }
+        ensures size { IfOk result (λ opened. Told D.Disk (first, second) (λ f s. size_of opened.0 ≡ opened_size f s)) }
         ensures writable { IfOk result (λ opened. IsWritable opened.1) }
         ensures ready { IfOk result (λ opened. repair_due opened.0 ≡ false) }
         ensures cause { IfErr result (λ e. OpenRefused D.Disk (first, second) (e.0, e.1) e.2) }
@@ -132,7 +136,7 @@ impl<D: Disk> Store<D> {
             → (D.seen (disks opened.0).0 ≡ Some f) × (D.seen (disks opened.0).1 ≡ Some (new_front (limit_of opened.0) 1 opened.1 ++ 0 ∷ [])))) }
 
         // A crash at any moment leaves files that it might have left before, or files with the image, or the want of one,
-        // of those that the disks read as.
+        // of those that the disks read as, which it might have left before.
         ensures any_moment { Told D.Disk (first, second) (λ f s. Tell D.Disk (first, second)
             → Throughout D.Disk (first, second) (disks_opened result) (WhileOpened D.Disk (first, second) f s)) }
         ensures keeps { Told D.Disk (first, second) (λ f s. Keeps D.Disk (first, second) (disks_opened result)
@@ -174,7 +178,7 @@ impl<D: Disk> Store<D> {
         ensures numbers { IfOk result (λ store. (limit_of store ≡ place.limit) × (size_of store ≡ place.gate + 1) × (store.in_second ≡ place.in_second) × (repair_due store ≡ false)) }
         ensures any_moment { (f s : List ℕ) (shown : Image) → RestsAs D.seen D.tells_crashes D.may_leave first f
             → RestsAs D.seen D.tells_crashes D.may_leave second s → half_found f s place.in_second place shown → Tell D.Disk (first, second)
-            → Throughout D.Disk (first, second) (disks_made result) (Shows shown) }
+            → Throughout D.Disk (first, second) (disks_made result) (ShowsOf D.Disk (first, second) f s shown) }
         ensures cause { IfErr result (λ e. (e.2 ≡ FailedDisk) × Rose (fault_count D.Disk (first, second)) (fault_count D.Disk (e.0, e.1))) }
         ensures keeps { Keeps D.Disk (first, second) (disks_made result) (if place.in_second then (0, place.gate + 1) else (place.gate + 1, 0)) }
         ensures no_fault { OnOk result (fault_count D.Disk (disks_made result) ≡ fault_count D.Disk (first, second)) }
@@ -214,7 +218,7 @@ impl<D: Disk> Store<D> {
             → D.seen (disks store).1 ≡ Some (new_front (limit_of store) 1 shown.now ++ 0 ∷ [])) }
         ensures any_moment { (f s : List ℕ) → RestsAs D.seen D.tells_crashes D.may_leave first f
             → RestsAs D.seen D.tells_crashes D.may_leave second s → chosen (live f) (live s) ≡ None → image f s ≡ Ok shown.now → Tell D.Disk (first, second)
-            → Throughout D.Disk (first, second) (disks_made result) (Shows shown.now) }
+            → Throughout D.Disk (first, second) (disks_made result) (ShowsOf D.Disk (first, second) f s shown.now) }
         ensures cause { IfErr result (λ e. RenewRefused D.Disk (first, second) (e.0, e.1) e.2) }
         ensures keeps { Keeps D.Disk (first, second) (disks_made result) (0, max limit (whole_size shown.now)) }
         ensures no_fault { OnOk result (fault_count D.Disk (disks_made result) ≡ fault_count D.Disk (first, second)) }
@@ -251,6 +255,7 @@ impl<D: Disk> Store<D> {
         ensures opened { IfOk result (λ opened. (f s : List ℕ) → RestsAs D.seen D.tells_crashes D.may_leave first f
             → RestsAs D.seen D.tells_crashes D.may_leave second s → IsFound f s found.image found.place
             → Holds opened.0 opened.1 × (limit_of opened.0 ≡ opened_limit f s)) }
+        ensures size { IfOk result (λ opened. (f s : List ℕ) → IsFound f s found.image found.place → size_of opened.0 ≡ opened_size f s) }
         ensures image { IfOk result (λ opened. opened.1 ≡ found.image) }
         ensures ready { IfOk result (λ opened. repair_due opened.0 ≡ false) }
         ensures older { IfOk result (λ opened. (f s : List ℕ) → RestsAs D.seen D.tells_crashes D.may_leave first f
@@ -258,7 +263,7 @@ impl<D: Disk> Store<D> {
             → (D.seen (disks opened.0).0 ≡ Some f) × (D.seen (disks opened.0).1 ≡ Some (new_front (limit_of opened.0) 1 opened.1 ++ 0 ∷ []))) }
         ensures any_moment { (f s : List ℕ) → RestsAs D.seen D.tells_crashes D.may_leave first f
             → RestsAs D.seen D.tells_crashes D.may_leave second s → IsFound f s found.image found.place → Tell D.Disk (first, second)
-            → Throughout D.Disk (first, second) (disks_opened result) (Shows found.image) }
+            → Throughout D.Disk (first, second) (disks_opened result) (ShowsOf D.Disk (first, second) f s found.image) }
         ensures cause { IfErr result (λ e. RenewRefused D.Disk (first, second) (e.0, e.1) e.2) }
         ensures keeps { (f s : List ℕ) → IsFound f s found.image found.place → Keeps D.Disk (first, second) (disks_opened result)
             (max (opened_limit f s) (length f), max (opened_limit f s) (length s)) }
@@ -439,6 +444,25 @@ impl<D: Disk> Store<D> {
         Ok(())
     }
 
+    /// The frames of the open records of the half in use, in order: the revision of each in 8 bytes, low byte first, and the
+    /// record as it stands behind its gate. The `C` has the revision of its image, each other record the one after its change.
+    pub fn feed(&mut self, alloc: Global) -> Result<Bytes, StoreFault>
+        requires { repair_due self.old ≡ false }
+        ensures frames { IfOk result (λ frames. (shown : Image) (held : Holds self.old shown) → frames ≡ frames_of (held.front ++ 0 ∷ [])) }
+        ensures held { (shown : Image) → Holds self.old shown → Holds self.new shown }
+        ensures any_moment { (shown : Image) → Holds self.old shown → Tell D.Disk (disks self.old)
+            → Throughout D.Disk (disks self.old) (disks self.new) (Shows shown) }
+        ensures cause { IfErr result (λ e. ReadRefused (fault_count D.Disk (disks self.old)) (fault_count D.Disk (disks self.new)) e) }
+        ensures ready { repair_due self.new ≡ false }
+        ensures same { (size_of self.new ≡ size_of self.old) × (limit_of self.new ≡ limit_of self.old) × NoWider self.old self.new }
+        ensures keeps { Keeps D.Disk (disks self.old) (disks self.new) (0, 0) }
+        ensures no_fault { OnOk result (fault_count D.Disk (disks self.new) ≡ fault_count D.Disk (disks self.old)) }
+    {
+        let file = self.live.read_whole(alloc)?;
+        let frames = frames_of(alloc, file.as_slice())?;
+        Ok(Bytes::from_vec(frames))
+    }
+
     /// Whether a change of so many bytes, as a record, would pass the limit, or the half in use is longer than twice the
     /// length of one that holds the image alone and 65536 bytes. It takes no memory.
     pub fn due(&self, change: u64, whole: u64) -> bool
@@ -486,39 +510,6 @@ impl<D: Disk> Store<D> {
             (self.spare, self.live.into_device())
         } else {
             (self.live.into_device(), self.spare)
-        }
-    }
-}
-
-#[cfg(test)]
-mod tests {
-    use super::*;
-    use hl_base::MemDisk;
-    use std::test::Fail;
-
-    #[test]
-    fn what_is_there_is_not_overwritten(rt: HostRuntime) -> Result<(), Fail> {
-        let alloc = rt.alloc();
-        let first = MemDisk::new(alloc, b"", 9, None, &[])?;
-        let second = MemDisk::new(alloc, b"abc", 9, None, &[])?;
-        match Store::create(alloc, first, second, b"", 47) {
-            Err((first, second, fault)) => {
-                assert_eq!(rt; fault, StoreFault::Exists { len: 3 });
-                match Store::create(alloc, first, second, b"", 46) {
-                    Err((_, _, fault)) => {
-                        assert_eq!(rt;
-                            fault,
-                            StoreFault::Full {
-                                size: 47,
-                                limit: 46
-                            }
-                        );
-                        Ok(())
-                    }
-                    Ok(_) => Err(Fail::new("it is full")),
-                }
-            }
-            Ok(_) => Err(Fail::new("the second file isn't empty")),
         }
     }
 }

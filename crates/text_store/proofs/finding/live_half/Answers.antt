@@ -26,4 +26,4 @@ pub returns : goal.returns
 returns c =
     half_is c.args.file.now c.in-Some.record c.in-Some.ensures c.in-Some-head_of.head c.in-Some-head_of.ensures c.if-record-ne67.false _ refl refl refl refl
     (c.in_ok-start.ensures.reads ∙ ap if_content_in_code c.in-Some-2.is)
-    (subst (λ (o : Option Content). IfSome o (λ content. AreWritable content.latest.items)) c.in-Some-2.is c.in_ok-start.ensures.writable)
+    (subst (λ (o : Option Content). IfSome o (λ content. AreWritable content.latest.states.items)) c.in-Some-2.is c.in_ok-start.ensures.writable)

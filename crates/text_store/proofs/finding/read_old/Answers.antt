@@ -25,11 +25,11 @@ returns-in-Ok-clause-found c =
     let at = c.in-Some.record.payload + c.in-Some.record.len in
     let end = c.in-Ok.end in
     let ends : IsEnd file at end.gate end.count = subst (λ (r : Result Folded ℕ). IfOk r (λ all. IsEnd file at all.gate all.count)) c.in-Ok.is c.in_ok-at.ensures.ends in
-    let none : AreWritable c.in_ok-start.start.latest.items = subst (λ (l : List Latest). AreWritable l) (sym c.in_ok-start.ensures.1) (omega arith, tt, refl) in
-    let writable : AreWritable end.content.latest.items =
-    subst (λ (r : Result Folded ℕ). IfOk r (λ all. AreWritable c.in_ok-start.start.latest.items → AreWritable all.content.latest.items)) c.in-Ok.is c.in_ok-at.ensures.writable none in
+    let none : AreWritable c.in_ok-start.start.latest.states.items = subst (λ (l : List Latest). AreWritable l) (sym c.in_ok-start.ensures.1) (omega arith, tt, refl) in
+    let writable : AreWritable end.content.latest.states.items =
+    subst (λ (r : Result Folded ℕ). IfOk r (λ all. AreWritable c.in_ok-start.start.latest.states.items → AreWritable all.content.latest.states.items)) c.in-Ok.is c.in_ok-at.ensures.writable none in
     let few : end.count ≤ 2 ^ 62 = omega (arith, ends.few) in
-    let made : Image = record { text = end.content.text.items; latest = end.content.latest.items; revision = end.count } in (
+    let made : Image = record { text = end.content.text.items; latest = end.content.latest.states.items; revision = end.count } in (
       old_shows file c.if-file-lt17.false c.in-Some.record c.in-Some.ensures c.if-record-ne84.false (content_in_code c.in_ok-start.start) _
           c.in_ok-start.ensures.0 c.in_ok-start.ensures.1 (c.in_ok-at.ensures.folds ∙ ap end_in_code c.in-Ok.is)
           ∙ ap (λ (n : ℕ). image_at n (Ok (content_in_code end.content))) (sym ends.counted) ∙ ap (λ (i : Image). Ok i) (sym c.image_of.ensures),

@@ -4,7 +4,7 @@ use Rattle.hl_base.proofs.Replays.{on_ok_map}
 use Rattle.text_store.specs.Rest.{AfterStep, IsAt}
 use Rattle.text_store.specs.Ends.{IsShutAt}
 use Rattle.text_store.proofs.Ending.{cut_end_stays, cut_end_done, end_shut}
-use Rattle.text_store.proofs.Moments.{weakened, joined}
+use Rattle.text_store.proofs.Moments.{weakened, joined, from_step, from_before}
 use Rattle.text_store.proofs.Gates.{cut_stays, cut_done, end_at, written_gate}
 use Rattle.text_store.proofs.Resting.{on_err_of, rest_stands, rest_as, steps_on, outcome}
 use Rattle.text_store.proofs.gate.shut_gate.Goals as goal
@@ -96,3 +96,15 @@ returns-clause-any_end g c front size stands telling =
     (λ f left at cut. cut_end_stays front c.args.gate size f left at cut))
     (outcome d.seen d.tells_crashes d.may_leave c.cut_durably.new.device (λ f. f ≡ file) (IsShutAt front) (Torn c.args.gate 1) (rest_stands d.seen d.tells_crashes d.may_leave c.cut_durably.new.device file middle) still
     (λ f left is torn. end_shut front c.args.gate size gate.0 left (subst (λ (l : List ℕ). Torn c.args.gate 1 l left) is torn)))
+
+pub returns-in_err-cut_durably-clause-comes : goal.returns-in_err-cut_durably-clause-comes
+returns-in_err-cut_durably-clause-comes g c =
+    let d = g.D.Disk in
+    from_step d.moment d.left_since c.args.device.now c.cut_durably.new.device d.may_leave (Cut (c.args.gate + 1)) c.cut_durably.ensures.any_moment
+
+pub returns-clause-comes : goal.returns-clause-comes
+returns-clause-comes g c =
+    let d = g.D.Disk in
+    from_before d.moment d.left_since c.args.device.now c.cut_durably.new.device c.write_durably.new.device d.may_leave g.met.D.Disk.counts_now
+    (from_step d.moment d.left_since c.args.device.now c.cut_durably.new.device d.may_leave (Cut (c.args.gate + 1)) c.cut_durably.ensures.any_moment)
+    (from_step d.moment d.left_since c.cut_durably.new.device c.write_durably.new.device d.may_leave (Torn c.args.gate 1) c.write_durably.ensures.any_moment)

@@ -1,7 +1,7 @@
 use Rattle.std.proofs.Common.{◌++◌, [], ◌∷◌, ap, arith, inr, length, length-append}
 use Rattle.hl_base.proofs.Replays.{on_ok_map}
 use Rattle.text_store.specs.Rest.{IsAt, IsRewritten}
-use Rattle.text_store.proofs.Moments.{joined}
+use Rattle.text_store.proofs.Moments.{joined, from_before}
 use Rattle.text_store.proofs.Resting.{rest_as, stands_more, on_err_map, tells_still}
 use Rattle.text_store.proofs.gate.write_anew.Goals as goal
 
@@ -33,3 +33,10 @@ returns-clause-any_moment g c file head same rests telling =
     (rest_as d.seen d.tells_crashes d.may_leave c.head_anew.new.device c.args.header.now (head ++ 0 ∷ []) same (c.in_ok-head_anew.ensures.done file rests))
     (tells_still _ _ c.head_anew.ensures.tells telling))
     (λ f rewritten. rewritten) (λ f at. inr (inr at))
+
+pub returns-clause-comes : goal.returns-clause-comes
+returns-clause-comes g c =
+    let d = g.D.Disk in
+    from_before d.moment d.left_since c.args.device.now c.head_anew.new.device c.append_entry.new.device d.may_leave g.met.D.Disk.counts_now
+    c.head_anew.ensures.comes
+    c.append_entry.ensures.comes

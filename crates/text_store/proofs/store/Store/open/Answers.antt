@@ -44,6 +44,17 @@ returns-clause-opened g c =
     (shown_by f s shown place found ∙ ap (λ (i : Image). Ok i) (sym is), made.0, made.1))
     c.take_up.ensures.opened c.take_up.ensures.image
 
+pub returns-clause-size : goal.returns-clause-size
+returns-clause-size g c =
+    let shown = c.in-Ok-read_image.found.image in
+    let place = c.in-Ok-read_image.found.place in
+    if_ok_map c.take_up.result _ _
+    (λ opened sized f s is_first is_second.
+    let rests = c.in-Ok.ensures.rests f s is_first is_second in
+    let found = found_in c.deref.result.now c.deref-in-Ok.result.now f s shown place (c.deref.ensures.value ∙ rests.0) (c.deref-in-Ok.ensures.value ∙ rests.1) c.in-Ok-read_image.ensures.found in
+    sized f s found)
+    c.take_up.ensures.size
+
 pub returns-clause-older : goal.returns-clause-older
 returns-clause-older g c =
     let shown = c.in-Ok-read_image.found.image in

@@ -2,9 +2,9 @@ use Rattle.std.proofs.Common.{◌≡◌, ◌∙◌, ◌<◌, ◌^◌, ◌++◌, 
 use Rattle.hl_base.specs.Disk.{LeavesOnly}
 use Rattle.text_store.specs.Edits.{whole_size}
 use Rattle.text_store.specs.Entries.{body}
-use Rattle.text_store.specs.Files.{header, whole_payload}
+use Rattle.text_store.specs.Files.{header, whole_payload, ShowsOf}
 use Rattle.text_store.specs.Rest.{RestsAs, IsRewritten}
-use Rattle.text_store.specs.Stores.{Throughout, Shows, Keeps}
+use Rattle.text_store.specs.Stores.{Throughout, Keeps}
 use Rattle.text_store.proofs.HalfImages.{length_record}
 use Rattle.text_store.proofs.Opening.{both_shows, renewing, renewed}
 use Rattle.text_store.proofs.Wholes.{length_whole}
@@ -27,9 +27,9 @@ returns-in-Err-clause-any_moment g c f s first second none is tell =
     let head = header limit 1 shown.revision in
     let same : c.deref.result.now ≡ head ++ 0 ∷ [] = c.deref.ensures.value ∙ c.in-Ok.ensures in
     let entry : c.deref-2.result.now ≡ body 67 (whole_payload shown) ++ 0 ∷ [] = c.deref-2.ensures.value ∙ c.in-Ok-whole_record.ensures.bytes in
-    renewing limit shown small c.requires.revision c.requires.writable are fits f s none d g.met.D.Disk.counts_now c.args.first c.args.second c.write_anew.new.device is first tell
+    renewing limit shown small c.requires.revision c.requires.writable are fits f s none d g.met.D.Disk.counts_now c.args.first c.args.second c.write_anew.new.device is first second tell
     (subst (λ (l : List ℕ). LeavesOnly d.moment d.left_since c.args.second c.write_anew.new.device (IsRewritten s head l)) entry
-    (c.write_anew.ensures.any_moment s head same second tell.1))
+    (c.write_anew.ensures.any_moment s head same second tell.1)) c.write_anew.ensures.comes
 
 pub returns-in-Err-clause-keeps : goal.returns-in-Err-clause-keeps
 returns-in-Err-clause-keeps g c =
@@ -87,10 +87,10 @@ returns-clause-any_moment g c f s first second none is tell =
     let head = header limit 1 shown.revision in
     let same : c.deref.result.now ≡ head ++ 0 ∷ [] = c.deref.ensures.value ∙ c.in-Ok.ensures in
     let entry : c.deref-2.result.now ≡ body 67 (whole_payload shown) ++ 0 ∷ [] = c.deref-2.ensures.value ∙ c.in-Ok-whole_record.ensures.bytes in
-    subst (λ (x : _). Throughout d (c.args.first, c.args.second) (c.args.first, x) (Shows shown)) (sym c.new.ensures.device)
-    (renewing limit shown small c.requires.revision c.requires.writable are fits f s none d g.met.D.Disk.counts_now c.args.first c.args.second c.write_anew.new.device is first tell
+    subst (λ (x : _). Throughout d (c.args.first, c.args.second) (c.args.first, x) (ShowsOf d (c.args.first, c.args.second) f s shown)) (sym c.new.ensures.device)
+    (renewing limit shown small c.requires.revision c.requires.writable are fits f s none d g.met.D.Disk.counts_now c.args.first c.args.second c.write_anew.new.device is first second tell
     (subst (λ (l : List ℕ). LeavesOnly d.moment d.left_since c.args.second c.write_anew.new.device (IsRewritten s head l)) entry
-    (c.write_anew.ensures.any_moment s head same second tell.1)))
+    (c.write_anew.ensures.any_moment s head same second tell.1)) c.write_anew.ensures.comes)
 
 pub returns-clause-keeps : goal.returns-clause-keeps
 returns-clause-keeps g c =

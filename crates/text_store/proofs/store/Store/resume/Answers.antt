@@ -1,5 +1,6 @@
 use Rattle.std.proofs.Common.{refl, sym, subst}
-use Rattle.text_store.specs.Stores.{placed, Throughout, Shows}
+use Rattle.text_store.specs.Files.{ShowsOf}
+use Rattle.text_store.specs.Stores.{placed, Throughout}
 use Rattle.text_store.proofs.Opening.{resume_run, resume_opened}
 use Rattle.text_store.proofs.store.Store.resume.Goals as goal
 
@@ -8,9 +9,9 @@ returns-in-Err-clause-any_moment g c f s shown first second found tell =
     let d = g.D.Disk in
     let u = c.args.place in
     let pair = c.in_order-live.result in
-    subst (λ (p : _). Throughout d (c.args.first, c.args.second) p (Shows shown)) (sym c.in_order-first.ensures)
+    subst (λ (p : _). Throughout d (c.args.first, c.args.second) p (ShowsOf d (c.args.first, c.args.second) f s shown)) (sym c.in_order-first.ensures)
     (resume_run d c.args.first c.args.second f s u shown first second found pair c.in_order-live.ensures c.shut_gate.new.device g.met.D.Disk.counts_now tell
-    (λ front size stands telling. c.shut_gate.ensures.any_end front size stands telling))
+    (λ front size stands telling. c.shut_gate.ensures.any_end front size stands telling) c.shut_gate.ensures.comes)
 
 pub returns-in-Ok-clause-opened : goal.returns-in-Ok-clause-opened
 returns-in-Ok-clause-opened g c f s shown first second found =
@@ -23,6 +24,6 @@ returns-in-Ok-clause-any_moment g c f s shown first second found tell =
     let d = g.D.Disk in
     let u = c.args.place in
     let pair = c.in_order-live.result in
-    subst (λ (x : _). Throughout d (c.args.first, c.args.second) (placed u.in_second x pair.1) (Shows shown)) (sym c.new.ensures.device)
+    subst (λ (x : _). Throughout d (c.args.first, c.args.second) (placed u.in_second x pair.1) (ShowsOf d (c.args.first, c.args.second) f s shown)) (sym c.new.ensures.device)
     (resume_run d c.args.first c.args.second f s u shown first second found pair c.in_order-live.ensures c.shut_gate.new.device g.met.D.Disk.counts_now tell
-    (λ front size stands telling. c.shut_gate.ensures.any_end front size stands telling))
+    (λ front size stands telling. c.shut_gate.ensures.any_end front size stands telling) c.shut_gate.ensures.comes)
