@@ -3,12 +3,13 @@ ghost use Rattle.std.specs.Prelude.{◌≡◌, Ok, IfOk, OnErr, IsOk};
 ghost use Rattle.hl_base.specs.Causes.{HasCause};
 
 use hl_base::{Disk, Failed};
-use std::fs::{File, OpenFile, OpenOptions};
+use std::fs::{self, File, OpenFile, OpenOptions};
 use std::io;
 use std::os::unix::fs::FileExt;
+use std::path::Path;
 use std::rt::Files;
 
-/// A file that is open for reading and writing.
+/// A file that is open for reading and writing, and taken: no other process can take it meanwhile.
 #[derive(Drop)]
 pub struct FileDisk {
     file: File,
@@ -17,7 +18,8 @@ pub struct FileDisk {
 }
 
 impl FileDisk {
-    /// Opens a file at a path; with `make` an absent one is made.
+    /// Opens a file at a path and takes it, until the disk is dropped or its process ends. It is refused while another
+    /// open of the file has taken it. With `make` an absent one is made, and its folder is synced, so that its name lasts.
     pub fn open<R: Files<File = File>>(files: &R, path: &str, make: bool) -> io::Result<FileDisk>
         ensures reach { IfOk result (λ disk. ⟦<FileDisk as Disk>⟧.reach disk ≡ 0) }
         ensures faults { IfOk result (λ disk. ⟦<FileDisk as Disk>⟧.failures disk ≡ 0) }
@@ -27,6 +29,10 @@ impl FileDisk {
             .write(true)
             .create(make)
             .open(files, path)?;
+        file.try_lock()?;
+        if make {
+            sync_folder(files, path)?;
+        }
         Ok(FileDisk {
             file,
             reach: 0,
@@ -108,6 +114,19 @@ impl Disk for FileDisk {
     }
 }
 
+// The folder of a path.
+fn folder_of(path: &str) -> &str {
+    match Path::new(path).parent() {
+        Some(folder) if !folder.as_str().is_empty() => folder.as_str(),
+        _ => ".",
+    }
+}
+
+// Waits until the names in the folder of a path are kept.
+fn sync_folder<R: Files<File = File>>(files: &R, path: &str) -> io::Result<()> {
+    fs::open(files, folder_of(path))?.sync_all()
+}
+
 // The file's length in bytes.
 fn length_of(file: &File) -> io::Result<u64> {
     Ok(file.metadata()?.len())
@@ -124,7 +143,6 @@ fn shorten(file: &File, len: u64) -> io::Result<()> {
 #[cfg(test)]
 mod tests {
     use super::*;
-    use std::fs;
     use std::test::Fail;
     use std::time::{SystemTime, UNIX_EPOCH};
 
@@ -149,6 +167,10 @@ mod tests {
         disk.sync()?;
         assert_eq!(rt; disk.len()?, 4);
         assert_eq!(rt; disk.faults(), 0);
+        assert!(rt;
+            FileDisk::open(&rt, path.as_str(), true).is_err(),
+            "it is taken"
+        );
         fs::remove_file(&rt, path.as_str())?;
         Ok(())
     }
