@@ -1,0 +1,9 @@
+pub mod Crashing
+pub mod Filled
+pub mod Following
+pub mod Heading
+pub mod Kept
+pub mod Readied
+pub mod Rooms
+pub mod Taking
+pub mod Texts

@@ -1,0 +1,25 @@
+use Rattle.std.proofs.Common.{◌∙◌, ◌+◌, length, Err, ap, sym, subst}
+use Rattle.text_store.specs.Changes.{payload_of}
+use Rattle.text_store.specs.Stores.{disks, fault_count, size_of}
+use Rattle.text_store.specs.declared.fault.StoreFault.{StoreFault}
+use Rattle.follower.specs.declared.keep.Unkept.{Unkept}
+use Rattle.follower.specs.Keeping.{IsCause, LeftBy}
+use Rattle.follower.proofs.Kept.{caused, goes_on, left}
+use Rattle.follower.proofs.keep.put_record.Goals as goal
+
+pub returns-in-Ok-clause-goes_on : goal.returns-in-Ok-clause-goes_on
+returns-in-Ok-clause-goes_on g c = goes_on c.args.store.now c.append.new.self c.append.ensures.same.0 c.append.ensures.same.1 c.append.ensures.keeps
+
+pub returns-in-Err-clause-goes_on : goal.returns-in-Err-clause-goes_on
+returns-in-Err-clause-goes_on g c = goes_on c.args.store.now c.append.new.self c.append.ensures.same.0 c.append.ensures.same.1 c.append.ensures.keeps
+
+pub returns-in-Err-clause-cause : goal.returns-in-Err-clause-cause
+returns-in-Err-clause-cause g c =
+    subst (λ (u : Unkept). IsCause u (fault_count g.D.Disk (disks c.args.store.now)) (fault_count g.D.Disk (disks c.append.new.self))) (sym c.reason_of.ensures)
+    (caused c.args.store.now c.append.new.self (size_of c.args.store.now + 10 + length (payload_of c.args.change.now)) c.in-Err.fault c.in-Err.ensures.cause c.requires.room)
+
+pub returns-in-Err-clause-torn : goal.returns-in-Err-clause-torn
+returns-in-Err-clause-torn g c = λ shown next held edited.
+    subst (λ (u : Unkept). LeftBy u c.append.new.self shown next) (sym c.reason_of.ensures)
+    (left c.args.store.now c.append.new.self (size_of c.args.store.now + 10 + length (payload_of c.args.change.now)) c.in-Err.fault shown next c.in-Err.ensures.cause c.requires.room c.requires.ready held
+    (λ is. c.append.ensures.fault (c.in-Err.is ∙ ap (λ (e : StoreFault). Err e) is) shown next held edited))

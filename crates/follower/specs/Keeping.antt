@@ -1,0 +1,49 @@
+-- When a store is written anew before a record, and why a frame wasn't stored.
+use Rattle.std.specs.Prelude.{◌≡◌, ◌⊎◌, ℕ, ◌+◌, ◌*◌, Bool, false, ◌||◌, if◌then◌else◌, nat_lt, Option, None, Some}
+use Rattle.hl_base.specs.declared.disk.Disk.{Ghosts}
+use Rattle.hl_base.specs.Causes.{Rose}
+use Rattle.text_store.specs.declared.image.Image.{Image}
+use Rattle.text_store.specs.declared.fault.StoreFault.{StoreFault}
+use Rattle.text_store.specs.declared.fault.StoreFault.TheVariants as store_fault
+use Rattle.text_store.specs.declared.store.Store.{Store}
+use Rattle.text_store.specs.Stores.{Holds, Keeps, MayShow, NoWider, bounds, disks, limit_of, repair_due}
+use Rattle.follower.specs.declared.keep.Unkept.{Unkept}
+use Rattle.follower.specs.declared.keep.Unkept.TheVariants as unkept
+
+-- a store of a size and a limit is written anew before a record of r bytes, where a new one has so many
+abbrev pub due_at : ℕ → ℕ → ℕ → ℕ → Bool
+due_at size limit r whole = nat_lt limit (size + r) || nat_lt (2 * whole + 65536) size
+
+-- the size before such a record
+abbrev pub room_size : ℕ → ℕ → ℕ → ℕ → ℕ
+room_size size limit r whole = if due_at size limit r whole then whole else size
+
+-- a disk's count of faults rose, or memory ran out, with the count as it was
+abbrev pub IsCause : Unkept → ℕ → ℕ → Type 0
+IsCause unkept.DiskFault before after = Rose before after
+IsCause unkept.Memory before after = after ≡ before
+
+-- what the disks may show beside the image after a frame that wasn't stored
+abbrev pub LeftPending : Unkept → Option Image → Image → Option Image → Type 0
+LeftPending unkept.DiskFault before next after = (after ≡ None) ⊎ ((after ≡ before) ⊎ (after ≡ Some next))
+LeftPending unkept.Memory before next after = (after ≡ None) ⊎ (after ≡ before)
+
+-- why a store wrote nothing, where it had the room
+abbrev pub unkept_of : StoreFault → Unkept
+unkept_of store_fault.DiskFault = unkept.DiskFault
+unkept_of (store_fault.NotAStore at) = unkept.Memory
+unkept_of (store_fault.Newer version) = unkept.Memory
+unkept_of (store_fault.Full size limit) = unkept.Memory
+unkept_of (store_fault.Exists len) = unkept.Memory
+unkept_of store_fault.Memory = unkept.Memory
+
+-- a store goes on: its limit stays, it may reach no further, and its disks tell what they told
+pub record GoesOn {D : Type 0} {g : Ghosts D} (old new : Store D g) : Type 0 where
+  pub limit : limit_of new ≡ limit_of old
+  pub no_wider : NoWider old new
+  pub keeps : Keeps g (disks old) (disks new) (bounds old)
+
+-- a frame that wasn't stored: after a disk fault the disks may show it, and after want of memory the store is at rest
+abbrev pub LeftBy : {D : Type 0} {g : Ghosts D} → Unkept → Store D g → Image → Image → Type 0
+LeftBy unkept.DiskFault new shown next = MayShow new shown next
+LeftBy unkept.Memory new shown next = (repair_due new ≡ false) × Holds new shown

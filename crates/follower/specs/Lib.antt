@@ -1,0 +1,13 @@
+pub mod Accepting
+pub mod Changing
+pub mod Crashes
+pub mod Fills
+pub mod Heads
+pub mod Histories
+pub mod Images
+pub mod Keeping
+pub mod Prepared
+pub mod Refused
+pub mod Shortness
+pub mod Standings
+pub mod Stands
