@@ -1,7 +1,7 @@
 -- Names that are declared or meant, one after another.
 use Rattle.std.proofs.Common.{◌≡◌, ℕ, ◌+◌, ◌<◌, ◌≤◌, Bool, true, false, ◌&&◌, ◌||◌, not, List, length, get_or, drop, map, cond, Option, Some, None, Result, Ok, Err, OnOk, refl, sym, ap, ◌∙◌}
 use Rattle.std.specs.List.{find, flat_map, list_any}
-use Rattle.std.specs.Option.{option_to_list}
+use Rattle.std.specs.Option.{option_and_then, option_to_list}
 use Rattle.std.specs.Str.{bytes_eq}
 use Rattle.std.proofs.lemmas.Cmp.{nat_list_eq_equiv}
 use Rattle.std.proofs.lemmas.List.{drop_all}
@@ -10,12 +10,15 @@ use Rattle.std.proofs.lemmas.Slice.Eq.{bytes_eq-Decides}
 use Rattle.book.specs.declared.item.Placed.{Placed}
 use Rattle.book.specs.declared.transaction.Txn.{Txn}
 use Rattle.query_terms.proofs.Walks.{left_here}
-use Rattle.book_care.specs.Breaks.{first_undeclared}
+use Rattle.book_care.specs.Breaks.{first_by, first_fault, first_lacked, first_named, first_undeclared, name_fault}
+use Rattle.book_care.specs.DeclaredNames.{AreDeclaredIn, IsDeclaredFor}
 use Rattle.book_care.specs.Declarations.{needs, declared_of}
 use Rattle.book_care.specs.Names.{has}
 use Rattle.book_care.specs.Uses.{Use, is_lacking, uses_of}
+use Rattle.book_care.specs.declared.declarations.Declarations.{Declarations}
 use Rattle.book_care.specs.declared.declarations.Declared.{Declared}
 use Rattle.book_care.specs.declared.faults.Check.{Check}
+use Rattle.book_care.specs.declared.faults.Check.TheVariants as checks
 
 there_by : (test : List ℕ → Bool) (name q : List ℕ) (b : Bool) → bytes_eq q name ≡ b → test name ≡ true → test q ≡ (b || test q)
 there_by test name q true e there = ap test ((bytes_eq-Decides q name).0 e) ∙ there
@@ -90,3 +93,17 @@ note_none q o old is = ap (λ (x : Option (List ℕ)). list_any (bytes_eq q) (op
 pub on_ok : {T E P Q : Type 0} → (r : Result T E) → (P → Q) → OnOk r P → OnOk r Q
 on_ok (Ok x) f h = f h
 on_ok (Err e) f h = h
+
+-- what is said of the first name that isn't kept is what the check says of the items
+pub lacked_is : (declared : Declared) (check : Check) (items : List Placed) (txns : List Txn) → IsDeclaredFor check items declared → first_lacked declared txns ≡ first_named check items txns
+lacked_is declared check items txns kept =
+    ap (λ (c : Check). option_and_then (name_fault c) (find (is_lacking declared) (uses_of declared.check txns))) kept.asked
+    ∙ ap (option_and_then (name_fault check)) (first_is declared check items txns kept.asked kept.names)
+
+-- where what is kept is what items declare, it says what the definition says of the items
+pub first_by_is : (items : List Placed) (declarations : Declarations) (check : Check) (txns : List Txn) → AreDeclaredIn items declarations → first_by declarations check txns ≡ first_fault check items txns
+first_by_is items declarations checks.Accounts txns are = lacked_is declarations.accounts checks.Accounts items txns are.accounts
+first_by_is items declarations checks.Commodities txns are = lacked_is declarations.commodities checks.Commodities items txns are.commodities
+first_by_is items declarations checks.Payees txns are = lacked_is declarations.payees checks.Payees items txns are.payees
+first_by_is items declarations checks.Tags txns are = lacked_is declarations.tags checks.Tags items txns are.tags
+first_by_is items declarations checks.OrderedDates txns are = refl

@@ -5,7 +5,10 @@ use Rattle.std.specs.Option.{option_map, option_and_then}
 use Rattle.book.specs.declared.item.Placed.{Placed}
 use Rattle.book.specs.declared.transaction.Txn.{Txn}
 use Rattle.book_care.specs.Declarations.{is_undeclared}
-use Rattle.book_care.specs.Uses.{Use, uses_of}
+use Rattle.book_care.specs.Uses.{Use, is_lacking, uses_of}
+use Rattle.book_care.specs.DeclaredNames.{kept_for}
+use Rattle.book_care.specs.declared.declarations.Declarations.{Declarations}
+use Rattle.book_care.specs.declared.declarations.Declared.{Declared}
 use Rattle.book_care.specs.declared.faults.Check.{Check}
 use Rattle.book_care.specs.declared.faults.Check.TheVariants as checks
 use Rattle.book_care.specs.declared.faults.StrictFault.{StrictFault}
@@ -40,6 +43,10 @@ name_fault checks.OrderedDates used = None
 abbrev pub first_named : Check → List Placed → List Txn → Option StrictFault
 first_named check items txns = option_and_then (name_fault check) (first_undeclared check items txns)
 
+-- what is said of the first name that isn't among those which are kept as declared
+abbrev pub first_lacked : Declared → List Txn → Option StrictFault
+first_lacked declared txns = option_and_then (name_fault declared.check) (find (is_lacking declared) (uses_of declared.check txns))
+
 -- a check asks about the order of days
 abbrev pub is_of_days : Check → Bool
 is_of_days checks.OrderedDates = true
@@ -50,6 +57,11 @@ is_of_days _ = false
 abbrev pub first_fault : Check → List Placed → List Txn → Option StrictFault
 first_fault check items txns =
     if is_of_days check then option_map early_fault (first_early txns) else first_named check items txns
+
+-- the same, by the names that are kept as declared
+abbrev pub first_by : Declarations → Check → List Txn → Option StrictFault
+first_by declarations check txns =
+    if is_of_days check then option_map early_fault (first_early txns) else first_lacked (kept_for declarations check) txns
 
 -- a fault is the one that is told; want of memory says nothing
 abbrev pub IsFault : Option StrictFault → StrictFault → Type 0

@@ -1,5 +1,6 @@
 pub mod Names
 pub mod Declarations
+pub mod DeclaredNames
 pub mod Uses
 pub mod Breaks
 pub mod Asked

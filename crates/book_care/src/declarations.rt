@@ -4,6 +4,7 @@ ghost use Rattle.std.specs.List.{list_any};
 ghost use Rattle.std.specs.Option.{option_copied, option_to_list};
 ghost use Rattle.std.specs.Str.{bytes_eq};
 ghost use Rattle.book_care.specs.Declarations as spec;
+ghost use Rattle.book_care.specs.DeclaredNames.{AreDeclaredIn, kept_for};
 ghost use Rattle.book_care.specs.Names.{has};
 ghost use Rattle.book_care.specs.Uses.{lacks};
 
@@ -127,5 +128,44 @@ impl Declared {
         ensures { result ≡ lacks self.now name.now }
     {
         needs(self.check, name) && !self.names.has(name)
+    }
+}
+
+/// The names that a text declares, for each check that asks about names.
+#[derive(Drop)]
+pub struct Declarations {
+    pub(crate) accounts: Declared,
+    pub(crate) commodities: Declared,
+    pub(crate) payees: Declared,
+    pub(crate) tags: Declared,
+}
+
+impl Declarations {
+    /// The names that some items declare, wherever their directives stand.
+    pub fn new(alloc: Global, items: &Items) -> Result<Declarations, Memory>
+        ensures { IfOk result (AreDeclaredIn items.now) }
+    {
+        let accounts = Declared::new(alloc, items, Check::Accounts)?;
+        let commodities = Declared::new(alloc, items, Check::Commodities)?;
+        let payees = Declared::new(alloc, items, Check::Payees)?;
+        let tags = Declared::new(alloc, items, Check::Tags)?;
+        Ok(Declarations {
+            accounts,
+            commodities,
+            payees,
+            tags,
+        })
+    }
+
+    /// The names that are kept for a check; one of days asks for none.
+    pub(crate) fn kept_for(&self, check: Check) -> &Declared
+        ensures { result.now ≡ kept_for self.now check }
+    {
+        match check {
+            Check::Accounts | Check::OrderedDates => &self.accounts,
+            Check::Commodities => &self.commodities,
+            Check::Payees => &self.payees,
+            Check::Tags => &self.tags,
+        }
     }
 }

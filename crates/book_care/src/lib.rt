@@ -18,5 +18,6 @@ mod strict_checks;
 mod uses;
 
 pub use close::{Closing, close_entries};
+pub use declarations::Declarations;
 pub use faults::{Check, CloseFault, StrictFault};
-pub use strict_checks::strict;
+pub use strict_checks::{strict, strict_by};

@@ -4,7 +4,7 @@ ghost use Rattle.std.specs.Option.{option_map};
 ghost use Rattle.book_care.specs.Breaks as spec;
 ghost use Rattle.book_care.specs.Breaks.{IsFault};
 
-use crate::declarations::Declared;
+use crate::declarations::{Declarations, Declared};
 use crate::faults::{Check, StrictFault};
 use crate::uses::{Use, first_lacking};
 use book::{Book, Items, Txn};
@@ -38,19 +38,13 @@ fn name_fault(alloc: Global, check: Check, found: &Use) -> Result<(), StrictFaul
     }
 }
 
-/// Whether each name that a check asks about is declared.
-fn names_declared(
-    alloc: Global,
-    items: &Items,
-    txns: &[Txn],
-    check: Check,
-) -> Result<(), StrictFault>
-    ensures holds { OnOk result (spec.first_named check items.now txns.now ≡ None) }
-    ensures fault { IfErr result (IsFault (spec.first_named check items.now txns.now)) }
+/// Whether each name that is asked about is among those that are kept as declared.
+fn names_kept(alloc: Global, declared: &Declared, txns: &[Txn]) -> Result<(), StrictFault>
+    ensures holds { OnOk result (spec.first_lacked declared.now txns.now ≡ None) }
+    ensures fault { IfErr result (IsFault (spec.first_lacked declared.now txns.now)) }
 {
-    let declared = Declared::new(alloc, items, check)?;
-    match first_lacking(&declared, txns) {
-        Some(found) => name_fault(alloc, check, &found),
+    match first_lacking(declared, txns) {
+        Some(found) => name_fault(alloc, declared.check, &found),
         None => Ok(()),
     }
 }
@@ -94,18 +88,32 @@ fn is_of_days(check: Check) -> bool
     }
 }
 
-/// Whether a book, which stands for the items, keeps what is asked: each account of its postings, each symbol of their
+/// Whether a book keeps what is asked, by what its text declares: each account of its postings, each symbol of their
 /// written amounts, costs and assertions that isn't empty, each payee that isn't empty, or each tag of a transaction or a
 /// posting but `date` is declared by a directive, wherever that stands; or no transaction is before the one above it. The
 /// fault is of the first transaction or posting in the text that breaks this, with its line, and has the first name in it
 /// in the order written.
-pub fn strict(alloc: Global, items: &Items, book: &Book, check: Check) -> Result<(), StrictFault>
-    ensures holds { OnOk result (spec.first_fault check items.now book.now.txns ≡ None) }
-    ensures fault { IfErr result (IsFault (spec.first_fault check items.now book.now.txns)) }
+pub fn strict_by(
+    alloc: Global,
+    declarations: &Declarations,
+    book: &Book,
+    check: Check,
+) -> Result<(), StrictFault>
+    ensures holds { OnOk result (spec.first_by declarations.now check book.now.txns ≡ None) }
+    ensures fault { IfErr result (IsFault (spec.first_by declarations.now check book.now.txns)) }
 {
     if is_of_days(check) {
         dates_ordered(book.txns.as_slice())
     } else {
-        names_declared(alloc, items, book.txns.as_slice(), check)
+        names_kept(alloc, declarations.kept_for(check), book.txns.as_slice())
     }
+}
+
+/// Whether a book, which stands for the items, keeps what is asked of it, as `strict_by` says.
+pub fn strict(alloc: Global, items: &Items, book: &Book, check: Check) -> Result<(), StrictFault>
+    ensures holds { OnOk result (spec.first_fault check items.now book.now.txns ≡ None) }
+    ensures fault { IfErr result (IsFault (spec.first_fault check items.now book.now.txns)) }
+{
+    let declarations = Declarations::new(alloc, items)?;
+    strict_by(alloc, &declarations, book, check)
 }

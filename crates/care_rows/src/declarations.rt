@@ -1,7 +1,7 @@
 //! What a text declares, and the order of its days.
 use crate::samples::{LUNCH, items_of};
 use balancing::check;
-use book_care::{Check, StrictFault, strict};
+use book_care::{Check, Declarations, StrictFault, strict, strict_by};
 use std::alloc::Global;
 use std::test::Fail;
 
@@ -51,5 +51,19 @@ fn days_rise(rt: HostRuntime) -> Result<(), Fail> {
     let entries = [(1, LUNCH), (5, EARLIER)];
     let said = said(rt.alloc(), &[], &entries, Check::OrderedDates)?;
     assert_eq!(rt; said.as_str(), "5 738890 738889");
+    Ok(())
+}
+
+#[test]
+fn declared_names_are_kept(rt: HostRuntime) -> Result<(), Fail> {
+    let items = items_of(rt.alloc(), &["expenses:food"], &[(1, LUNCH)])?;
+    let declarations = Declarations::new(rt.alloc(), &items)?;
+    let book = check(rt.alloc(), items)?;
+    let said = strict_by(rt.alloc(), &declarations, &book, Check::Accounts);
+    let found = match said {
+        Ok(()) => String::from_str(rt.alloc(), "ok")?,
+        Err(fault) => fault_text(rt.alloc(), &fault)?,
+    };
+    assert_eq!(rt; found.as_str(), "3 assets:cash");
     Ok(())
 }
