@@ -1,0 +1,11 @@
+pub mod Above
+pub mod Alike
+pub mod Counting
+pub mod Fitted
+pub mod Lining
+pub mod Linked
+pub mod Measured
+pub mod Parts
+pub mod Placing
+pub mod Promised
+pub mod Whole

@@ -1,0 +1,13 @@
+pub mod Beside
+pub mod Counted
+pub mod Fits
+pub mod Grouped
+pub mod Lined
+pub mod OnLine
+pub mod OnPage
+pub mod Percents
+pub mod Placed
+pub mod RowsFit
+pub mod Shown
+pub mod Told
+pub mod Written
