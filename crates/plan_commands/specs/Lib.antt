@@ -1,0 +1,9 @@
+pub mod Faults
+pub mod Commands
+pub mod Bounds
+pub mod Books
+pub mod Columns
+pub mod Goals
+pub mod Plans
+pub mod Reports
+pub mod Telling

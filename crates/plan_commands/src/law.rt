@@ -1,0 +1,25 @@
+//! What reports without rules are, and what requests and the program's words have in common.
+ghost use Rattle.std.specs.Prelude.{◌≡◌, ℕ, List, false, Ok, IfOk};
+ghost use Rattle.book.specs.declared.item.Book.{Book};
+ghost use Rattle.book.specs.declared.item.Placed.{Placed};
+ghost use Rattle.report_options.specs.Programs.{unnamed};
+ghost use Rattle.report_commands.specs.Reports as plain;
+ghost use Rattle.report_commands.specs.declared.asked.Asked.{Asked};
+ghost use Rattle.plan_commands.specs.Commands.{asked_of, given_of};
+ghost use Rattle.plan_commands.specs.Faults.{widened};
+ghost use Rattle.plan_commands.specs.Reports.{answer_over, asks_rules};
+
+/// Where neither entries of rules nor a budget are asked for, a report is that of `report_commands`.
+#[tactic(auto, using(crate::proofs::Plain::plain_reports))]
+pub fn plain_reports()
+    ensures { (asked : Asked) (day : ℕ) (items : List Placed) (book : Book) → asks_rules asked.options ≡ false
+        → answer_over asked day items book ≡ widened (plain.answer_over asked day items book) }
+{}
+
+/// What words ask for in a request they ask for behind the program's name too, over a journal that they don't name: so a
+/// reply to a request that reads is what a run with its words writes.
+#[tactic(auto, using(crate::proofs::Requests::request_runs))]
+pub fn request_runs()
+    ensures { (day : ℕ) (words : List (List ℕ))
+        → IfOk (asked_of day words) (λ asked. given_of day words ≡ Ok (unnamed, asked)) }
+{}
