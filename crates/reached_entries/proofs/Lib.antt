@@ -1,0 +1,4 @@
+pub mod Blanks
+pub mod Parts
+pub mod Quiet
+pub mod Stays
