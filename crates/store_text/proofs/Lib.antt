@@ -1,0 +1,3 @@
+pub mod LendingLaws
+pub mod OpeningLaws
+pub mod ReadingLaws
