@@ -1,0 +1,63 @@
+//! The exit statuses of refusals, and the lines that say why.
+ghost use Rattle.std.specs.Prelude.{◌≡◌, IfOk};
+ghost use Rattle.store_making.specs.Lines as spec;
+
+use crate::refusal::JournalRefusal;
+use book::{Cause, print_fault};
+use hl_base::{Bytes, Memory, Text};
+use std::alloc::Global;
+use std::string::ToString;
+use store_text::{refusal_line, refusal_status};
+
+/// A count past its limit.
+fn limit_line(alloc: Global, count: u64, limit: u64) -> Result<Bytes, Memory>
+    ensures { IfOk result (λ line. line ≡ spec.limit_line count limit) }
+{
+    let mut line = String::from_str(alloc, "error: limit: ")?;
+    line.push_str(count.to_string(alloc)?.as_str())?;
+    line.push_str(" of ")?;
+    line.push_str(limit.to_string(alloc)?.as_str())?;
+    line.push_str("\n")?;
+    Ok(Bytes::from_vec(line.into_bytes()))
+}
+
+fn memory_line(alloc: Global) -> Result<Bytes, Memory>
+    ensures { IfOk result (λ line. line ≡ spec.memory_line) }
+{
+    Ok(Bytes::copied(alloc, b"error: memory\n")?)
+}
+
+/// The line that says why a store of this name isn't made or opened.
+pub fn journal_line(alloc: Global, name: &Text, refusal: &JournalRefusal) -> Result<Bytes, Memory>
+    ensures { IfOk result (λ line. line ≡ spec.line_of name.now refusal.now) }
+{
+    match refusal {
+        JournalRefusal::Store(refusal) => refusal_line(alloc, name, *refusal),
+        JournalRefusal::Load(fault) => print_fault(alloc, fault),
+        JournalRefusal::TooLarge { limit, size } => limit_line(alloc, *size, *limit),
+        JournalRefusal::Memory => memory_line(alloc),
+    }
+}
+
+/// The exit status of a text with a fault: 7 where an entry is too long, else 1.
+fn cause_status(cause: &Cause) -> u8
+    ensures { result ≡ spec.cause_status cause.now }
+{
+    match cause {
+        Cause::TooLong => 7,
+        _ => 1,
+    }
+}
+
+/// The exit status of such a refusal: that of the store, 1 where the text has a fault, 7 where it or an entry of it is past a
+/// limit, and 6 where memory ran out.
+pub fn journal_status(refusal: &JournalRefusal) -> u8
+    ensures { result ≡ spec.status_of refusal.now }
+{
+    match refusal {
+        JournalRefusal::Store(refusal) => refusal_status(*refusal),
+        JournalRefusal::Load(fault) => cause_status(&fault.cause),
+        JournalRefusal::TooLarge { .. } => 7,
+        JournalRefusal::Memory => 6,
+    }
+}
