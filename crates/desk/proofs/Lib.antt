@@ -1,10 +1,18 @@
+mod Again
+mod Complete
+mod Converted
 mod Done
+mod Edited
+mod Imported
 mod Keeping
+mod Named
 mod Opened
 pub mod Quiet
 mod Refused
 mod Reported
 mod Rooms
 pub mod Runs
+mod SameFinds
 mod Served
 pub mod Still
+mod Texts

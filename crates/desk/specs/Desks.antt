@@ -1,15 +1,15 @@
 -- What a contract sees of the machine, and of what it serves.
 use Rattle.std.specs.Prelude.{◌≡◌, ℕ, List, [], ◌∷◌, Option}
 use Rattle.hl_base.specs.declared.disk.Disk.{Ghosts}
-use Rattle.live_journal.specs.declared.edit.Edit.{Edit}
 use Rattle.text_store.specs.declared.image.Image.{Image}
 use Rattle.text_store.specs.Stores.{disks, fault_count, size_of, limit_of, Tell, Throughout, Keeps, NoWider, bounds}
+use Rattle.desk.specs.declared.deed.Deed.{Deed}
 use Rattle.desk.specs.declared.desk.Desk.{Desk}
 use Rattle.desk.specs.declared.reply.Reply.{Reply}
 use Rattle.desk.specs.Entries.{Entry}
 use Rattle.desk.specs.Stands.{IsPending, ShowsOne, Stands}
-use Rattle.desk.specs.States.{State, Answer, answer_to, image_of}
-use Rattle.desk.specs.Steps.{Gives, counted, edit_in, next_of}
+use Rattle.desk.specs.States.{State, Answer, answer_to, deed_in, image_of}
+use Rattle.desk.specs.Steps.{Gives, counted, next_of}
 
 -- the state that a machine stands for
 abbrev pub state_of : {D : Type 0} {g : Ghosts D} → Desk D g → State
@@ -36,8 +36,8 @@ counts_of desk = (desk.requests, desk.refused)
 -- A machine serves a request, which may be an edit, by an answer: the reply and the state after it are as the answer says; the
 -- disks show the state after it, and at most one further edit, refused for a disk fault since the last acknowledged one; and a
 -- crash at any moment between leaves the state before, such an edit, or this one where it stands.
-pub record Serves {D : Type 0} {g : Ghosts D} (answer : Answer) (e : Option Edit) (old : Desk D g) (r : Reply) (new : Desk D g) : Type 0 where
-  pub gives : Gives answer e (state_of old) (faults_of old) r (state_of new) (faults_of new)
+pub record Serves {D : Type 0} {g : Ghosts D} (answer : Answer) (d : Option Deed) (old : Desk D g) (r : Reply) (new : Desk D g) : Type 0 where
+  pub gives : Gives answer d (state_of old) (faults_of old) r (state_of new) (faults_of new)
   pub stands : (pending : Option Image) → Stands old.store (shown_by old) pending
       → (after : Option Image) × IsPending pending (next_of answer) r after × Stands new.store (shown_by new) after
   pub crash : (pending : Option Image) → Stands old.store (shown_by old) pending → Tell g (disks old.store)
@@ -47,7 +47,7 @@ pub record Serves {D : Type 0} {g : Ghosts D} (answer : Answer) (e : Option Edit
 
 -- One request and its reply: a step of the machine, which counts it, with the revision after it.
 pub record IsServed {D : Type 0} {g : Ghosts D} (old : Desk D g) (entry : Entry) (new : Desk D g) : Type 0 where
-  pub serves : Serves (answer_to (state_of old) entry.day.0 entry.request) (edit_in entry.request) old entry.reply new
+  pub serves : Serves (answer_to (state_of old) entry.day.0 entry.request) (deed_in (state_of old) entry.request) old entry.reply new
   pub counts : counts_of new ≡ counted (counts_of old) entry.reply
   pub revision : entry.revision ≡ new.live.revision
 

@@ -1,5 +1,8 @@
 pub mod Desks
 pub mod Entries
+pub mod Files
+pub mod Histories
+pub mod Imports
 pub mod Keeping
 pub mod Openings
 pub mod Reports

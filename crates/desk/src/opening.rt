@@ -1,4 +1,6 @@
 //! How a machine is made, and how it is opened.
+ghost use Rattle.std.specs.Prelude.{◌≡◌};
+ghost use Rattle.desk.specs.Openings.{load_refusal, store_refusal};
 
 use crate::desk::Desk;
 use crate::fault::DeskFault;
@@ -9,6 +11,31 @@ use std::alloc::Global;
 use std::sync::ledger::Ledger;
 use text_store::{Store, StoreFault};
 
+/// Why a text makes no machine.
+fn load_refusal(fault: OpenFault) -> DeskFault
+    ensures { result ≡ load_refusal fault }
+{
+    match fault {
+        OpenFault::Memory => DeskFault::Memory,
+        OpenFault::Load(fault) => DeskFault::Load(OpenFault::Load(fault)),
+        OpenFault::TooLarge { limit, size } => DeskFault::Load(OpenFault::TooLarge { limit, size }),
+    }
+}
+
+/// Why a store makes no machine.
+fn store_refusal(fault: StoreFault) -> DeskFault
+    ensures { result ≡ store_refusal fault }
+{
+    match fault {
+        StoreFault::Memory => DeskFault::Memory,
+        StoreFault::DiskFault => DeskFault::Store(StoreFault::DiskFault),
+        StoreFault::NotAStore { at } => DeskFault::Store(StoreFault::NotAStore { at }),
+        StoreFault::Newer { version } => DeskFault::Store(StoreFault::Newer { version }),
+        StoreFault::Full { size, limit } => DeskFault::Store(StoreFault::Full { size, limit }),
+        StoreFault::Exists { len } => DeskFault::Store(StoreFault::Exists { len }),
+    }
+}
+
 impl<D: Disk> Desk<D> {
     ghost use Rattle.std.specs.Prelude.{◌≡◌, [], None, Ok, IfOk, IfErr, OnOk, max, length};
     ghost use Rattle.text_store.specs.Files.{fresh, WhileMade, WhileOpened, opened_limit};
@@ -17,7 +44,7 @@ impl<D: Disk> Desk<D> {
     ghost use Rattle.text_store.specs.Refusals.{Told};
     ghost use Rattle.text_store.specs.Stores.{disks, Keeps, Tell, Throughout, bounds, fault_count};
     ghost use Rattle.desk.specs.Desks.{counts_of, shown_by, state_of};
-    ghost use Rattle.desk.specs.Openings.{MakingRefused, OpeningRefused, disks_of};
+    ghost use Rattle.desk.specs.Openings.{MakingRefused, OpeningRefused, disks_of, file_in_use};
     ghost use Rattle.desk.specs.Stands.{Stands};
     ghost use Rattle.desk.specs.States.{State};
 
@@ -44,8 +71,7 @@ impl<D: Disk> Desk<D> {
     {
         let live = match Live::open(alloc, text, None, 0, steps) {
             Ok(live) => live,
-            Err(OpenFault::Memory) => return Err((first, second, DeskFault::Memory)),
-            Err(fault) => return Err((first, second, DeskFault::Load(fault))),
+            Err(fault) => return Err((first, second, load_refusal(fault))),
         };
         match Store::create(alloc, first, second, text, limit) {
             Ok(store) => Ok(Desk {
@@ -56,8 +82,7 @@ impl<D: Disk> Desk<D> {
                 requests: 0,
                 refused: 0,
             }),
-            Err((first, second, StoreFault::Memory)) => Err((first, second, DeskFault::Memory)),
-            Err((first, second, fault)) => Err((first, second, DeskFault::Store(fault))),
+            Err((first, second, fault)) => Err((first, second, store_refusal(fault))),
         }
     }
 
@@ -73,6 +98,10 @@ impl<D: Disk> Desk<D> {
         ensures opened { IfOk result (λ desk. Told D.Disk (first, second) (λ f s. (image f s ≡ Ok (shown_by desk)) × Stands desk.store (shown_by desk) None
             × ((state_of desk).limit ≡ opened_limit f s))) }
         ensures allowed { IfOk result (λ desk. (state_of desk).allowed ≡ allow) }
+
+        // Its size is the length that the half in use has then.
+        ensures size { IfOk result (λ desk. Told D.Disk (first, second) (λ _ _. Told D.Disk (disks desk.store) (λ f s.
+            (state_of desk).size ≡ length (file_in_use f s)))) }
         ensures counts { IfOk result (λ desk. counts_of desk ≡ (0, 0)) }
         ensures cause { IfErr result (λ e. OpeningRefused D.Disk (first, second) (e.0, e.1) e.2) }
 
@@ -85,12 +114,7 @@ impl<D: Disk> Desk<D> {
     {
         let (store, image) = match Store::open(alloc, first, second) {
             Ok(opened) => opened,
-            Err((first, second, StoreFault::Memory)) => return Err((
-                first,
-                second,
-                DeskFault::Memory,
-            )),
-            Err((first, second, fault)) => return Err((first, second, DeskFault::Store(fault))),
+            Err((first, second, fault)) => return Err((first, second, store_refusal(fault))),
         };
         match Live::open(alloc, image.text.as_slice(), None, image.revision, steps) {
             Ok(live) => Ok(Desk {
@@ -101,13 +125,9 @@ impl<D: Disk> Desk<D> {
                 requests: 0,
                 refused: 0,
             }),
-            Err(OpenFault::Memory) => {
-                let (first, second) = store.close();
-                Err((first, second, DeskFault::Memory))
-            }
             Err(fault) => {
                 let (first, second) = store.close();
-                Err((first, second, DeskFault::Load(fault)))
+                Err((first, second, load_refusal(fault)))
             }
         }
     }

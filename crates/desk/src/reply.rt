@@ -1,10 +1,11 @@
 //! What the machine replies.
+use crate::csv_fault::CsvFault;
 use crate::request::Allow;
 use book::Fault;
 use hl_base::Bytes;
-use report_commands::WordsFault;
+use plan_commands::PlanFault;
 
-/// What the machine replies. The reply to a faulty import comes with the import.
+/// What the machine replies.
 #[derive(Debug, Drop)]
 pub enum Reply {
     /// The edit stands, and made this revision.
@@ -30,9 +31,12 @@ pub enum Reply {
     TooLarge { limit: u64, size: u64 },
     /// A call of the disks failed; their count of faults before and after.
     DiskFault { before: u64, after: u64 },
-    /// The words of a report have no reading.
-    Words(WordsFault),
-    /// The store has no room for the edit.
+    /// Why a report isn't made: its words have no reading, or the rules of the text make no book.
+    Words(PlanFault),
+    /// The file of an import becomes no entries.
+    Csv(CsvFault),
+    /// The store has no room for the edit, the revision has come to its end, or an import's name or the states of imports
+    /// have.
     Full { size: u64, limit: u64 },
     /// Memory ran out.
     Memory,

@@ -2,18 +2,23 @@
 ghost use Rattle.hl_time.specs.Calendar.{IsDay};
 ghost use Rattle.std.specs.Prelude.{◌≡◌};
 ghost use Rattle.desk.specs.Reports.{Reports};
+ghost use Rattle.desk.specs.States as state;
 
+use crate::reply::Reply;
+use generated::GenFault;
 use hl_base::{Bytes, Steps, Text};
 use hl_time::Day;
 use live_journal::Live;
+use plan_commands::{PlanFault, read_report, report};
 use query::Maker;
-use report_commands::{Loaded, WordsFault, read_report, report};
+use report_commands::{Loaded, WordsFault};
 use std::alloc::Global;
 use std::sync::ledger::Ledger;
 
 /// The output of a report over a journal's text, on a day, by the patterns that a maker builds: the first word is the
 /// command, and those after it are its options and its query. Of several causes why there is none the first in the
-/// order of `WordsFault` is told.
+/// order of `PlanFault` is told: what is wrong with the words, then why the rules of the text make no book, and then what is
+/// wrong with the report.
 pub fn report_text<M: Maker, L: Ledger>(
     alloc: Global,
     live: &Live,
@@ -21,14 +26,17 @@ pub fn report_text<M: Maker, L: Ledger>(
     day: Day,
     maker: &mut M,
     steps: &mut Steps<L>,
-) -> Result<Bytes, WordsFault>
+) -> Result<Bytes, PlanFault>
     requires { IsDay day.0 }
     ensures value { Reports day.0 live.now.year live.now.text words.now
         (M.refusals maker.old) (M.refusals maker.new)
         (M.last_refused maker.old) (M.last_refused maker.new) result }
     ensures steps { steps.new ≡ steps.old }
 {
-    let asked = read_report(alloc, words, day)?;
+    let asked = match read_report(alloc, words, day) {
+        Ok(asked) => asked,
+        Err(fault) => return Err(PlanFault::Words(fault)),
+    };
     let loaded = Loaded {
         items: live.items(),
         book: live.book(),
@@ -36,4 +44,44 @@ pub fn report_text<M: Maker, L: Ledger>(
         day,
     };
     report(alloc, &asked, &loaded, maker)
+}
+
+/// The reply to a report whose words aren't one.
+fn words_reply(fault: WordsFault) -> Reply
+    ensures { result ≡ state.words_reply fault }
+{
+    match fault {
+        WordsFault::Memory => Reply::Memory,
+        fault => Reply::Words(PlanFault::Words(fault)),
+    }
+}
+
+/// The reply to a report whose rules make no book.
+fn generated_reply(fault: GenFault) -> Reply
+    ensures { result ≡ state.generated_reply fault }
+{
+    match fault {
+        GenFault::Memory => Reply::Memory,
+        fault => Reply::Words(PlanFault::Generated(fault)),
+    }
+}
+
+/// The reply to a report that isn't made.
+fn plan_reply(fault: PlanFault) -> Reply
+    ensures { result ≡ state.plan_reply fault }
+{
+    match fault {
+        PlanFault::Words(fault) => words_reply(fault),
+        PlanFault::Generated(fault) => generated_reply(fault),
+    }
+}
+
+/// The reply to a report that came out so, at a revision.
+pub(crate) fn report_reply(revision: u64, made: Result<Bytes, PlanFault>) -> Reply
+    ensures { result ≡ state.made_reply revision made }
+{
+    match made {
+        Ok(bytes) => Reply::Text { revision, bytes },
+        Err(fault) => plan_reply(fault),
+    }
 }

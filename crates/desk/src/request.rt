@@ -12,18 +12,36 @@ pub enum Allow {
     Edit,
 }
 
-/// What is asked of the machine. An import of CSV isn't built yet.
+/// What is asked of the machine.
 #[derive(Debug, Drop)]
 pub enum Request {
     /// The text of a report: its command and the words after it.
-    Report { words: List<Text> },
+    Report {
+        words: List<Text>,
+    },
     /// The text of the journal.
     Download,
     /// An entry at the end of the journal.
-    Add { entry: Bytes },
+    Add {
+        entry: Bytes,
+    },
     /// An entry in the place of the item of that number, counted from 1; an empty one deletes it. The base is the
     /// revision that the sender saw.
-    Change { base: u64, item: u64, entry: Bytes },
+    Change {
+        base: u64,
+        item: u64,
+        entry: Bytes,
+    },
     /// Another text in the place of the journal's.
-    Replace { base: u64, text: Bytes },
+    Replace {
+        base: u64,
+        text: Bytes,
+    },
+    /// The entries that a file becomes by rules, those that are new, behind the journal's. What was taken of the file is
+    /// remembered under the name.
+    Import {
+        name: Text,
+        rules: Bytes,
+        csv: Bytes,
+    },
 }

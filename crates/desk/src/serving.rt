@@ -1,43 +1,51 @@
 //! How a machine answers requests.
-ghost use Rattle.std.specs.Prelude.{◌≡◌, ◌+◌, IfOk, nat_lt};
+ghost use Rattle.std.specs.Prelude.{◌≡◌, ◌+◌, ◌∷◌, [], IfOk, nat_lt};
+ghost use Rattle.live_journal.specs.Loading.{first_of};
 ghost use Rattle.live_journal.specs.declared.edit.Edit.TheVariants as live_edits;
 ghost use Rattle.desk.specs.States as state;
 ghost use Rattle.desk.specs.Steps as spec;
 
+use crate::deed::Deed;
 use crate::desk::Desk;
+use crate::importing::{entries_of, import_deed};
 use crate::keep::{Unkept, is_due, keep};
 use crate::reply::Reply;
-use crate::report::report_text;
+use crate::report::{report_reply, report_text};
 use crate::request::{Allow, Request};
 use crate::sizes::{change_of, record_size, whole_size};
-use hl_base::{Bytes, Disk, Memory, Steps, Text};
+use crate::states::states_with;
+use book::Txn;
+use hl_base::{Bytes, Disk, Latest, List, Memory, Steps, Text};
 use hl_time::Day;
 use live_journal::{Edit, EditFault, Plan};
 use query::Maker;
-use report_commands::WordsFault;
 use std::alloc::Global;
 use std::sync::ledger::Ledger;
 use text_store::Change;
 
 impl<D: Disk> Desk<D> {
-    ghost use Rattle.std.specs.Prelude.{◌≡◌, ◌⊎◌, ◌+◌, ◌^◌, ◌<◌, ◌≤◌, ◌∷◌, [], Some, None, false, IfOk, length};
-    ghost use Rattle.text_store.specs.Stores.{limit_of, size_of};
+    ghost use Rattle.std.specs.Prelude.{◌≡◌, ◌⊎◌, ◌+◌, ◌-◌, ◌^◌, ◌<◌, ◌≤◌, ℕ, Some, None, true, false, IfOk, IfSome, length, min};
+    ghost use Rattle.std.specs.Option.{unwrap_or};
+    ghost use Rattle.csv_rules.specs.Importing.{is_ordered};
     ghost use Rattle.live_journal.specs.declared.edit.Edit.{Edit as LiveEdit};
-    ghost use Rattle.live_journal.specs.Edits as edits;
     ghost use Rattle.live_journal.specs.Loading.{first_of};
     ghost use Rattle.live_journal.specs.Refusals.{planned};
-    ghost use Rattle.desk.specs.Desks.{IsServed, Serves, counts_of, state_of};
-    ghost use Rattle.desk.specs.Keeping.{room_size};
+    ghost use Rattle.desk.specs.Desks.{IsServed, Serves, counts_of, faults_of, state_of};
+    ghost use Rattle.desk.specs.declared.request.Request.{Request as Asked};
+    ghost use Rattle.desk.specs.Imports.{entries_of as entries_told, new_deed};
+    ghost use Rattle.desk.specs.Keeping.{are_writable};
     ghost use Rattle.hl_time.specs.Calendar.{IsDay};
     ghost use Rattle.desk.specs.States.{Replies};
-    ghost use Rattle.desk.specs.Steps.{TellsReply, counted};
+    ghost use Rattle.desk.specs.Steps.{Completes, TellsReply, counted};
 
     /// Answers a request that comes on a day, with the patterns of its words built by the maker. It is one step of the
     /// machine. An edit is refused by the first of these that holds: it isn't allowed; its base is above or below the
-    /// revision; no item has its number; it isn't one of transactions; the new text has too many bytes or items; the
-    /// new text has a fault; the text stays the same; the store has no room, or the revision has come to its end. Else
-    /// it is put into the store, and stands. After want of memory, a disk fault and a refused pattern the journal is as
-    /// it was.
+    /// revision; no item has its number; it isn't one of transactions; the file of an import becomes no entries; the new
+    /// text has too many bytes or items; the new text has a fault; the text stays the same; the store has no room, or the
+    /// revision, an import's name or the number of the states of imports has come to its end. Else it is put into the
+    /// store, and stands. After want of memory, a disk fault and a refused pattern the journal is as it was. The entries
+    /// of an import are put in as one addition, and its state is kept in the same record. An import of 2^32 entries or
+    /// more is answered as want of memory.
     pub fn request<M: Maker, L: Ledger>(
         &mut self,
         alloc: Global,
@@ -47,9 +55,13 @@ impl<D: Disk> Desk<D> {
         steps: &mut Steps<L>,
     ) -> Reply
         requires { IsDay day.0 }
-        ensures maker { TellsReply day.0 (M.refusals maker.old) (M.refusals maker.new)
+        ensures maker { TellsReply request.now day.0 (M.refusals maker.old) (M.refusals maker.new)
             (M.last_refused maker.old) (M.last_refused maker.new) result }
         ensures served { IsServed self.old (record { request = request.now; day = day; reply = result; revision = self.new.live.revision }) self.new }
+
+        // Where no call of a disk failed and no pattern was refused, the reply is the step's own, or memory ran out.
+        ensures complete { Completes (state.answer_to (state_of self.old) day.0 request.now) (faults_of self.old) (faults_of self.new)
+            (M.refusals maker.old) (M.refusals maker.new) result }
     {
         let reply = self.answer(alloc, request, day, maker, steps);
         self.count(&reply);
@@ -79,9 +91,9 @@ impl<D: Disk> Desk<D> {
         steps: &mut Steps<L>,
     ) -> Reply
         requires { IsDay day.0 }
-        ensures maker { TellsReply day.0 (M.refusals maker.old) (M.refusals maker.new)
+        ensures maker { TellsReply request.now day.0 (M.refusals maker.old) (M.refusals maker.new)
             (M.last_refused maker.old) (M.last_refused maker.new) result }
-        ensures served { Serves (state.answer_to (state_of self.old) day.0 request.now) (spec.edit_in request.now) self.old result self.new }
+        ensures served { Serves (state.answer_to (state_of self.old) day.0 request.now) (state.deed_in (state_of self.old) request.now) self.old result self.new }
         ensures counts { counts_of self.new ≡ counts_of self.old }
     {
         match request {
@@ -99,6 +111,14 @@ impl<D: Disk> Desk<D> {
             Request::Replace { base, text } => {
                 self.edit(alloc, Allow::Edit, replace(alloc, *base, text), steps)
             }
+            Request::Import { name, rules, csv } => self.import(
+                alloc,
+                name,
+                rules.as_slice(),
+                csv.as_slice(),
+                maker,
+                steps,
+            ),
         }
     }
 
@@ -112,7 +132,7 @@ impl<D: Disk> Desk<D> {
         steps: &mut Steps<L>,
     ) -> Reply
         requires { IsDay day.0 }
-        ensures maker { TellsReply day.0 (M.refusals maker.old) (M.refusals maker.new)
+        ensures maker { (q : Asked) → TellsReply q day.0 (M.refusals maker.old) (M.refusals maker.new)
             (M.last_refused maker.old) (M.last_refused maker.new) result }
         ensures reply { Replies self.now.live.revision day.0 self.now.live.text words.now result }
     {
@@ -133,6 +153,76 @@ impl<D: Disk> Desk<D> {
         }
     }
 
+    /// Answers an import of a file by rules, whose state is remembered under a name.
+    fn import<M: Maker, L: Ledger>(
+        &mut self,
+        alloc: Global,
+        name: &Text,
+        rules: &[u8],
+        csv: &[u8],
+        maker: &mut M,
+        steps: &mut Steps<L>,
+    ) -> Reply
+        ensures maker { (day : ℕ) → TellsReply (Request.Import name.now rules.now csv.now) day (M.refusals maker.old) (M.refusals maker.new)
+            (M.last_refused maker.old) (M.last_refused maker.new) result }
+        ensures served { Serves (state.import_answer (state_of self.old) name.now rules.now csv.now)
+            (state.deed_of_file (state_of self.old) name.now (entries_told rules.now csv.now)) self.old result self.new }
+        ensures counts { counts_of self.new ≡ counts_of self.old }
+    {
+        if !covers(self.allow, Allow::Add) {
+            let have = self.allow;
+            return Reply::Forbidden {
+                need: Allow::Add,
+                have,
+            };
+        }
+        match entries_of(alloc, rules, csv, maker) {
+            Ok(txns) => self.import_entries(alloc, name, txns, steps),
+            Err(reply) => reply,
+        }
+    }
+
+    /// Answers an import of some entries.
+    fn import_entries<L: Ledger>(
+        &mut self,
+        alloc: Global,
+        name: &Text,
+        txns: List<Txn>,
+        steps: &mut Steps<L>,
+    ) -> Reply
+        requires { is_ordered txns ≡ true }
+        ensures served { let s = state_of self.old in
+            Serves (state.deed_answer s (new_deed s.text s.latest name.now txns)) (new_deed s.text s.latest name.now txns) self.old result self.new }
+        ensures counts { counts_of self.new ≡ counts_of self.old }
+    {
+        if txns.len() as u64 >= 1 << 32 {
+            return Reply::Memory;
+        }
+        match import_deed(alloc, &self.live, self.latest.as_slice(), name, txns) {
+            Ok(deed) => self.put_deed(alloc, deed, steps),
+            Err(Memory) => Reply::Memory,
+        }
+    }
+
+    /// Puts in what an import is, unless none of its entries is new.
+    fn put_deed<L: Ledger>(
+        &mut self,
+        alloc: Global,
+        deed: Option<Deed>,
+        steps: &mut Steps<L>,
+    ) -> Reply
+        ensures served { Serves (state.deed_answer (state_of self.old) deed) deed self.old result self.new }
+        ensures counts { counts_of self.new ≡ counts_of self.old }
+    {
+        match deed {
+            Some(deed) => self.judge(alloc, Allow::Add, &deed, steps),
+            None => {
+                let revision = self.live.revision();
+                Reply::Same { revision }
+            }
+        }
+    }
+
     /// Answers an edit that needs so much; want of memory, where there was none for the edit.
     fn edit<L: Ledger>(
         &mut self,
@@ -141,11 +231,15 @@ impl<D: Disk> Desk<D> {
         edit: Result<Edit, Memory>,
         steps: &mut Steps<L>,
     ) -> Reply
-        ensures served { (e : LiveEdit) → IfOk edit (λ given. given ≡ e) → Serves (state.edit_answer (state_of self.old) need e) (Some e) self.old result self.new }
+        ensures served { (e : LiveEdit) → IfOk edit (λ given. given ≡ e)
+            → Serves (state.edit_answer (state_of self.old) need (state.plain e)) (Some (state.plain e)) self.old result self.new }
         ensures counts { counts_of self.new ≡ counts_of self.old }
     {
         match edit {
-            Ok(edit) => self.judge(alloc, need, &edit, steps),
+            Ok(edit) => {
+                let deed = Deed { edit, mark: None };
+                self.judge(alloc, need, &deed, steps)
+            }
             Err(Memory) => Reply::Memory,
         }
     }
@@ -155,56 +249,59 @@ impl<D: Disk> Desk<D> {
         &mut self,
         alloc: Global,
         need: Allow,
-        edit: &Edit,
+        deed: &Deed,
         steps: &mut Steps<L>,
     ) -> Reply
-        ensures served { Serves (state.edit_answer (state_of self.old) need edit.now) (Some edit.now) self.old result self.new }
+        ensures served { Serves (state.edit_answer (state_of self.old) need deed.now) (Some deed.now) self.old result self.new }
         ensures counts { counts_of self.new ≡ counts_of self.old }
     {
         if !covers(self.allow, need) {
             let have = self.allow;
             return Reply::Forbidden { need, have };
         }
-        match self.live.prepare(edit, steps) {
-            Ok(plan) => self.put_plan(alloc, edit, plan),
+        match self.live.prepare(&deed.edit, steps) {
+            Ok(plan) => self.put_plan(alloc, deed, plan),
             Err(fault) => refusal(fault),
         }
     }
 
     /// Puts in an edit that was planned, unless it changes nothing or the store has no room for it.
-    fn put_plan(&mut self, alloc: Global, edit: &Edit, plan: Plan) -> Reply
-        requires plan { plan ≡ planned self.old.live edit.now }
+    fn put_plan(&mut self, alloc: Global, deed: &Deed, plan: Plan) -> Reply
+        requires plan { plan ≡ planned self.old.live deed.now.edit }
         requires inside { plan.splice.at + plan.splice.removed ≤ length self.old.live.text }
-        requires few { length plan.text ≤ 16777216 }
         ensures served { let s = state_of self.old in
-            Serves (state.or_done s edit.now (first_of (state.unchanged (edits.applied s.text edit.now) s.text s.revision
-            ∷ state.no_room s (state.record_size (state.change_of s.text edit.now)) ∷ state.last_revision s.revision ∷ [])))
-            (Some edit.now) self.old result self.new }
+            Serves (state.or_done s deed.now (first_of (state.cases_left s deed.now))) (Some deed.now) self.old result self.new }
         ensures counts { counts_of self.new ≡ counts_of self.old }
     {
+        let _limit = self.store.limit();
         let revision = self.live.revision();
         if plan.same() {
             return Reply::Same { revision };
         }
-        let change = match change_of(alloc, edit, plan.splice()) {
+        let change = match change_of(alloc, deed, plan.splice()) {
             Ok(change) => change,
             Err(Memory) => return Reply::Memory,
         };
+        let states = match states_with(alloc, &self.latest, &deed.mark) {
+            Ok(states) => states,
+            Err(Memory) => return Reply::Memory,
+        };
         let size = record_size(&change);
-        match self.full(size) {
+        match self.full(size, &deed.mark, &states) {
             Some(reply) => reply,
-            None => self.keep_plan(alloc, edit, &change, size, plan),
+            None => self.keep_plan(alloc, deed, &change, states, plan),
         }
     }
 
-    /// The refusal of an edit whose record has so many bytes, where there is no room for it.
-    fn full(&self, size: u64) -> Option<Reply>
+    /// The refusal of an edit whose record has so many bytes, where there is no room for it, or a number has come to its
+    /// end.
+    fn full(&self, size: u64, mark: &Option<Latest>, states: &Option<List<Latest>>) -> Option<Reply>
         requires { 0 < size }
-        ensures { result ≡ first_of (state.no_room (state_of self.now) size ∷ state.last_revision self.now.live.revision ∷ []) }
+        ensures { result ≡ first_of (state.full_cases (state_of self.now) mark.now states.now size) }
     {
         match self.no_room(size) {
             Some(reply) => Some(reply),
-            None => last_revision(self.live.revision()),
+            None => at_an_end(self.live.revision(), mark, states),
         }
     }
 
@@ -230,22 +327,23 @@ impl<D: Disk> Desk<D> {
     fn keep_plan(
         &mut self,
         alloc: Global,
-        edit: &Edit,
+        deed: &Deed,
         change: &Change,
-        size: u64,
+        states: Option<List<Latest>>,
         plan: Plan,
     ) -> Reply
-        requires plan { plan ≡ planned self.old.live edit.now }
+        requires plan { plan ≡ planned self.old.live deed.now.edit }
         requires differs { plan.same ≡ false }
         requires inside { plan.splice.at + plan.splice.removed ≤ length self.old.live.text }
-        requires change { change.now ≡ state.change_of self.old.live.text edit.now }
-        requires size { size ≡ state.record_size change.now }
-        requires revision { self.old.live.revision < 2 ^ 62 }
-        requires room { state.size_before (state_of self.old) size + size ≤ limit_of self.old.store }
-        ensures served { Serves (state.or_done (state_of self.old) edit.now None) (Some edit.now) self.old result self.new }
+        requires change { change.now ≡ state.change_of self.old.live.text deed.now }
+        requires states { states ≡ state.states_with deed.now.mark self.old.latest }
+        requires room { first_of (state.full_cases (state_of self.old) deed.now.mark states (min (state.record_size change.now) (2 ^ 64 - 1))) ≡ None }
+        ensures served { Serves (state.or_done (state_of self.old) deed.now None) (Some deed.now) self.old result self.new }
         ensures counts { counts_of self.new ≡ counts_of self.old }
     {
-        let _ = edit;
+        let _ = deed;
+        let _limit = self.store.limit();
+        let size = record_size(change);
         let before = self.store.faults();
         match keep(
             &mut self.store,
@@ -257,6 +355,7 @@ impl<D: Disk> Desk<D> {
         ) {
             Ok(()) => {
                 self.live.put(plan);
+                self.put_states(states);
                 let revision = self.live.revision();
                 Reply::Done { revision }
             }
@@ -267,16 +366,72 @@ impl<D: Disk> Desk<D> {
             }
         }
     }
+
+    /// Takes the states of imports as they are after one, if it was one.
+    fn put_states(&mut self, states: Option<List<Latest>>)
+        requires { IfSome states (λ made. are_writable made ≡ true) }
+        ensures latest { self.new.latest ≡ unwrap_or states self.old.latest }
+        ensures store { self.new.store ≡ self.old.store }
+        ensures live { self.new.live ≡ self.old.live }
+        ensures allowed { self.new.allow ≡ self.old.allow }
+        ensures counts { counts_of self.new ≡ counts_of self.old }
+    {
+        if let Some(made) = states {
+            self.latest = made;
+        }
+    }
 }
 
-/// The reply to a report that came out so, at a revision.
-fn report_reply(revision: u64, made: Result<Bytes, WordsFault>) -> Reply
-    ensures { result ≡ state.made_reply revision made }
+/// The refusal of a number that is past its end.
+fn past_end(n: u64) -> Option<Reply>
+    ensures { result ≡ state.past_end n }
 {
-    match made {
-        Ok(bytes) => Reply::Text { revision, bytes },
-        Err(WordsFault::Memory) => Reply::Memory,
-        Err(fault) => Reply::Words(fault),
+    if n < 1 << 32 {
+        return None;
+    }
+    Some(Reply::Full {
+        size: n,
+        limit: (1 << 32) - 1,
+    })
+}
+
+/// The refusal of an import whose name is too long.
+fn long_name(mark: &Option<Latest>) -> Option<Reply>
+    ensures { result ≡ state.long_name mark.now }
+{
+    match mark {
+        None => None,
+        Some(mark) => past_end(mark.name.as_bytes().len() as u64),
+    }
+}
+
+/// The refusal of an import that would make too many states.
+fn many_states(states: &Option<List<Latest>>) -> Option<Reply>
+    ensures { result ≡ state.many_states states.now }
+{
+    match states {
+        None => None,
+        Some(states) => past_end(states.len() as u64),
+    }
+}
+
+/// The refusal of an import of which a number has come to its end.
+fn past_ends(mark: &Option<Latest>, states: &Option<List<Latest>>) -> Option<Reply>
+    ensures { result ≡ first_of (state.long_name mark.now ∷ state.many_states states.now ∷ []) }
+{
+    match long_name(mark) {
+        Some(reply) => Some(reply),
+        None => many_states(states),
+    }
+}
+
+/// The refusal of an edit at a revision, of which a number has come to its end.
+fn at_an_end(revision: u64, mark: &Option<Latest>, states: &Option<List<Latest>>) -> Option<Reply>
+    ensures { result ≡ first_of (state.last_revision revision ∷ state.long_name mark.now ∷ state.many_states states.now ∷ []) }
+{
+    match last_revision(revision) {
+        Some(reply) => Some(reply),
+        None => past_ends(mark, states),
     }
 }
 

@@ -1,10 +1,11 @@
 //! The changes of the store that edits are, and the room that they need.
 ghost use Rattle.std.specs.Prelude.{◌≡◌, ◌+◌, ◌-◌, ◌^◌, ◌<◌, ◌≤◌, ℕ, List, IfOk, length, min, sum_by};
-ghost use Rattle.text_store.specs.Changes.{payload_of, HasShortName};
+ghost use Rattle.text_store.specs.Changes.{payload_of};
 ghost use Rattle.text_store.specs.Edits as kept;
 ghost use Rattle.desk.specs.States as spec;
 ghost use Rattle.live_journal.specs.Edits.{splice_of};
 
+use crate::deed::Deed;
 use hl_base::{Bytes, Latest, List, Memory, Splice, Text};
 use live_journal::{Edit, Live};
 use std::alloc::Global;
@@ -21,10 +22,9 @@ fn copy_splice(alloc: Global, splice: &Splice) -> Result<Splice, Memory>
     })
 }
 
-/// The change of the store that an edit is, whose change of the text is `splice`.
-pub(crate) fn change_of(alloc: Global, edit: &Edit, splice: &Splice) -> Result<Change, Memory>
-    ensures value { (text : List ℕ) → splice.now ≡ splice_of text edit.now → IfOk result (λ change. change ≡ spec.change_of text edit.now) }
-    ensures name { IfOk result HasShortName }
+/// The change of the store that an edit of a text is, whose change of the text is `splice`.
+fn plain_change(alloc: Global, edit: &Edit, splice: &Splice) -> Result<Change, Memory>
+    ensures { (text : List ℕ) → splice.now ≡ splice_of text edit.now → IfOk result (λ change. change ≡ spec.plain_change text edit.now) }
 {
     match edit {
         Edit::Add { entry: _ } => Ok(Change::Splice(copy_splice(alloc, splice)?)),
@@ -33,6 +33,24 @@ pub(crate) fn change_of(alloc: Global, edit: &Edit, splice: &Splice) -> Result<C
             alloc,
             text.as_slice(),
         )?)),
+    }
+}
+
+/// That of an import.
+fn import_change(alloc: Global, mark: &Latest, splice: &Splice) -> Result<Change, Memory>
+    ensures { IfOk result (λ change. change ≡ Change.Import mark.now splice.now) }
+{
+    let mark = copy_state(alloc, mark)?;
+    Ok(Change::Import(mark, copy_splice(alloc, splice)?))
+}
+
+/// The change of the store that an edit is, whose change of the text is `splice`.
+pub(crate) fn change_of(alloc: Global, deed: &Deed, splice: &Splice) -> Result<Change, Memory>
+    ensures { (text : List ℕ) → splice.now ≡ splice_of text deed.now.edit → IfOk result (λ change. change ≡ spec.change_of text deed.now) }
+{
+    match &deed.mark {
+        None => plain_change(alloc, &deed.edit, splice),
+        Some(mark) => import_change(alloc, mark, splice),
     }
 }
 
@@ -63,7 +81,7 @@ pub(crate) fn whole_size(text: &[u8], latest: &[Latest]) -> u64
 }
 
 /// A copy of the state of an import.
-fn copy_state(alloc: Global, state: &Latest) -> Result<Latest, Memory>
+pub(crate) fn copy_state(alloc: Global, state: &Latest) -> Result<Latest, Memory>
     ensures { IfOk result (λ copy. copy ≡ state.now) }
 {
     Ok(Latest {
@@ -74,7 +92,7 @@ fn copy_state(alloc: Global, state: &Latest) -> Result<Latest, Memory>
 }
 
 /// A copy of the states of imports.
-fn copy_states(alloc: Global, states: &[Latest]) -> Result<List<Latest>, Memory>
+pub(crate) fn copy_states(alloc: Global, states: &[Latest]) -> Result<List<Latest>, Memory>
     ensures { IfOk result (λ copy. copy ≡ states.now) }
 {
     let mut copy = Vec::with_capacity(alloc, states.len())?;

@@ -1,9 +1,12 @@
+use Rattle.std.proofs.Common.{Some}
 use Rattle.live_journal.specs.declared.edit.Edit.TheVariants as edit
 use Rattle.live_journal.specs.declared.edit.Edit.{Edit}
 use Rattle.desk.specs.declared.request.Allow.TheVariants as allow
 use Rattle.desk.specs.Desks.{state_of}
+use Rattle.desk.specs.States.{plain}
+use Rattle.desk.proofs.Imported.{tells_import}
 use Rattle.desk.proofs.Quiet.{quiet_download, quiet_edit}
-use Rattle.desk.proofs.Served.{downloaded, reported, was_add, was_change, was_replace}
+use Rattle.desk.proofs.Served.{downloaded, reported, was_add, was_change, was_import, was_replace}
 use Rattle.desk.proofs.desk.Desk.answer.Goals as goal
 
 pub returns-in-Report-clause-served : goal.returns-in-Report-clause-served
@@ -23,28 +26,41 @@ pub returns-in-Replace-clause-served : goal.returns-in-Replace-clause-served
 returns-in-Replace-clause-served g c =
     was_replace c.args.self.now _ c.args.day.0 c.args.request.now _ _ _ c.in-Replace.is (c.edit-in-Replace.ensures.served (edit.Replace c.in-Replace.base c.in-Replace.text) c.replace.ensures)
 
+pub returns-in-Import-clause-served : goal.returns-in-Import-clause-served
+returns-in-Import-clause-served g c =
+    was_import c.args.self.now _ c.args.day.0 c.args.request.now _ _ _ _ c.in-Import.is (rw (c.as_slice-in-Import.ensures, c.as_slice-in-Import-2.ensures) at c.import.ensures.served)
+
+pub returns-in-Report-clause-maker : goal.returns-in-Report-clause-maker
+returns-in-Report-clause-maker g c = c.report.ensures.maker c.args.request.now
+
 pub returns-in-Download-clause-maker : goal.returns-in-Download-clause-maker
 returns-in-Download-clause-maker g c =
     let maker = g.M.Maker in
     let live = c.args.self.now.live in
-    quiet_download c.args.day.0 (maker.refusals c.args.maker.now) (maker.last_refused c.args.maker.now) live.revision live.text _ c.download.ensures
+    quiet_download c.args.request.now c.args.day.0 (maker.refusals c.args.maker.now) (maker.last_refused c.args.maker.now) live.revision live.text _ c.download.ensures
 
 pub returns-in-Add-clause-maker : goal.returns-in-Add-clause-maker
 returns-in-Add-clause-maker g c =
     let maker = g.M.Maker in
     let served = c.edit.ensures.served (edit.Add c.in-Add.entry) c.add.ensures in
-    quiet_edit c.args.day.0 (maker.refusals c.args.maker.now) (maker.last_refused c.args.maker.now) (state_of c.args.self.now) allow.Add (edit.Add c.in-Add.entry) _ _ _ _ _ served.gives
+    quiet_edit c.args.request.now c.args.day.0 (maker.refusals c.args.maker.now) (maker.last_refused c.args.maker.now) (state_of c.args.self.now) allow.Add (plain (edit.Add c.in-Add.entry)) (Some (plain (edit.Add c.in-Add.entry))) _ _ _ _ _ served.gives
 
 pub returns-in-Change-clause-maker : goal.returns-in-Change-clause-maker
 returns-in-Change-clause-maker g c =
     let maker = g.M.Maker in
     let e : Edit = edit.Change c.in-Change.base c.in-Change.item c.in-Change.entry in
     let served = c.edit-in-Change.ensures.served e c.change.ensures in
-    quiet_edit c.args.day.0 (maker.refusals c.args.maker.now) (maker.last_refused c.args.maker.now) (state_of c.args.self.now) allow.Edit e _ _ _ _ _ served.gives
+    quiet_edit c.args.request.now c.args.day.0 (maker.refusals c.args.maker.now) (maker.last_refused c.args.maker.now) (state_of c.args.self.now) allow.Edit (plain e) (Some (plain e)) _ _ _ _ _ served.gives
 
 pub returns-in-Replace-clause-maker : goal.returns-in-Replace-clause-maker
 returns-in-Replace-clause-maker g c =
     let maker = g.M.Maker in
     let e : Edit = edit.Replace c.in-Replace.base c.in-Replace.text in
     let served = c.edit-in-Replace.ensures.served e c.replace.ensures in
-    quiet_edit c.args.day.0 (maker.refusals c.args.maker.now) (maker.last_refused c.args.maker.now) (state_of c.args.self.now) allow.Edit e _ _ _ _ _ served.gives
+    quiet_edit c.args.request.now c.args.day.0 (maker.refusals c.args.maker.now) (maker.last_refused c.args.maker.now) (state_of c.args.self.now) allow.Edit (plain e) (Some (plain e)) _ _ _ _ _ served.gives
+
+pub returns-in-Import-clause-maker : goal.returns-in-Import-clause-maker
+returns-in-Import-clause-maker g c =
+    let maker = g.M.Maker in
+    tells_import c.args.request.now _ _ _ c.args.day.0 (maker.refusals c.args.maker.now) (maker.refusals c.import.new.maker) (maker.last_refused c.args.maker.now) (maker.last_refused c.import.new.maker) c.import.result c.in-Import.is
+    (rw (c.as_slice-in-Import.ensures, c.as_slice-in-Import-2.ensures) at (c.import.ensures.maker c.args.day.0))

@@ -1,15 +1,13 @@
-use Rattle.std.proofs.Common.{[], None, inl, refl, List, sym, subst}
+use Rattle.std.proofs.Common.{[], None, inl, List, sym, subst}
 use Rattle.hl_base.specs.declared.change.Latest.{Latest}
 use Rattle.live_journal.specs.Journals.{Journal}
 use Rattle.text_store.specs.Stores.{Holds}
 use Rattle.text_store.proofs.Both.{stays}
-use Rattle.desk.proofs.Opened.{opened_is, tells_of}
+use Rattle.desk.specs.declared.fault.DeskFault.{DeskFault}
+use Rattle.desk.specs.Openings.{MakingRefused}
+use Rattle.desk.proofs.Opened.{loads, opened_is, tells_of, unmade, unstored}
 use Rattle.desk.proofs.Still.{kept}
 use Rattle.desk.proofs.desk.Desk.create.Goals as goal
-
-pub returns-in-Err-Memory-clause-any_moment : goal.returns-in-Err-Memory-clause-any_moment
-returns-in-Err-Memory-clause-any_moment g c = λ f s a b tell.
-    stays g.D.Disk (c.args.first, c.args.second) _ (λ x y left_x left_y. inl (left_x, left_y))
 
 pub returns-in-Err : goal.returns-in-Err
 returns-in-Err g c =
@@ -18,10 +16,17 @@ returns-in-Err g c =
       state = tt;
       made = tt;
       counts = tt;
-      cause = (tells_of c.in-Err.fault j c.in-Err.ensures, refl);
+      cause = subst (λ (e : DeskFault). MakingRefused g.D.Disk (c.args.first, c.args.second) (c.args.first, c.args.second) c.args.text.now c.args.limit e) (sym c.load_refusal.ensures)
+          (unmade g.D.Disk (c.args.first, c.args.second) c.args.text.now c.args.limit c.in-Err.fault (tells_of c.in-Err.fault j c.in-Err.ensures));
       any_moment = λ f s a b tell. stays g.D.Disk (c.args.first, c.args.second) _ (λ x y left_x left_y. inl (left_x, left_y));
       keeps = kept g.D.Disk (c.args.first, c.args.second) (c.args.limit, c.args.limit);
     }
+
+pub returns-in-Err-create-clause-cause : goal.returns-in-Err-create-clause-cause
+returns-in-Err-create-clause-cause g c =
+    let j : Journal = record { text = c.args.text.now; year = None; revision = 0 } in
+    subst (λ (e : DeskFault). MakingRefused g.D.Disk (c.args.first, c.args.second) (c.in-Err-create.first, c.in-Err-create.second) c.args.text.now c.args.limit e) (sym c.store_refusal.ensures)
+    (unstored g.D.Disk (c.args.first, c.args.second) (c.in-Err-create.first, c.in-Err-create.second) c.args.text.now c.args.limit c.in-Err-create.fault (loads j c.in-Ok.live c.in-Ok.ensures) c.in-Err-create.ensures.cause)
 
 pub returns-in-Ok-create-clause-made : goal.returns-in-Ok-create-clause-made
 returns-in-Ok-create-clause-made g c = λ f s a b.

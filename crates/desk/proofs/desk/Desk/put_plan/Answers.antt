@@ -1,38 +1,61 @@
-use Rattle.std.proofs.Common.{◌-◌, ◌≤◌, ℕ, List, length, Some, true, false, [], ◌∷◌, ap, sym, subst, ◌∙◌}
+use Rattle.std.proofs.Common.{◌<◌, ◌^◌, ℕ, List, Option, Some, ap, sym, ◌∙◌, arith}
+use Rattle.hl_base.specs.declared.change.Latest.{Latest}
 use Rattle.live_journal.specs.Journals.{Planned}
 use Rattle.live_journal.specs.Loading.{first_of}
 use Rattle.desk.specs.Desks.{state_of}
-use Rattle.desk.specs.States.{change_of, last_revision, no_room, record_size}
-use Rattle.desk.proofs.Served.{exact_size, full_by, full_undone, kept_by, out_of_memory, small_record, unchanged_by}
+use Rattle.desk.specs.States.{change_of, full_cases, record_size, states_with}
+use Rattle.desk.proofs.Rooms.{capped, told_full}
+use Rattle.desk.proofs.Served.{full_by, full_undone, kept_by, out_of_memory, unchanged_by}
 use Rattle.desk.proofs.desk.Desk.put_plan.Goals as goal
 
 pub returns-then-same-clause-served : goal.returns-then-same-clause-served
 returns-then-same-clause-served g c =
     let same = sym (ap (λ (p : Planned). p.same) c.requires.plan) ∙ sym c.same.ensures ∙ c.if-same.true in
-    rw c.revision-revision.ensures (unchanged_by c.args.self.now c.args.edit.now same)
+    rw c.revision-revision.ensures (unchanged_by c.args.self.now c.args.deed.now same)
 
 pub returns-in-Err-clause-served : goal.returns-in-Err-clause-served
-returns-in-Err-clause-served g c = out_of_memory _ (Some c.args.edit.now) c.args.self.now
+returns-in-Err-clause-served g c = out_of_memory _ (Some c.args.deed.now) c.args.self.now
+
+pub returns-in-Err-states_with-clause-served : goal.returns-in-Err-states_with-clause-served
+returns-in-Err-states_with-clause-served g c = out_of_memory _ (Some c.args.deed.now) c.args.self.now
 
 pub returns-in-Some-clause-served : goal.returns-in-Some-clause-served
 returns-in-Some-clause-served g c =
     let old = c.args.self.now in
-    let e = c.args.edit.now in
+    let s = state_of old in
+    let d = c.args.deed.now in
     let differs = sym (ap (λ (p : Planned). p.same) c.requires.plan) ∙ sym c.same.ensures ∙ c.if-same.false in
-    let is = c.in-Ok.ensures.value old.live.text (c.splice.ensures ∙ ap (λ (p : Planned). p.splice) c.requires.plan) in
-    let few = subst (λ (t : List ℕ). length t ≤ 16777216) (ap (λ (p : Planned). p.text) c.requires.plan) c.requires.few in
-    let size = exact_size c.record_size-size.result c.in-Ok.change (change_of old.live.text e) c.record_size-size.ensures is (small_record old.live.text e few) in
-    let full = sym c.in-Some.ensures in
-    let told = sym (ap (λ (n : ℕ). first_of (no_room (state_of old) n ∷ last_revision old.live.revision ∷ [])) size) ∙ full in
-    full_by old e c.in-Some.reply differs told (full_undone (state_of old) (record_size (change_of old.live.text e)) c.in-Some.reply told)
+    let is = c.in-Ok.ensures old.live.text (c.splice.ensures ∙ ap (λ (p : Planned). p.splice) c.requires.plan) in
+    let size = capped c.record_size-size.result c.in-Ok.change (change_of old.live.text d) c.record_size-size.ensures is in
+    let few : s.limit < 2 ^ 64 = omega arith in
+    let some : 0 < s.size = omega arith in
+    let full = sym (told_full s d.mark (states_with d.mark old.latest) (record_size (change_of old.live.text d)) some few)
+    ∙ sym (ap (λ (n : ℕ). first_of (full_cases s d.mark (states_with d.mark old.latest) n)) size)
+    ∙ sym (ap (λ (o : Option (List Latest)). first_of (full_cases s d.mark o c.record_size-size.result)) c.in-Ok-states_with.ensures) ∙ sym c.in-Some.ensures in
+    full_by old d c.in-Some.reply differs full (full_undone s d.mark (states_with d.mark old.latest) (record_size (change_of old.live.text d)) c.in-Some.reply full)
 
 pub returns-in-None-clause-served : goal.returns-in-None-clause-served
 returns-in-None-clause-served g c =
     let old = c.args.self.now in
-    let e = c.args.edit.now in
+    let s = state_of old in
+    let d = c.args.deed.now in
     let differs = sym (ap (λ (p : Planned). p.same) c.requires.plan) ∙ sym c.same.ensures ∙ c.if-same.false in
-    let is = c.in-Ok.ensures.value old.live.text (c.splice.ensures ∙ ap (λ (p : Planned). p.splice) c.requires.plan) in
-    let few = subst (λ (t : List ℕ). length t ≤ 16777216) (ap (λ (p : Planned). p.text) c.requires.plan) c.requires.few in
-    let size = exact_size c.record_size-size.result c.in-Ok.change (change_of old.live.text e) c.record_size-size.ensures is (small_record old.live.text e few) in
-    let told = sym (ap (λ (n : ℕ). first_of (no_room (state_of old) n ∷ last_revision old.live.revision ∷ [])) size) ∙ sym c.in-None.ensures in
-    kept_by old _ e _ differs told c.keep_plan.ensures.served
+    let is = c.in-Ok.ensures old.live.text (c.splice.ensures ∙ ap (λ (p : Planned). p.splice) c.requires.plan) in
+    let size = capped c.record_size-size.result c.in-Ok.change (change_of old.live.text d) c.record_size-size.ensures is in
+    let few : s.limit < 2 ^ 64 = omega arith in
+    let some : 0 < s.size = omega arith in
+    let none = sym (told_full s d.mark (states_with d.mark old.latest) (record_size (change_of old.live.text d)) some few)
+    ∙ sym (ap (λ (n : ℕ). first_of (full_cases s d.mark (states_with d.mark old.latest) n)) size)
+    ∙ sym (ap (λ (o : Option (List Latest)). first_of (full_cases s d.mark o c.record_size-size.result)) c.in-Ok-states_with.ensures) ∙ sym c.in-None.ensures in
+    kept_by old _ d _ differs none c.keep_plan.ensures.served
+
+pub keep_plan-requires-clause-differs : goal.keep_plan-requires-clause-differs
+keep_plan-requires-clause-differs g c = sym c.same.ensures ∙ c.if-same.false
+
+pub keep_plan-requires-clause-change : goal.keep_plan-requires-clause-change
+keep_plan-requires-clause-change g c =
+    c.in-Ok.ensures c.args.self.now.live.text (c.splice.ensures ∙ ap (λ (p : Planned). p.splice) c.requires.plan)
+
+pub keep_plan-requires-clause-room : goal.keep_plan-requires-clause-room
+keep_plan-requires-clause-room g c =
+    ap (λ (n : ℕ). first_of (full_cases (state_of c.args.self.now) c.args.deed.now.mark c.in-Ok-states_with.states n)) (sym c.record_size-size.ensures) ∙ sym c.in-None.ensures

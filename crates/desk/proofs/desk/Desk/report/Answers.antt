@@ -2,11 +2,11 @@ use Rattle.desk.proofs.Refused.{replies, tells}
 use Rattle.desk.proofs.desk.Desk.report.Goals as goal
 
 pub returns-clause-maker : goal.returns-clause-maker
-returns-clause-maker g c =
+returns-clause-maker g c = λ q.
     let live = c.args.self.now.live in
     let maker = g.M.Maker in
     rw (c.report_reply.ensures, c.revision.ensures) (tells live.revision c.args.day.0 live.year live.text c.args.words.now (maker.refusals c.args.maker.now) (maker.refusals c.report_text-made.new.maker)
-    (maker.last_refused c.args.maker.now) (maker.last_refused c.report_text-made.new.maker) c.report_text-made.result c.report_text-made.ensures.value)
+    (maker.last_refused c.args.maker.now) (maker.last_refused c.report_text-made.new.maker) q c.report_text-made.result c.report_text-made.ensures.value)
 
 pub returns-clause-reply : goal.returns-clause-reply
 returns-clause-reply g c =

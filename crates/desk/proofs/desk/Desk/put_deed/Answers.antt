@@ -1,0 +1,8 @@
+use Rattle.std.proofs.Common.{None, refl}
+use Rattle.desk.specs.declared.reply.Reply.TheVariants as reply
+use Rattle.desk.proofs.Served.{replied}
+use Rattle.desk.proofs.desk.Desk.put_deed.Goals as goal
+
+pub returns-in-None-clause-served : goal.returns-in-None-clause-served
+returns-in-None-clause-served g c =
+    rw (c.in-None.is, c.revision-revision.ensures) (replied None c.args.self.now (reply.Same c.args.self.now.live.revision) refl)

@@ -1,0 +1,169 @@
+//! The entries of a file, and the edit that an import of them is.
+ghost use Rattle.std.specs.Prelude.{◌≡◌, ◌⊎◌, ◌++◌, ◌<◌, ◌^◌, ◌∷◌, true, None, IfOk, OnOk, length, map};
+ghost use Rattle.std.specs.List.{flat_map};
+ghost use Rattle.entry_reader.specs.Contexts.{context_of};
+ghost use Rattle.csv_rules.specs.Importing.{is_ordered};
+ghost use Rattle.desk.specs.Files.{FileSo, rules_reply, convert_reply};
+ghost use Rattle.desk.specs.Imports as spec;
+
+use crate::csv_fault::CsvFault;
+use crate::deed::Deed;
+use crate::reply::Reply;
+use crate::states::state_named;
+use book::{Placed, Txn};
+use csv_entries::{ConvertFault, convert};
+use csv_rules::{Rules, RulesFault, new_ones};
+use entry_reader::Context;
+use hl_base::{Bytes, Latest, List, Memory, Text};
+use journal_printer::print_entry;
+use live_journal::{Edit, Live};
+use query::Maker;
+use std::alloc::Global;
+
+/// The reply to an import whose rules don't read.
+fn rules_reply(fault: RulesFault) -> Reply
+    ensures { result ≡ rules_reply fault }
+{
+    match fault {
+        RulesFault::Memory => Reply::Memory,
+        RulesFault::BadRule { line } => Reply::Csv(CsvFault::Rules(RulesFault::BadRule { line })),
+        RulesFault::PatternRefused { line } => Reply::Csv(CsvFault::Rules(
+            RulesFault::PatternRefused { line },
+        )),
+    }
+}
+
+/// The reply to an import of which a record is refused.
+fn convert_reply(fault: ConvertFault) -> Reply
+    ensures { result ≡ convert_reply fault }
+{
+    match fault {
+        ConvertFault::Memory => Reply::Memory,
+        ConvertFault::BadRecord { n } => Reply::Csv(CsvFault::Convert(ConvertFault::BadRecord {
+            n,
+        })),
+        ConvertFault::NoDate { n } => Reply::Csv(CsvFault::Convert(ConvertFault::NoDate { n })),
+        ConvertFault::NoAmount { n } => Reply::Csv(CsvFault::Convert(ConvertFault::NoAmount { n })),
+        ConvertFault::TwoAmounts { n } => Reply::Csv(CsvFault::Convert(ConvertFault::TwoAmounts {
+            n,
+        })),
+        ConvertFault::CsvRefused { n } => Reply::Csv(CsvFault::Convert(ConvertFault::CsvRefused {
+            n,
+        })),
+    }
+}
+
+/// The entries that a file becomes by rules, whose patterns the maker builds; or the reply that says why it becomes none.
+pub(crate) fn entries_of<M: Maker>(
+    alloc: Global,
+    rules: &[u8],
+    csv: &[u8],
+    maker: &mut M,
+) -> Result<List<Txn>, Reply>
+    ensures file { FileSo rules.now csv.now (M.refusals maker.old) (M.refusals maker.new)
+        (M.last_refused maker.old) (M.last_refused maker.new) result }
+    ensures ordered { IfOk result (λ txns. is_ordered txns ≡ true) }
+{
+    let rules = match Rules::read(alloc, rules, maker) {
+        Ok(rules) => rules,
+        Err(fault) => return Err(rules_reply(fault)),
+    };
+    match convert(alloc, &rules, csv) {
+        Ok(txns) => Ok(txns),
+        Err(fault) => Err(convert_reply(fault)),
+    }
+}
+
+/// The context behind some items of a text without a year before it.
+fn context_behind(alloc: Global, items: &[Placed]) -> Result<Context, Memory>
+    ensures { IfOk result (λ context. context ≡ context_of None (map (λ p. p.item) items.now)) }
+{
+    let mut context = Context::start(alloc, None)?;
+    for placed in items {
+        context.after(alloc, &placed.item)?;
+    }
+    Ok(context)
+}
+
+/// Puts an entry as it is printed in a context behind other bytes.
+fn push_entry(
+    alloc: Global,
+    bytes: &mut Vec<u8>,
+    context: &Context,
+    txn: &Txn,
+) -> Result<(), Memory>
+    ensures { OnOk result (bytes.new.items ≡ bytes.old.items ++ spec.entry_text context.now txn.now) }
+{
+    let text = print_entry(alloc, txn, context)?;
+    bytes.extend_from_slice(text.as_slice())?;
+    Ok(())
+}
+
+/// Puts further entries, each behind a blank line.
+fn push_further(
+    alloc: Global,
+    bytes: &mut Vec<u8>,
+    context: &Context,
+    txns: &[Txn],
+) -> Result<(), Memory>
+    ensures { OnOk result (bytes.new.items ≡ bytes.old.items ++ flat_map (λ next. 10 ∷ spec.entry_text context.now next) txns.now) }
+{
+    for txn in txns {
+        bytes.push(b'\n')?;
+        push_entry(alloc, bytes, context, txn)?;
+    }
+    Ok(())
+}
+
+/// Entries as they are printed in a context, with a blank line between them.
+fn entries_text(alloc: Global, context: &Context, txns: &[Txn]) -> Result<Bytes, Memory>
+    ensures { IfOk result (λ bytes. bytes ≡ spec.entries_text context.now txns.now) }
+{
+    match txns.split_first() {
+        None => Ok(Bytes::new(alloc)),
+        Some((first, further)) => {
+            let mut bytes = Vec::new(alloc);
+            push_entry(alloc, &mut bytes, context, first)?;
+            push_further(alloc, &mut bytes, context, further)?;
+            Ok(Bytes::from_vec(bytes))
+        }
+    }
+}
+
+/// The edit that puts new entries behind a journal's text.
+fn addition(
+    alloc: Global,
+    live: &Live,
+    new: &[Txn],
+    mark: Option<Latest>,
+) -> Result<Option<Deed>, Memory>
+    requires { live.now.year ≡ None }
+    ensures { IfOk result (λ deed. deed ≡ spec.deed_for live.now.text new.now mark) }
+{
+    if new.is_empty() {
+        return Ok(None);
+    }
+    let context = context_behind(alloc, live.items().as_slice())?;
+    let entry = entries_text(alloc, &context, new)?;
+    Ok(Some(Deed {
+        edit: Edit::Add { entry },
+        mark,
+    }))
+}
+
+/// The edit that an import of some entries is under a name, unless none of them is new.
+pub(crate) fn import_deed(
+    alloc: Global,
+    live: &Live,
+    states: &[Latest],
+    name: &Text,
+    txns: List<Txn>,
+) -> Result<Option<Deed>, Memory>
+    requires year { live.now.year ≡ None }
+    requires ordered { is_ordered txns ≡ true }
+    requires few { length txns < 2 ^ 32 }
+    ensures { IfOk result (λ deed. deed ≡ spec.new_deed live.now.text states.now name.now txns) }
+{
+    let (new, mark) = new_ones(alloc, state_named(states, name), name, txns)?;
+    addition(alloc, live, new.as_slice(), mark)
+}
