@@ -1,0 +1,10 @@
+pub mod Fields
+pub mod Forms
+pub mod Heads
+pub mod Paths
+pub mod ReadCounts
+pub mod Receipt
+pub mod Routes
+pub mod Streams
+pub mod Targets
+pub mod Unread

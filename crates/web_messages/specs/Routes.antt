@@ -1,0 +1,36 @@
+-- Where the method and the target of a head lead.
+use Rattle.std.specs.Prelude.{ℕ, List, ◌==◌, Option, Some, None, if◌then◌else◌, codes}
+use Rattle.std.specs.List.{before_first, after_first}
+use Rattle.std.specs.Str.{bytes_eq}
+use Rattle.web_messages.specs.declared.refusal.Refusal.{Refusal}
+use Rattle.web_messages.specs.declared.refusal.Refusal.TheVariants as refusal
+use Rattle.web_messages.specs.declared.resource.Resource.{Resource}
+use Rattle.web_messages.specs.declared.resource.Resource.TheVariants as resource
+use Rattle.web_messages.specs.declared.route.Route.{Route}
+use Rattle.web_messages.specs.declared.route.Route.TheVariants as route
+use Rattle.web_messages.specs.Paths.{resource_at}
+
+-- a target is a path and, after the first question mark, a query
+abbrev pub path_of : List ℕ → List ℕ
+path_of target = before_first (λ b. b == 63) target
+
+abbrev pub query_of : List ℕ → List ℕ
+query_of target = after_first (λ b. b == 63) target
+
+-- a route that is taken by this method alone
+abbrev pub by_method : List ℕ → List ℕ → Route → Refusal → Route
+by_method method wanted found refused = if bytes_eq method wanted then found else route.Refused refused
+
+-- where a method leads at what a path names
+abbrev pub route_at : List ℕ → Option Resource → Route
+route_at method None = route.Refused refusal.Path
+route_at method (Some (resource.Report command)) = by_method method (codes "GET") (route.Report command) refusal.GetOnly
+route_at method (Some resource.Download) = by_method method (codes "GET") route.Download refusal.GetOnly
+route_at method (Some resource.Add) = by_method method (codes "POST") route.Add refusal.PostOnly
+route_at method (Some resource.Edit) = by_method method (codes "POST") route.Edit refusal.PostOnly
+route_at method (Some resource.Upload) = by_method method (codes "POST") route.Upload refusal.PostOnly
+route_at method (Some resource.Import) = by_method method (codes "POST") route.Import refusal.PostOnly
+
+-- where a method and a path lead
+abbrev pub route_of : List ℕ → List ℕ → Route
+route_of method path = route_at method (resource_at path)

@@ -1,0 +1,74 @@
+//! Where the method and the target of a head lead.
+ghost use Rattle.std.specs.Prelude.{◌≡◌};
+ghost use Rattle.web_messages.specs.Routes.{path_of, query_of, by_method, route_of};
+
+use crate::paths::Paths;
+use crate::refusal::Refusal;
+use crate::resource::Resource;
+use report_options::Command;
+
+/// Where a method and a path lead.
+#[derive(Clone, Copy, Debug, PartialEq, Eq)]
+pub enum Route {
+    /// To a report.
+    Report(Command),
+    /// To the text of the journal.
+    Download,
+    /// To an entry at the end of the journal.
+    Add,
+    /// To an entry in the place of an item, or another text in the place of all.
+    Edit,
+    /// To another text in the place of all, as it stands.
+    Upload,
+    /// To the entries of a file.
+    Import,
+    /// Nowhere.
+    Refused(Refusal),
+}
+
+/// The path and the query of a target.
+pub fn split_target(target: &[u8]) -> (&[u8], &[u8])
+    ensures path { result.0.now ≡ path_of target.now }
+    ensures query { result.1.now ≡ query_of target.now }
+{
+    match target.iter().position(|b| *b == b'?') {
+        Some(at) => (&target[..at], &target[at + 1..]),
+        None => (target, &[]),
+    }
+}
+
+/// A route that is taken by one method alone.
+fn by_one_method(method: &[u8], wanted: &[u8], found: Route, refusal: Refusal) -> Route
+    ensures { result ≡ by_method method.now wanted.now found refusal }
+{
+    if method == wanted {
+        found
+    } else {
+        Route::Refused(refusal)
+    }
+}
+
+/// Where a method and a path lead.
+pub fn find_route(paths: &Paths, method: &[u8], path: &[u8]) -> Route
+    ensures { result ≡ route_of method.now path.now }
+{
+    match paths.find(path) {
+        Some(Resource::Report(command)) => by_one_method(
+            method,
+            b"GET",
+            Route::Report(command),
+            Refusal::GetOnly,
+        ),
+        Some(Resource::Download) => by_one_method(
+            method,
+            b"GET",
+            Route::Download,
+            Refusal::GetOnly,
+        ),
+        Some(Resource::Add) => by_one_method(method, b"POST", Route::Add, Refusal::PostOnly),
+        Some(Resource::Edit) => by_one_method(method, b"POST", Route::Edit, Refusal::PostOnly),
+        Some(Resource::Upload) => by_one_method(method, b"POST", Route::Upload, Refusal::PostOnly),
+        Some(Resource::Import) => by_one_method(method, b"POST", Route::Import, Refusal::PostOnly),
+        None => Route::Refused(Refusal::Path),
+    }
+}
