@@ -5,6 +5,7 @@ ghost use Rattle.desk.specs.Steps.{is_words};
 use desk::{Reply, Request};
 use hl_base::{Bytes, MemClock, MemLink, Memory, Steps, Text};
 use hl_time::Day;
+use plan_commands::PlanFault;
 use query::{Maker, RegexMaker};
 use report_commands::WordsFault;
 use std::alloc::Global;
@@ -15,7 +16,7 @@ use std::test::Fail;
 use web_desk::answer::desk_reply;
 use web_desk::ask::{Ask, Spent};
 use web_desk::conn_end::{ConnEnd, Way};
-use web_desk::lines::line_of;
+use web_desk::lines::plan_fault_line;
 use web_desk::serve::serve_link;
 
 /// Counts the entries that are added, and answers so many requests.
@@ -212,8 +213,9 @@ fn faults(rt: HostRuntime) -> Result<(), Fail> {
 fn a_refused_pattern(rt: HostRuntime) -> Result<(), Fail> {
     let alloc = rt.alloc();
     let word = Text::copied(alloc, "fo+d")?;
-    let reply = Reply::Words(WordsFault::PatternRefused { word });
-    assert!(rt; line_of(alloc, &reply)?.as_str() == "error: pattern: fo+d\n");
+    let fault = PlanFault::Words(WordsFault::PatternRefused { word });
+    assert!(rt; plan_fault_line(alloc, &fault)?.as_slice() == b"error: pattern: fo+d\n".as_slice());
+    let reply = Reply::Words(fault);
     let sent = desk_reply(alloc, &reply, 7, false)?;
     assert!(rt; sent.as_slice() == REFUSED);
     Ok(())

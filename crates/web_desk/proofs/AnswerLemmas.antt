@@ -1,30 +1,37 @@
 -- What was sent of a reply answers its message.
-use Rattle.std.proofs.Common.{◌≡◌, ℕ, ◌≤◌, Bool, List, [], ◌∷◌, ◌++◌, length, take, drop, Option, Some, None, IfSome, Result, Ok, Err, IfErr, refl, ap, sym, ◌∙◌, inr, append-nil, take-append-drop}
+use Rattle.std.proofs.Common.{◌≡◌, ℕ, ◌≤◌, Bool, List, [], ◌∷◌, ◌++◌, length, take, drop, Option, Some, None, IfSome, Result, Ok, Err, IfErr, refl, ap, sym, ◌∙◌, subst, inr, append-nil, take-append-drop}
 use Rattle.web_desk.specs.declared.conn_end.ConnEnd.{ConnEnd}
 use Rattle.web_desk.specs.declared.conn_end.ConnEnd.TheVariants as conn
-use Rattle.web_desk.specs.declared.refusal.Refusal.{Refusal}
+use Rattle.web_messages.specs.declared.refusal.Refusal.{Refusal}
 use Rattle.web_desk.specs.Answers.{entry_message, refusal_message}
 use Rattle.desk.specs.Entries.{Entry}
-use Rattle.web_desk.specs.Receipt.{IsBroken}
+use Rattle.web_messages.specs.declared.broken.Broken.{Broken}
+use Rattle.web_messages.specs.declared.broken.Broken.TheVariants as broken
+use Rattle.web_messages.specs.ReadCounts.{ReadsCounted}
+use Rattle.web_desk.specs.Counts.{Counted}
+use Rattle.web_desk.specs.Ends.{IsBroken, end_of_broken}
+use Rattle.web_desk.specs.Sent.{Sends}
 use Rattle.web_desk.specs.Served.{IsFrontOf, AreOf}
 use Rattle.hl_time.specs.declared.day.Day.{Day}
 use Rattle.std.proofs.lemmas.List.Elements.{All-nil, All-cons}
 use Rattle.web_desk.specs.Turns.{SentSo, FailsSo, AnswersSo}
 
--- the bytes before something was sent, and all those after it
-abbrev pub Sends : Option (List ℕ) → Option (List ℕ) → (List ℕ → Type 0) → Type 0
-Sends sent sent_now P = IfSome sent (λ before. (text : List ℕ) × (sent_now ≡ Some (before ++ text)) × P text)
-
 -- what follows from what was sent
 pub sends_more : (sent sent_now : Option (List ℕ)) (P Q : List ℕ → Type 0) → ((text : List ℕ) → P text → Q text)
     → Sends sent sent_now P → Sends sent sent_now Q
-sends_more None sent_now P Q f p = tt
-sends_more (Some before) sent_now P Q f p = (p.0, p.1, f p.0 p.2)
+sends_more sent sent_now P Q f p = (p.0, p.1, f p.0 p.2)
 
 -- nothing was sent
 pub sends_nothing : (sent sent_now : Option (List ℕ)) (Q : List ℕ → Type 0) → sent_now ≡ sent → Q [] → Sends sent sent_now Q
-sends_nothing None sent_now Q e q = tt
+sends_nothing None sent_now Q e q = ([], tt, q)
 sends_nothing (Some before) sent_now Q e q = ([], e ∙ ap Some (sym (append-nil before)), q)
+
+-- nothing was sent of a reply, for a fault before it was made
+pub unsent : (sent : Option (List ℕ)) (result : Result (Unit {0}) ConnEnd) (end : ConnEnd) (whole : List ℕ) → result ≡ Err end
+    → Sends sent sent (λ text. SentSo result whole text)
+unsent sent result end whole is =
+    let R : Result (Unit {0}) ConnEnd → Type 0 = λ r. SentSo r whole [] in
+    sends_nothing sent sent (λ text. SentSo result whole text) refl (subst R (sym is) (whole, refl))
 
 -- a front by a number of bytes
 pub front_by : (n : ℕ) (whole : List ℕ) → IsFrontOf (take n whole) whole
@@ -64,9 +71,15 @@ entry_unanswered closing entry = inr (Some entry, refl, refl, (entry_message clo
 pub front_sent : (sent sent_now : Option (List ℕ)) (piece whole : List ℕ) → piece ≡ whole
     → IfSome sent (λ before. (n : ℕ) × (n ≤ length piece) × (sent_now ≡ Some (before ++ take n piece)))
     → Sends sent sent_now (λ text. IsFrontOf text whole)
-front_sent None sent_now piece whole e p = tt
+front_sent None sent_now piece whole e p = ([], tt, (whole, refl))
 front_sent (Some before) sent_now piece whole e p =
     (take p.0 whole, p.2 ∙ ap (λ t. Some (before ++ take p.0 t)) e, front_by p.0 whole)
+
+-- all of it was sent
+pub all_sent : (sent sent_now : Option (List ℕ)) (piece whole : List ℕ) → piece ≡ whole
+    → IfSome sent (λ before. sent_now ≡ Some (before ++ piece)) → Sends sent sent_now (λ text. text ≡ whole)
+all_sent None sent_now piece whole e p = (whole, tt, refl)
+all_sent (Some before) sent_now piece whole e p = (whole, p ∙ ap (λ t. Some (before ++ t)) e, refl)
 
 abbrev pub day_of : ℕ → Day
 day_of n = record { 0 = n }
@@ -80,3 +93,17 @@ pub one_of : (day : Option ℕ) (entry : Entry) (today : ℕ) → entry.day ≡ 
 one_of None entry today e p = tt
 one_of (Some d) entry today e p =
     All-cons (λ (x : Entry). x.day ≡ day_of d) entry [] (e ∙ ap day_of p) (All-nil (λ (x : Entry). x.day ≡ day_of d))
+
+-- no more was read for one of two causes, which the end tells
+pub broken_ends : (end : ConnEnd) (cause : Broken) → end ≡ end_of_broken cause → IsBroken end
+broken_ends end broken.Link e = subst IsBroken (sym e) tt
+broken_ends end broken.Memory e = subst IsBroken (sym e) tt
+
+pub counted_ends : (T : Type 0) (end : ConnEnd) (cause : Broken) (reads reads_now writes writes_now : ℕ) → end ≡ end_of_broken cause
+    → ReadsCounted {T = T} (Err cause) reads reads_now writes writes_now → Counted end reads reads_now writes writes_now
+counted_ends T end broken.Link reads reads_now writes writes_now e p =
+    let P : ConnEnd → Type 0 = λ x. Counted x reads reads_now writes writes_now in
+    subst P (sym e) p
+counted_ends T end broken.Memory reads reads_now writes writes_now e p =
+    let P : ConnEnd → Type 0 = λ x. Counted x reads reads_now writes writes_now in
+    subst P (sym e) p

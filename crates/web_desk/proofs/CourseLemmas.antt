@@ -1,5 +1,5 @@
--- A connection that came to the end of its stream followed the stream's reading.
-use Rattle.std.proofs.Common.{◌≡◌, ℕ, ◌<◌, false, List, [], ◌∷◌, ◌++◌, length, map, Option, Some, None, Result, Ok, Err, refl, ap, sym, ◌∙◌, subst}
+-- A connection followed the reading of its stream.
+use Rattle.std.proofs.Common.{◌≡◌, ℕ, ◌<◌, true, false, List, [], ◌∷◌, ◌++◌, length, map, Option, Some, None, IfSome, Result, Ok, Err, refl, ap, sym, ◌∙◌, subst}
 use Rattle.std.proofs.lemmas.List.{map-append, length-map}
 use Rattle.std.proofs.lemmas.List.Elements.{All-head, All-tail, All-nil, All-cons}
 use Rattle.std.specs.List.{flat_map, All}
@@ -8,11 +8,15 @@ use Rattle.desk.specs.declared.request.Request.{Request}
 use Rattle.desk.specs.Entries.{Entry}
 use Rattle.web_desk.specs.declared.conn_end.ConnEnd.{ConnEnd}
 use Rattle.web_desk.specs.declared.conn_end.ConnEnd.TheVariants as conn
-use Rattle.web_desk.specs.declared.refusal.Refusal.{Refusal}
-use Rattle.web_desk.specs.Courses.{asked, requests_in, requests_at, requests_of, IsStreamEnd, FollowsReading}
-use Rattle.web_desk.specs.Fields.{closes}
-use Rattle.web_desk.specs.Served.{Exchange, IsServed, exchanged, entry_of, asks, FitsCall, Brings, Ended, IsLog, entries_of, Served}
-use Rattle.web_desk.specs.Streams.{Message, message_bytes, IsWhole, most_messages, Ending, over, last, unframed, bad_head, long_head, long_body, cut_body, cut_head, EndsSo, end_of}
+use Rattle.web_messages.specs.declared.refusal.Refusal.{Refusal}
+use Rattle.web_desk.specs.Answers.{answer_to}
+use Rattle.web_desk.specs.Courses.{answer_with, answers_to, asked, entries_behind, last_answer, requests_in, requests_at, requests_of, text_at, FollowsCourse, FollowsFront, FollowsReading}
+use Rattle.web_messages.specs.Fields.{closes}
+use Rattle.web_desk.specs.Sent.{Sends}
+use Rattle.web_desk.specs.Served.{Exchange, IsServed, exchanged, entry_of, asks, log_text, Breaks, FitsCall, Brings, Ended, IsLog, IsRefusedTurn, entries_of, Served}
+use Rattle.web_messages.specs.Streams.{Message, message_bytes, IsWhole, most_messages, Ending, over, last, unframed, bad_head, long_head, long_body, cut_body, cut_head, EndsSo, ClosesWell, IsOfWhole}
+use Rattle.web_desk.specs.Ends.{EndsWell, end_of}
+use Rattle.web_messages.proofs.Readings.{front_of_reading, readings_agree}
 
 -- an entry that fits what a message asks is of that request
 asked_fits : (call : Result Request Refusal) (entry : Option Entry) → FitsCall call entry → requests_of (option_to_list entry) ≡ asked call
@@ -55,10 +59,49 @@ ending_requests (long_body said) entries text b = ap requests_of b.0
 ending_requests (cut_body had said) entries text b = ap requests_of b.0
 ending_requests (cut_head had) entries text b = ap requests_of b.0
 
-ended_follows : (bytes : List ℕ) (log : List Exchange) (rest : List ℕ) (later : List Entry) (more : List ℕ) (end : ConnEnd) (entries : List Entry)
-    → IsLog bytes log rest → entries ≡ entries_of log ++ later → Ended (length (flat_map exchanged log)) (length log) rest end later more
-    → FollowsReading bytes end entries
-ended_follows bytes log rest later more end entries l e f =
+-- what was sent to the messages of a log are their answers
+call_answered : (call : Result Request Refusal) (entry : Option Entry) (rest : List Entry) → FitsCall call entry
+    → answer_to false call entry ≡ answer_with call (option_to_list entry ++ rest)
+call_answered (Ok request) (Some entry) rest f = refl
+call_answered (Ok request) None rest f = absurd f
+call_answered (Err refused) (Some entry) rest f = absurd f
+call_answered (Err refused) None rest f = refl
+
+call_left : (call : Result Request Refusal) (entry : Option Entry) (rest : List Entry) → FitsCall call entry
+    → entries_behind call (option_to_list entry ++ rest) ≡ rest
+call_left (Ok request) (Some entry) rest f = refl
+call_left (Ok request) None rest f = absurd f
+call_left (Err refused) (Some entry) rest f = absurd f
+call_left (Err refused) None rest f = refl
+
+log_answers : (log : List Exchange) → All IsServed log → log_text log ≡ answers_to (messages_of log) (entries_of log)
+log_answers [] p = refl
+log_answers (x ∷ xs) p =
+    let fits = (All-head IsServed x xs p).fits in
+    ap (λ l. l ++ log_text xs) (call_answered (asks x.message) x.entry (entries_of xs) fits)
+    ∙ ap (λ l. answer_with (asks x.message) (entries_of (x ∷ xs)) ++ l)
+    (log_answers xs (All-tail IsServed x xs p) ∙ ap (answers_to (messages_of xs)) (sym (call_left (asks x.message) x.entry (entries_of xs) fits)))
+
+last_answered : (call : Result Request Refusal) (entry : Option Entry) → FitsCall call entry → answer_to true call entry ≡ last_answer call (option_to_list entry)
+last_answered (Ok request) (Some entry) f = refl
+last_answered (Ok request) None f = absurd f
+last_answered (Err refused) (Some entry) f = absurd f
+last_answered (Err refused) None f = refl
+
+ending_answers : (ending : Ending) (entries : List Entry) (text : List ℕ) → Brings ending entries text → text ≡ text_at ending entries
+ending_answers over entries text b = b.1
+ending_answers (last m) entries text b = b.3 ∙ last_answered (asks m) b.0 b.1 ∙ ap (last_answer (asks m)) (sym b.2)
+ending_answers unframed entries text b = b.1
+ending_answers bad_head entries text b = b.1
+ending_answers long_head entries text b = b.1
+ending_answers (long_body said) entries text b = b.1
+ending_answers (cut_body had said) entries text b = b.1
+ending_answers (cut_head had) entries text b = b.1
+
+ended_follows : (bytes : List ℕ) (log : List Exchange) (rest : List ℕ) (later : List Entry) (more : List ℕ) (end : ConnEnd) (entries : List Entry) (text : List ℕ)
+    → IsLog bytes log rest → entries ≡ entries_of log ++ later → text ≡ log_text log ++ more → Ended (length (flat_map exchanged log)) (length log) rest end later more
+    → FollowsReading bytes end entries text
+ended_follows bytes log rest later more end entries text l e t f =
     let same = log_bytes log in
     let count : length log ≡ length (messages_of log) = sym (length-map log (λ x. x.message)) in
     let F : ℕ → Type 0 = λ n. n < most_messages in
@@ -66,6 +109,8 @@ ended_follows bytes log rest later more end entries l e f =
       messages_of log,
       rest,
       f.0,
+      entries_of log,
+      later,
       record {
         whole = l.whole ∙ ap (λ b. b ++ rest) same;
         each = log_whole log l.each;
@@ -74,19 +119,90 @@ ended_follows bytes log rest later more end entries l e f =
         ends = subst E count f.1;
       },
       sym f.2 ∙ ap (λ b. end_of (length b) f.0) same,
-      ap requests_of e ∙ map-append (λ (x : Entry). x.request) (entries_of log) later
-          ∙ ap (λ r. r ++ requests_of later) (log_requests log l.each)
-          ∙ ap (λ r. requests_in (messages_of log) ++ r) (ending_requests f.0 later more f.3),
+      e,
+      log_requests log l.each,
+      ending_requests f.0 later more f.3,
+      t ∙ ap (λ l. l ++ more) (log_answers log l.each) ∙ ap (λ m. answers_to (messages_of log) (entries_of log) ++ m) (ending_answers f.0 later more f.3),
     )
 
-pub served_follows : (bytes : List ℕ) (end : ConnEnd) (entries : List Entry) (text : List ℕ) → IsStreamEnd end → Served bytes end entries text
-    → FollowsReading bytes end entries
-served_follows bytes (conn.LinkFault way) entries text p s = absurd p
-served_follows bytes conn.Memory entries text p s = absurd p
-served_follows bytes conn.Spent entries text p s = absurd p
-served_follows bytes conn.Closed entries text p s = ended_follows bytes s.0 s.1 s.2 s.3 conn.Closed entries s.4 s.5 s.7
-served_follows bytes (conn.BadHead at) entries text p s = ended_follows bytes s.0 s.1 s.2 s.3 (conn.BadHead at) entries s.4 s.5 s.7
-served_follows bytes conn.HeadTooLong entries text p s = ended_follows bytes s.0 s.1 s.2 s.3 conn.HeadTooLong entries s.4 s.5 s.7
-served_follows bytes (conn.BodyTooLong said) entries text p s = ended_follows bytes s.0 s.1 s.2 s.3 (conn.BodyTooLong said) entries s.4 s.5 s.7
-served_follows bytes (conn.CutOff had said) entries text p s = ended_follows bytes s.0 s.1 s.2 s.3 (conn.CutOff had said) entries s.4 s.5 s.7
-served_follows bytes (conn.HeadCut had) entries text p s = ended_follows bytes s.0 s.1 s.2 s.3 (conn.HeadCut had) entries s.4 s.5 s.7
+broken_follows : (P : ℕ → List ℕ → List Entry → List ℕ → Type 0) (bytes : List ℕ) (log : List Exchange) (rest : List ℕ) (later : List Entry) (more : List ℕ) (entries : List Entry) (text : List ℕ)
+    → IsLog bytes log rest → entries ≡ entries_of log ++ later → text ≡ log_text log ++ more → P (length log) rest later more
+    → FollowsFront P bytes entries text
+broken_follows P bytes log rest later more entries text l e t f =
+    let same = log_bytes log in
+    let count : length log ≡ length (messages_of log) = sym (length-map log (λ x. x.message)) in
+    let F : ℕ → Type 0 = λ n. n < most_messages in
+    let Q : ℕ → Type 0 = λ n. P n rest later more in
+    let whole : bytes ≡ flat_map message_bytes (messages_of log) ++ rest = l.whole ∙ ap (λ b. b ++ rest) same in (
+      messages_of log,
+      rest,
+      entries_of log,
+      later,
+      more,
+      record {
+        whole = whole;
+        each = log_whole log l.each;
+        on = log_on log l.each;
+        few = subst F count l.few;
+        of_reading = λ before left ending reading. front_of_reading bytes (messages_of log) rest before left ending whole (log_whole log l.each) (log_on log l.each) (subst F count l.few) reading;
+      },
+      e,
+      log_requests log l.each,
+      t ∙ ap (λ l. l ++ more) (log_answers log l.each),
+      subst Q count f,
+    )
+
+pub served_follows : (bytes : List ℕ) (end : ConnEnd) (entries : List Entry) (text : List ℕ) → Served bytes end entries text → FollowsCourse bytes end entries text
+served_follows bytes (conn.LinkFault way) entries text s = broken_follows Breaks bytes s.0 s.1 s.2 s.3 entries text s.4 s.5 s.6 s.7
+served_follows bytes conn.Memory entries text s = broken_follows Breaks bytes s.0 s.1 s.2 s.3 entries text s.4 s.5 s.6 s.7
+served_follows bytes conn.Spent entries text s = broken_follows (λ count rest later more. IsRefusedTurn rest later more) bytes s.0 s.1 s.2 s.3 entries text s.4 s.5 s.6 s.7
+served_follows bytes conn.Closed entries text s = ended_follows bytes s.0 s.1 s.2 s.3 conn.Closed entries text s.4 s.5 s.6 s.7
+served_follows bytes (conn.BadHead at) entries text s = ended_follows bytes s.0 s.1 s.2 s.3 (conn.BadHead at) entries text s.4 s.5 s.6 s.7
+served_follows bytes conn.HeadTooLong entries text s = ended_follows bytes s.0 s.1 s.2 s.3 conn.HeadTooLong entries text s.4 s.5 s.6 s.7
+served_follows bytes (conn.BodyTooLong said) entries text s = ended_follows bytes s.0 s.1 s.2 s.3 (conn.BodyTooLong said) entries text s.4 s.5 s.6 s.7
+served_follows bytes (conn.CutOff had said) entries text s = ended_follows bytes s.0 s.1 s.2 s.3 (conn.CutOff had said) entries text s.4 s.5 s.6 s.7
+served_follows bytes (conn.HeadCut had) entries text s = ended_follows bytes s.0 s.1 s.2 s.3 (conn.HeadCut had) entries text s.4 s.5 s.6 s.7
+
+-- a stream of whole messages is closed at its end
+closes_well : (at : ℕ) (ending : Ending) → ClosesWell ending → end_of at ending ≡ conn.Closed
+closes_well at over w = refl
+closes_well at (last m) w = refl
+closes_well at unframed w = absurd w
+closes_well at bad_head w = absurd w
+closes_well at long_head w = absurd w
+closes_well at (long_body said) w = absurd w
+closes_well at (cut_body had said) w = absurd w
+closes_well at (cut_head had) w = absurd w
+
+follows_well : (bytes : List ℕ) (end : ConnEnd) (entries : List Entry) (text : List ℕ) → FollowsReading bytes end entries text → IsOfWhole bytes → end ≡ conn.Closed
+follows_well bytes end entries text f w =
+    let same = readings_agree bytes f.0 w.0 f.1 w.1 f.2 w.2 f.5 w.3 in
+    let at = length (flat_map message_bytes f.0) in
+    f.6 ∙ ap (end_of at) same.1.1 ∙ closes_well at w.2 w.4
+
+pub ends_well : (bytes : List ℕ) (end : ConnEnd) (entries : List Entry) (text : List ℕ) → Served bytes end entries text → IsOfWhole bytes → EndsWell end
+ends_well bytes (conn.LinkFault way) entries text s w = tt
+ends_well bytes conn.Memory entries text s w = tt
+ends_well bytes conn.Spent entries text s w = tt
+ends_well bytes conn.Closed entries text s w = tt
+ends_well bytes (conn.BadHead at) entries text s w =
+    let e : conn.BadHead at ≡ conn.Closed = follows_well bytes (conn.BadHead at) entries text (served_follows bytes (conn.BadHead at) entries text s) w in cc
+ends_well bytes conn.HeadTooLong entries text s w =
+    let e : conn.HeadTooLong ≡ conn.Closed = follows_well bytes conn.HeadTooLong entries text (served_follows bytes conn.HeadTooLong entries text s) w in cc
+ends_well bytes (conn.BodyTooLong said) entries text s w =
+    let e : conn.BodyTooLong said ≡ conn.Closed = follows_well bytes (conn.BodyTooLong said) entries text (served_follows bytes (conn.BodyTooLong said) entries text s) w in cc
+ends_well bytes (conn.CutOff had said) entries text s w =
+    let e : conn.CutOff had said ≡ conn.Closed = follows_well bytes (conn.CutOff had said) entries text (served_follows bytes (conn.CutOff had said) entries text s) w in cc
+ends_well bytes (conn.HeadCut had) entries text s w =
+    let e : conn.HeadCut had ≡ conn.Closed = follows_well bytes (conn.HeadCut had) entries text (served_follows bytes (conn.HeadCut had) entries text s) w in cc
+
+-- where the link tells what comes
+pub told_well : (coming sent sent_now : Option (List ℕ)) (end : ConnEnd) (entries : List Entry)
+    → IfSome coming (λ bytes. Sends sent sent_now (λ text. Served bytes end entries text)) → IfSome coming (λ bytes. IsOfWhole bytes → EndsWell end)
+told_well None sent sent_now end entries h = tt
+told_well (Some bytes) sent sent_now end entries h = λ w. ends_well bytes end entries h.0 h.2 w
+
+-- memory ran out before anything was read
+pub nothing_well : (coming : Option (List ℕ)) → IfSome coming (λ bytes. IsOfWhole bytes → EndsWell conn.Memory)
+nothing_well None = tt
+nothing_well (Some bytes) = λ w. tt

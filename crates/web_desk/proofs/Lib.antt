@@ -1,9 +1,4 @@
 pub mod AnswerLemmas
 pub mod CourseLemmas
-pub mod FieldLemmas
-pub mod HeadLemmas
 pub mod MakerLemmas
-pub mod PathLemmas
-pub mod Readings
-pub mod ReceiptLemmas
 pub mod ServeLemmas

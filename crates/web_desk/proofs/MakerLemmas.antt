@@ -19,7 +19,7 @@ none_told always before now last_before last_now stays = (none_of always, stays)
 -- one was
 pub one_asked : (always : Option ℕ) (before now : ℕ) (last_before last_now : Option (List ℕ)) (entry : Entry) (today : ℕ)
     → entry.day ≡ record { 0 = today } → IfSome always (λ d. today ≡ d)
-    → TellsReply entry.day.0 before now last_before last_now entry.reply → AreAsked always before now last_before last_now (entry ∷ [])
+    → TellsReply entry.request entry.day.0 before now last_before last_now entry.reply → AreAsked always before now last_before last_now (entry ∷ [])
 one_asked always before now last_before last_now entry today day is tells =
     (one_of always entry today day is, (now, last_now, tells, record { count = refl; told = refl }))
 

@@ -1,5 +1,5 @@
 -- One message after another, and then the end.
-use Rattle.std.proofs.Common.{◌≡◌, ℕ, ◌+◌, ◌<◌, Bool, true, false, List, [], ◌∷◌, ◌++◌, length, take, drop, Option, Some, None, IfSome, OnOk, Result, Ok, Err, refl, ap, sym, ◌∙◌, subst, inl, inr, arith, append_assoc, length-append, append-nil, lit<, ◌||◌, ◌==◌}
+use Rattle.std.proofs.Common.{◌≡◌, ℕ, ◌+◌, ◌<◌, Bool, true, false, List, [], ◌∷◌, ◌++◌, length, take, drop, Option, Some, None, IfSome, Result, Ok, Err, refl, ap, sym, ◌∙◌, subst, inl, inr, arith, append_assoc, length-append, append-nil, lit<, ◌||◌, ◌==◌}
 use Rattle.std.proofs.Math.Seq.{take-append_seam, drop-append_seam}
 use Rattle.std.proofs.lemmas.Bool.Decides.{nat_tests}
 use Rattle.std.proofs.lemmas.Grind.{flat_map-append}
@@ -9,20 +9,24 @@ use Rattle.httparse.specs.Grammar.{print_request}
 use Rattle.desk.specs.declared.request.Request.{Request}
 use Rattle.web_desk.specs.declared.conn_end.ConnEnd.{ConnEnd}
 use Rattle.web_desk.specs.declared.conn_end.ConnEnd.TheVariants as conn
-use Rattle.web_desk.specs.declared.head.Head.{Head}
-use Rattle.web_desk.specs.declared.receive.Stop.{Stop}
-use Rattle.web_desk.specs.declared.receive.Stop.TheVariants as stop
-use Rattle.web_desk.specs.declared.refusal.Refusal.{Refusal}
+use Rattle.web_messages.specs.declared.head.Head.{Head}
+use Rattle.web_messages.specs.declared.receive.Stop.{Stop}
+use Rattle.web_messages.specs.declared.receive.Stop.TheVariants as stop
+use Rattle.web_messages.specs.declared.refusal.Refusal.{Refusal}
+use Rattle.web_messages.specs.declared.refusal.Refusal.TheVariants as refusal
+use Rattle.web_desk.specs.Answers.{refusal_message}
 use Rattle.web_desk.specs.Calls.{call_at}
 use Rattle.desk.specs.Entries.{Entry}
-use Rattle.web_desk.specs.Fields.{closes}
-use Rattle.web_desk.specs.Heads.{facts_of}
-use Rattle.web_desk.specs.Receipt.{IsStream, Whatever, IsBroken, ending_of}
+use Rattle.web_messages.specs.Fields.{closes}
+use Rattle.web_messages.specs.Heads.{facts_of}
+use Rattle.web_messages.specs.Receipt.{IsStream, Whatever, ending_of}
 use Rattle.web_desk.specs.Served.{Exchange, IsServed, exchanged, entry_of, answer_of, asks, Finishes, Served, IsLog, entries_of, log_text, AreOf, IsFrontOf, ending_text}
-use Rattle.web_desk.specs.Streams.{Message, message_bytes, IsWhole, is_last, most_messages, last, EndsSo, end_of}
-use Rattle.web_desk.specs.Turns.{ClosesSo, FailsSo, AnswersSo, StepSo}
-use Rattle.web_desk.specs.Unread.{Unread}
-use Rattle.web_desk.proofs.AnswerLemmas.{Sends, day_of}
+use Rattle.web_messages.specs.Streams.{Message, message_bytes, IsWhole, is_last, most_messages, last, EndsSo}
+use Rattle.web_desk.specs.Ends.{IsBroken, end_of}
+use Rattle.web_desk.specs.Sent.{Sends}
+use Rattle.web_desk.specs.Turns.{ClosesSo, FailsSo, AnswersSo, StepSo, Turned, refusal_at}
+use Rattle.web_messages.specs.Unread.{Unread}
+use Rattle.web_desk.proofs.AnswerLemmas.{day_of}
 
 -- only a last message depends on how many came before
 pub ends_at : (count : ℕ) (rest : List ℕ) (s : Stop) → EndsSo 0 rest (ending_of s) → EndsSo count rest (ending_of s)
@@ -151,27 +155,17 @@ after_message m u more rest left total e t r =
     let d : drop total u ≡ more = ap (λ n. drop n u) t ∙ ap (λ l. drop (length (message_bytes m)) l) e ∙ drop-append_seam (message_bytes m) more in
     r ∙ ap (λ l. l ++ left) e ∙ append_assoc (message_bytes m) more left ∙ ap (λ l. message_bytes m ++ (l ++ left)) (sym d)
 
--- what one message, or the end, brings, where the link tells what was sent
-abbrev pub One : Option (List ℕ) → Option (List ℕ) → Option (List ℕ) → Unread → ℕ → ℕ → List ℕ → Result ℕ ConnEnd → List Entry → Type 0
-One sent sent_now coming_now u_now at count rest result entries =
-    IfSome sent (λ before. (text : List ℕ) × (rest_now : List ℕ) × (sent_now ≡ Some (before ++ text))
-    × OnOk result (IsStream coming_now u_now rest_now) × StepSo at count rest rest_now result entries text)
-
 pub one_end : (sent sent_now coming_now : Option (List ℕ)) (u_now : Unread) (at count : ℕ) (rest : List ℕ) (result : Result ℕ ConnEnd) (end : ConnEnd) (entries : List Entry)
     → result ≡ Err end → Sends sent sent_now (λ text. Finishes at count rest end entries text)
-    → One sent sent_now coming_now u_now at count rest result entries
-one_end None sent_now coming_now u_now at count rest result end entries e p = tt
-one_end (Some before) sent_now coming_now u_now at count rest result end entries e p =
-    let P : Result ℕ ConnEnd → Type 0 = λ r.
-    (text : List ℕ) × (rest_now : List ℕ) × (sent_now ≡ Some (before ++ text))
-    × OnOk r (IsStream coming_now u_now rest_now) × StepSo at count rest rest_now r entries text in
-    subst P (sym e) (p.0, [], p.1, tt, p.2)
+    → Turned sent sent_now coming_now u_now at count rest result entries
+one_end sent sent_now coming_now u_now at count rest result end entries e p =
+    let P : Result ℕ ConnEnd → Type 0 = λ r. Turned sent sent_now coming_now u_now at count rest r entries in
+    subst P (sym e) ([], tt, p)
 
 pub one_on : (sent sent_now coming_now : Option (List ℕ)) (u_now : Unread) (at count size : ℕ) (rest rest_now : List ℕ) (entries : List Entry)
     → IsStream coming_now u_now rest_now → Sends sent sent_now (λ text. StepSo at count rest rest_now (Ok size) entries text)
-    → One sent sent_now coming_now u_now at count rest (Ok size) entries
-one_on None sent_now coming_now u_now at count size rest rest_now entries s p = tt
-one_on (Some before) sent_now coming_now u_now at count size rest rest_now entries s p = (p.0, rest_now, p.1, s, p.2)
+    → Turned sent sent_now coming_now u_now at count rest (Ok size) entries
+one_on sent sent_now coming_now u_now at count size rest rest_now entries s p = (rest_now, s, p)
 
 -- the same answer, of equal parts
 pub told_as : (sent_old sent sent_now : Option (List ℕ)) (closing closing_now : Bool) (call call_now : Result Request Refusal)
@@ -199,70 +193,80 @@ after_use coming coming_now u u_now rest total a e stream =
 -- the messages so far, their entries, and what was sent
 abbrev pub Ran : Option (List ℕ) → Option (List ℕ) → Option (List ℕ) → Option (List ℕ) → Unread → ℕ → ℕ → List Entry → Type 0
 Ran coming sent coming_now sent_now u at count entries =
-    IfSome coming (λ bytes. IfSome sent (λ before. (log : List Exchange) × (rest : List ℕ) × IsStream coming_now u rest × IsLog bytes log rest
-    × (entries ≡ entries_of log) × (sent_now ≡ Some (before ++ log_text log)) × (at ≡ length (flat_map exchanged log)) × (count ≡ length log)))
+    IfSome coming (λ bytes. (log : List Exchange) × (rest : List ℕ) × IsStream coming_now u rest × IsLog bytes log rest
+    × (entries ≡ entries_of log) × IfSome sent (λ before. sent_now ≡ Some (before ++ log_text log)) × (at ≡ length (flat_map exchanged log)) × (count ≡ length log))
+
+-- nothing was sent yet
+none_sent : (sent : Option (List ℕ)) → IfSome sent (λ before. sent ≡ Some (before ++ []))
+none_sent None = tt
+none_sent (Some before) = ap Some (sym (append-nil before))
+
+-- some bytes were sent, and others after them
+sent_on : (sent sent_now sent_next : Option (List ℕ)) (first more : List ℕ) → IfSome sent (λ before. sent_now ≡ Some (before ++ first))
+    → IfSome sent_now (λ before. sent_next ≡ Some (before ++ more)) → IfSome sent (λ before. sent_next ≡ Some (before ++ (first ++ more)))
+sent_on None sent_now sent_next first more p q = tt
+sent_on (Some before) sent_now sent_next first more p q =
+    let Q : Option (List ℕ) → Type 0 = λ o. IfSome o (λ b. sent_next ≡ Some (b ++ more)) in
+    subst Q p q ∙ ap Some (append_assoc before first more)
 
 pub ran_start : (coming sent : Option (List ℕ)) → Ran coming sent coming sent (record { bytes = []; ended = false }) 0 0 []
 ran_start None sent = tt
-ran_start (Some bytes) None = tt
-ran_start (Some bytes) (Some before) = (
+ran_start (Some bytes) sent = (
   [],
   bytes,
   (bytes, refl, refl, λ f. absurd (cc (f))),
   record { whole = refl; each = All-nil IsServed; few = lit< tt },
   refl,
-  ap Some (sym (append-nil before)),
+  none_sent sent,
   refl,
   refl,
 )
 
 pub ran_more : (coming sent coming_now sent_now coming_next sent_next : Option (List ℕ)) (u u_next : Unread) (at count size : ℕ) (entries later : List Entry)
     → Ran coming sent coming_now sent_now u at count entries
-    → ((rest : List ℕ) → IsStream coming_now u rest → One sent_now sent_next coming_next u_next at count rest (Ok size) later)
+    → ((rest : List ℕ) → IsStream coming_now u rest → Turned sent_now sent_next coming_next u_next at count rest (Ok size) later)
     → Ran coming sent coming_next sent_next u_next (at + size) (count + 1) (entries ++ later)
 ran_more None sent coming_now sent_now coming_next sent_next u u_next at count size entries later p f = tt
-ran_more (Some bytes) None coming_now sent_now coming_next sent_next u u_next at count size entries later p f = tt
-ran_more (Some bytes) (Some before) coming_now sent_now coming_next sent_next u u_next at count size entries later p f =
+ran_more (Some bytes) sent coming_now sent_now coming_next sent_next u u_next at count size entries later p f =
     let log = p.0 in
-    let P : Option (List ℕ) → Type 0 = λ o. One o sent_next coming_next u_next at count p.1 (Ok size) later in
-    let one = subst P p.5 (f p.1 p.2) in
-    let step = one.4 in
+    let turned = f p.1 p.2 in
+    let more = turned.2 in
+    let step = more.2 in
     let x = step.0 in
     let longer : length (log ++ x ∷ []) ≡ length log + 1 = length-append log (x ∷ []) ∙ (let k : length log + length (x ∷ []) ≡ length log + 1 = omega arith in k) in
     let bytes_of : flat_map exchanged (log ++ x ∷ []) ≡ flat_map exchanged log ++ exchanged x = flat_map-append exchanged log (x ∷ []) ∙ ap (λ t. flat_map exchanged log ++ t) (append-nil (exchanged x)) in
     let all_entries : entries_of (log ++ x ∷ []) ≡ entries_of log ++ entry_of x = flat_map-append entry_of log (x ∷ []) ∙ ap (λ t. entries_of log ++ t) (append-nil (entry_of x)) in
     let all_text : log_text (log ++ x ∷ []) ≡ log_text log ++ answer_of false x = flat_map-append (answer_of false) log (x ∷ []) ∙ ap (λ t. log_text log ++ t) (append-nil (answer_of false x)) in (
       log ++ x ∷ [],
-      one.1,
-      one.3,
+      turned.0,
+      turned.1,
       record {
         whole =
-            p.3.whole ∙ ap (λ t. flat_map exchanged log ++ t) step.2 ∙ sym (append_assoc (flat_map exchanged log) (exchanged x) one.1)
-            ∙ ap (λ t. t ++ one.1) (sym bytes_of);
+            p.3.whole ∙ ap (λ t. flat_map exchanged log ++ t) step.2 ∙ sym (append_assoc (flat_map exchanged log) (exchanged x) turned.0)
+            ∙ ap (λ t. t ++ turned.0) (sym bytes_of);
         each = All-push IsServed log x p.3.each step.1;
         few = omega (arith, longer, step.6, p.7);
       },
       ap (λ t. t ++ later) p.4 ∙ ap (λ t. entries_of log ++ t) step.4 ∙ sym all_entries,
-      one.2 ∙ ap Some (append_assoc before (log_text log) one.0 ∙ ap (λ t. before ++ (log_text log ++ t)) step.5 ∙ ap (λ t. before ++ t) (sym all_text)),
+      (let S : List ℕ → Type 0 = λ t. IfSome sent (λ before. sent_next ≡ Some (before ++ t)) in
+          subst S (ap (λ t. log_text log ++ t) step.5 ∙ sym all_text) (sent_on sent sent_now sent_next (log_text log) more.0 p.5 more.1)),
       omega (arith, p.6, step.3, ap length bytes_of, length-append (flat_map exchanged log) (exchanged x)),
       omega (arith, longer, p.7),
     )
 
 pub served_end : (coming sent coming_now sent_now coming_next sent_next : Option (List ℕ)) (u u_next : Unread) (at count : ℕ) (end : ConnEnd) (entries later : List Entry)
     → Ran coming sent coming_now sent_now u at count entries
-    → ((rest : List ℕ) → IsStream coming_now u rest → One sent_now sent_next coming_next u_next at count rest (Err end) later)
-    → IfSome coming (λ bytes. IfSome sent (λ before. (text : List ℕ) × (sent_next ≡ Some (before ++ text)) × Served bytes end (entries ++ later) text))
+    → ((rest : List ℕ) → IsStream coming_now u rest → Turned sent_now sent_next coming_next u_next at count rest (Err end) later)
+    → IfSome coming (λ bytes. Sends sent sent_next (λ text. Served bytes end (entries ++ later) text))
 served_end None sent coming_now sent_now coming_next sent_next u u_next at count end entries later p f = tt
-served_end (Some bytes) None coming_now sent_now coming_next sent_next u u_next at count end entries later p f = tt
-served_end (Some bytes) (Some before) coming_now sent_now coming_next sent_next u u_next at count end entries later p f =
+served_end (Some bytes) sent coming_now sent_now coming_next sent_next u u_next at count end entries later p f =
     let log = p.0 in
-    let P : Option (List ℕ) → Type 0 = λ o. One o sent_next coming_next u_next at count p.1 (Err end) later in
-    let one = subst P p.5 (f p.1 p.2) in
-    let A : ℕ → Type 0 = λ n. Finishes n count p.1 end later one.0 in
-    let C : ℕ → Type 0 = λ n. Finishes (length (flat_map exchanged log)) n p.1 end later one.0 in (
-      log_text log ++ one.0,
-      one.2 ∙ ap Some (append_assoc before (log_text log) one.0),
-      (log, p.1, later, one.0, p.3, ap (λ t. t ++ later) p.4, refl, subst C p.7 (subst A p.6 one.4)),
+    let more = (f p.1 p.2).2 in
+    let A : ℕ → Type 0 = λ n. Finishes n count p.1 end later more.0 in
+    let C : ℕ → Type 0 = λ n. Finishes (length (flat_map exchanged log)) n p.1 end later more.0 in (
+      log_text log ++ more.0,
+      sent_on sent sent_now sent_next (log_text log) more.0 p.5 more.1,
+      (log, p.1, later, more.0, p.3, ap (λ t. t ++ later) p.4, refl, subst C p.7 (subst A p.6 more.2)),
     )
 
 -- entries of one day, and more of it
@@ -273,8 +277,39 @@ days_more (Some d) entries later p q = All-append (λ (x : Entry). x.day ≡ day
 
 -- memory ran out before anything was read
 pub served_nothing : (coming sent : Option (List ℕ))
-    → IfSome coming (λ bytes. IfSome sent (λ before. (text : List ℕ) × (sent ≡ Some (before ++ text)) × Served bytes conn.Memory [] text))
+    → IfSome coming (λ bytes. Sends sent sent (λ text. Served bytes conn.Memory [] text))
 served_nothing None sent = tt
-served_nothing (Some bytes) None = tt
-served_nothing (Some bytes) (Some before) =
-    ([], ap Some (sym (append-nil before)), ([], bytes, [], [], record { whole = refl; each = All-nil IsServed; few = lit< tt }, refl, refl, inl (refl, refl)))
+served_nothing (Some bytes) sent =
+    ([], none_sent sent, ([], bytes, [], [], record { whole = refl; each = All-nil IsServed; few = lit< tt }, refl, refl, inl (refl, refl)))
+
+-- where the link tells both what came and what was sent, its bytes are those
+pub told_both : (coming sent sent_now : Option (List ℕ)) (P : List ℕ → List ℕ → Type 0) → IfSome coming (λ bytes. Sends sent sent_now (λ text. P bytes text))
+    → IfSome coming (λ bytes. IfSome sent (λ before. (text : List ℕ) × (sent_now ≡ Some (before ++ text)) × P bytes text))
+told_both None sent sent_now P h = tt
+told_both (Some bytes) None sent_now P h = tt
+told_both (Some bytes) (Some before) sent_now P h = (h.0, h.1, h.2)
+
+-- where the reading stopped and nothing is replied, nothing belongs to the end
+pub stop_silent : (s : Stop) → None ≡ refusal_at s → ending_text (ending_of s) ≡ []
+stop_silent stop.Over h = refl
+stop_silent stop.Unframed h = absurd (cc h)
+stop_silent stop.BadHead h = absurd (cc h)
+stop_silent stop.LongHead h = absurd (cc h)
+stop_silent (stop.LongBody said) h = absurd (cc h)
+stop_silent (stop.CutBody had said) h = refl
+stop_silent (stop.CutHead had) h = refl
+
+said_by : (r given : Refusal) → Some r ≡ Some given → refusal_message true given ≡ refusal_message true r
+said_by r given h =
+    let e : r ≡ given = cc in
+    ap (refusal_message true) (sym e)
+
+-- else that refusal does
+pub stop_says : (s : Stop) (r : Refusal) → Some r ≡ refusal_at s → ending_text (ending_of s) ≡ refusal_message true r
+stop_says stop.Over r h = absurd (cc h)
+stop_says stop.Unframed r h = said_by r refusal.Message h
+stop_says stop.BadHead r h = said_by r refusal.Message h
+stop_says stop.LongHead r h = said_by r refusal.Head h
+stop_says (stop.LongBody said) r h = said_by r refusal.Body h
+stop_says (stop.CutBody had said) r h = absurd (cc h)
+stop_says (stop.CutHead had) r h = absurd (cc h)

@@ -3,15 +3,25 @@ use Rattle.std.specs.Prelude.{ℕ, Bool, true, false, List, [], ◌∷◌, ◌++
 use Rattle.std.specs.Option.{unwrap_or}
 use Rattle.std.specs.Fmt.{decimal}
 use Rattle.http.specs.StatusCode.{reason_phrase}
+use Rattle.csv_rules.specs.declared.faults.RulesFault.{RulesFault}
+use Rattle.csv_rules.specs.declared.faults.RulesFault.TheVariants as rules_fault
+use Rattle.csv_entries.specs.declared.faults.ConvertFault.{ConvertFault}
+use Rattle.csv_entries.specs.declared.faults.ConvertFault.TheVariants as convert_fault
+use Rattle.desk.specs.declared.csv_fault.CsvFault.{CsvFault}
+use Rattle.desk.specs.declared.csv_fault.CsvFault.TheVariants as csv_fault
 use Rattle.desk.specs.declared.request.Request.{Request}
 use Rattle.desk.specs.declared.reply.Reply.{Reply}
 use Rattle.desk.specs.declared.reply.Reply.TheVariants as reply
+use Rattle.generated.specs.declared.fault.GenFault.{GenFault}
+use Rattle.generated.specs.declared.fault.GenFault.TheVariants as gen_fault
+use Rattle.plan_commands.specs.declared.fault.PlanFault.{PlanFault}
+use Rattle.plan_commands.specs.declared.fault.PlanFault.TheVariants as plan_fault
 use Rattle.report_cells.specs.declared.fault.ReportFault.{ReportFault}
 use Rattle.report_cells.specs.declared.fault.ReportFault.TheVariants as report
 use Rattle.report_commands.specs.declared.fault.WordsFault.{WordsFault}
 use Rattle.report_commands.specs.declared.fault.WordsFault.TheVariants as words
-use Rattle.web_desk.specs.declared.refusal.Refusal.{Refusal}
-use Rattle.web_desk.specs.declared.refusal.Refusal.TheVariants as refusal
+use Rattle.web_messages.specs.declared.refusal.Refusal.{Refusal}
+use Rattle.web_messages.specs.declared.refusal.Refusal.TheVariants as refusal
 use Rattle.desk.specs.Entries.{Entry}
 use Rattle.web_desk.specs.Lines.{ended, body_of}
 
@@ -96,6 +106,34 @@ words_status (words.PatternRefused word) = 400
 words_status (words.Report fault) = report_status fault
 words_status words.Memory = 500
 
+abbrev pub gen_status : GenFault → ℕ
+gen_status (gen_fault.Journal fault) = 400
+gen_status (gen_fault.BadTerm line) = 400
+gen_status (gen_fault.PatternRefused line) = 400
+gen_status (gen_fault.TooMany count limit) = 400
+gen_status gen_fault.Memory = 500
+
+abbrev pub plan_status : PlanFault → ℕ
+plan_status (plan_fault.Words fault) = words_status fault
+plan_status (plan_fault.Generated fault) = gen_status fault
+
+abbrev pub rules_status : RulesFault → ℕ
+rules_status (rules_fault.BadRule line) = 422
+rules_status (rules_fault.PatternRefused line) = 422
+rules_status rules_fault.Memory = 500
+
+abbrev pub convert_status : ConvertFault → ℕ
+convert_status (convert_fault.BadRecord n) = 422
+convert_status (convert_fault.NoDate n) = 422
+convert_status (convert_fault.NoAmount n) = 422
+convert_status (convert_fault.TwoAmounts n) = 422
+convert_status (convert_fault.CsvRefused n) = 422
+convert_status convert_fault.Memory = 500
+
+abbrev pub csv_status : CsvFault → ℕ
+csv_status (csv_fault.Rules fault) = rules_status fault
+csv_status (csv_fault.Convert fault) = convert_status fault
+
 abbrev pub status_of : Reply → ℕ
 status_of (reply.Done revision) = 200
 status_of (reply.Same revision) = 200
@@ -108,7 +146,8 @@ status_of (reply.NotTransactions line) = 400
 status_of (reply.Load fault) = 422
 status_of (reply.TooLarge limit size) = 413
 status_of (reply.DiskFault before after) = 503
-status_of (reply.Words fault) = words_status fault
+status_of (reply.Words fault) = plan_status fault
+status_of (reply.Csv fault) = csv_status fault
 status_of (reply.Full size limit) = 507
 status_of reply.Memory = 500
 

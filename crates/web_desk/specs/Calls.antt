@@ -1,43 +1,18 @@
 -- What a message asks of the desk, or why it is refused without the desk.
-use Rattle.std.specs.Prelude.{ℕ, List, [], ◌∷◌, ◌==◌, Option, Some, None, Result, Ok, Err, if◌then◌else◌, codes}
-use Rattle.std.specs.List.{before_first, after_first}
-use Rattle.std.specs.Str.{bytes_eq}
+use Rattle.std.specs.Prelude.{ℕ, List, [], ◌∷◌, Option, Some, None, Result, Ok, Err, codes}
 use Rattle.httparse.specs.Grammar.{RequestHead}
 use Rattle.desk.specs.declared.request.Request.{Request}
-use Rattle.desk.specs.declared.request.Request.TheVariants.{Report, Download, Add}
+use Rattle.desk.specs.declared.request.Request.TheVariants.{Report, Download, Add, Replace}
 use Rattle.report_options.specs.declared.command.Command.{Command}
 use Rattle.report_options.specs.declared.command.Command.TheVariants as commands
-use Rattle.web_desk.specs.declared.form.Parameter.{Parameter}
-use Rattle.web_desk.specs.declared.refusal.Refusal.{Refusal}
-use Rattle.web_desk.specs.declared.refusal.Refusal.TheVariants as refusal
-use Rattle.web_desk.specs.declared.resource.Resource.{Resource}
-use Rattle.web_desk.specs.declared.resource.Resource.TheVariants as resource
-use Rattle.web_desk.specs.declared.route.Route.{Route}
-use Rattle.web_desk.specs.declared.route.Route.TheVariants as route
-use Rattle.web_desk.specs.Forms.{parameters_of, only_value, all_values}
-use Rattle.web_desk.specs.Paths.{resource_at}
-
--- a target is a path and, after the first question mark, a query
-abbrev pub path_of : List ℕ → List ℕ
-path_of target = before_first (λ b. b == 63) target
-
-abbrev pub query_of : List ℕ → List ℕ
-query_of target = after_first (λ b. b == 63) target
-
--- a route that is taken by this method alone
-abbrev pub by_method : List ℕ → List ℕ → Route → Refusal → Route
-by_method method wanted found refused = if bytes_eq method wanted then found else route.Refused refused
-
--- where a method leads at what a path names
-abbrev pub route_at : List ℕ → Option Resource → Route
-route_at method None = route.Refused refusal.Path
-route_at method (Some (resource.Report command)) = by_method method (codes "GET") (route.Report command) refusal.GetOnly
-route_at method (Some resource.Download) = by_method method (codes "GET") route.Download refusal.GetOnly
-route_at method (Some resource.Add) = by_method method (codes "POST") route.Add refusal.PostOnly
-
--- where a method and a path lead
-abbrev pub route_of : List ℕ → List ℕ → Route
-route_of method path = route_at method (resource_at path)
+use Rattle.web_messages.specs.declared.form.Parameter.{Parameter}
+use Rattle.web_messages.specs.declared.refusal.Refusal.{Refusal}
+use Rattle.web_messages.specs.declared.refusal.Refusal.TheVariants as refusal
+use Rattle.web_messages.specs.declared.route.Route.{Route}
+use Rattle.web_messages.specs.declared.route.Route.TheVariants as route
+use Rattle.web_desk.specs.Edits.{edit_of, import_of}
+use Rattle.web_messages.specs.Forms.{parameters_of, number_in, only_value, all_values}
+use Rattle.web_messages.specs.Routes.{route_of, path_of, query_of}
 
 -- the parameters were as they have to be, or the form is refused
 abbrev pub formed : {X : Type 0} → Option X → (X → Request) → Result Request Refusal
@@ -64,11 +39,15 @@ abbrev pub report_of : Command → List (List ℕ) → Request
 report_of command words = Report (word_of command ∷ words)
 
 -- What a message asks: GET of a report's path has the words after its command in its parameters q, in order; GET /download
--- has no parameter; and POST /add has the entry as the one parameter of its body.
+-- has no parameter; POST /add has the entry as the one parameter of its body; POST /edit and POST /import have their forms in
+-- it; and POST /upload has the base as the one parameter of its query, and its body is the text.
 abbrev pub call_at : Route → List ℕ → List ℕ → Result Request Refusal
 call_at (route.Report command) query body = formed (all_values (codes "q") (parameters_of query)) (report_of command)
 call_at route.Download query body = if_none (parameters_of query) (Ok Download)
 call_at route.Add query body = if_none (parameters_of query) (formed (only_value (codes "entry") (parameters_of body)) Add)
+call_at route.Edit query body = if_none (parameters_of query) (edit_of (parameters_of body))
+call_at route.Upload query body = formed (number_in (only_value (codes "base") (parameters_of query))) (λ base. Replace base body)
+call_at route.Import query body = if_none (parameters_of query) (import_of (parameters_of body))
 call_at (route.Refused refused) query body = Err refused
 
 abbrev pub call_of : RequestHead → List ℕ → Result Request Refusal

@@ -4,13 +4,14 @@ use Rattle.std.specs.List.{flat_map}
 use Rattle.desk.specs.declared.request.Request.{Request}
 use Rattle.web_desk.specs.declared.conn_end.ConnEnd.{ConnEnd}
 use Rattle.web_desk.specs.declared.conn_end.ConnEnd.TheVariants as conn
-use Rattle.web_desk.specs.declared.refusal.Refusal.{Refusal}
-use Rattle.web_desk.specs.declared.refusal.Refusal.TheVariants as refusal
+use Rattle.web_messages.specs.declared.refusal.Refusal.{Refusal}
+use Rattle.web_messages.specs.declared.refusal.Refusal.TheVariants as refusal
 use Rattle.web_desk.specs.Answers.{answer_to, refusal_message}
 use Rattle.web_desk.specs.Calls.{call_of}
 use Rattle.desk.specs.Entries.{Entry}
-use Rattle.web_desk.specs.Fields.{closes}
-use Rattle.web_desk.specs.Streams.{Message, message_bytes, IsWhole, is_last, most_messages, Ending, over, last, unframed, bad_head, long_head, long_body, cut_body, cut_head, EndsSo, end_of}
+use Rattle.web_messages.specs.Fields.{closes}
+use Rattle.web_messages.specs.Streams.{Message, message_bytes, IsWhole, is_last, most_messages, Ending, over, last, unframed, bad_head, long_head, long_body, cut_body, cut_head, EndsSo}
+use Rattle.web_desk.specs.Ends.{end_of}
 
 -- a message with its entry, where it asked the desk
 pub record Exchange : Type 0 where

@@ -1,17 +1,20 @@
 -- What one message, or one end, brings.
-use Rattle.std.specs.Prelude.{◌≡◌, ◌⊎◌, ℕ, ◌+◌, ◌<◌, Bool, false, List, [], ◌++◌, length, Option, Some, None, Result, Ok, Err, option_to_list}
+use Rattle.std.specs.Prelude.{◌≡◌, ◌⊎◌, ℕ, ◌+◌, ◌<◌, Bool, false, List, [], ◌++◌, length, Option, Some, None, OnOk, Result, Ok, Err, option_to_list}
 use Rattle.desk.specs.declared.request.Request.{Request}
 use Rattle.web_desk.specs.declared.conn_end.ConnEnd.{ConnEnd}
 use Rattle.web_desk.specs.declared.conn_end.ConnEnd.TheVariants as conn
-use Rattle.web_desk.specs.declared.receive.Stop.{Stop}
-use Rattle.web_desk.specs.declared.receive.Stop.TheVariants as stop
-use Rattle.web_desk.specs.declared.refusal.Refusal.{Refusal}
-use Rattle.web_desk.specs.declared.refusal.Refusal.TheVariants as refusal
+use Rattle.web_messages.specs.declared.receive.Stop.{Stop}
+use Rattle.web_messages.specs.declared.receive.Stop.TheVariants as stop
+use Rattle.web_messages.specs.declared.refusal.Refusal.{Refusal}
+use Rattle.web_messages.specs.declared.refusal.Refusal.TheVariants as refusal
 use Rattle.web_desk.specs.Answers.{answer_to}
 use Rattle.desk.specs.Entries.{Entry}
-use Rattle.web_desk.specs.Receipt.{IsBroken, ending_of}
+use Rattle.web_messages.specs.Receipt.{IsStream, ending_of}
+use Rattle.web_desk.specs.Sent.{Sends}
 use Rattle.web_desk.specs.Served.{FitsCall, IsFrontOf, Finishes, Exchange, IsServed, exchanged, entry_of, answer_of, ending_text}
-use Rattle.web_desk.specs.Streams.{end_of, most_messages}
+use Rattle.web_messages.specs.Streams.{most_messages}
+use Rattle.web_desk.specs.Ends.{IsBroken, end_of}
+use Rattle.web_messages.specs.Unread.{Unread}
 
 -- the refusal that is sent where the reading stopped, if there is one
 abbrev pub refusal_at : Stop → Option Refusal
@@ -66,3 +69,9 @@ StepSo at count rest rest_now (Ok size) entries text =
     (x : Exchange) × IsServed x × (rest ≡ exchanged x ++ rest_now) × (size ≡ length (exchanged x))
     × (entries ≡ entry_of x) × (text ≡ answer_of false x) × (count + 1 < most_messages)
 StepSo at count rest rest_now (Err end) entries text = Finishes at count rest end entries text
+
+-- The same, with what was sent, and with the rest of the stream as it is to come then.
+abbrev pub Turned : Option (List ℕ) → Option (List ℕ) → Option (List ℕ) → Unread → ℕ → ℕ → List ℕ → Result ℕ ConnEnd → List Entry → Type 0
+Turned sent sent_now coming_now u_now at count rest result entries =
+    (rest_now : List ℕ) × OnOk result (IsStream coming_now u_now rest_now)
+    × Sends sent sent_now (λ text. StepSo at count rest rest_now result entries text)

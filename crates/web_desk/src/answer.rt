@@ -1,18 +1,22 @@
 //! The bytes of replies.
 ghost use Rattle.std.specs.Prelude.{◌≡◌, ◌++◌, IfOk, None, []};
 ghost use Rattle.std.specs.String.{string_bytes};
-ghost use Rattle.web_desk.specs.Answers.{message, phrase_of, status_line, opening_text, head_text, revision_field, closing_field, refusal_status, refusal_line, allow_field, refusal_message, report_status, words_status, status_of, said_revision, reply_message};
+ghost use Rattle.web_desk.specs.Answers.{message, phrase_of, status_line, opening_text, head_text, revision_field, closing_field, refusal_status, refusal_line, allow_field, refusal_message, report_status, words_status, gen_status, plan_status, rules_status, convert_status, csv_status, status_of, said_revision, reply_message};
 
-use crate::lines::line_of;
-use crate::refusal::Refusal;
+use crate::lines::{line_of, plan_fault_line};
 use book::print_fault;
-use desk::Reply;
+use csv_entries::ConvertFault;
+use csv_rules::RulesFault;
+use desk::{CsvFault, Reply};
+use generated::GenFault;
 use hl_base::{Bytes, Memory};
 use http::StatusCode;
+use plan_commands::PlanFault;
 use report_cells::ReportFault;
 use report_commands::WordsFault;
 use std::alloc::Global;
 use std::string::ToString;
+use web_messages::refusal::Refusal;
 
 /// The phrase of a status.
 #[tactic(auto, unfolding(crate::specs::Answers::phrase_of))]
@@ -189,6 +193,65 @@ fn words_code(fault: &WordsFault) -> StatusCode
     }
 }
 
+/// The status of rules of a text that make no book.
+fn gen_code(fault: &GenFault) -> StatusCode
+    ensures { result ≡ gen_status fault.now }
+{
+    match fault {
+        GenFault::Journal(_)
+        | GenFault::BadTerm { .. }
+        | GenFault::PatternRefused { .. }
+        | GenFault::TooMany { .. } => StatusCode::BAD_REQUEST,
+        GenFault::Memory => StatusCode::INTERNAL_SERVER_ERROR,
+    }
+}
+
+/// The status of a report that isn't made, for its words or for the rules of its text.
+fn plan_code(fault: &PlanFault) -> StatusCode
+    ensures { result ≡ plan_status fault.now }
+{
+    match fault {
+        PlanFault::Words(fault) => words_code(fault),
+        PlanFault::Generated(fault) => gen_code(fault),
+    }
+}
+
+/// The status of rules that don't read.
+fn rules_code(fault: &RulesFault) -> StatusCode
+    ensures { result ≡ rules_status fault.now }
+{
+    match fault {
+        RulesFault::BadRule { .. } | RulesFault::PatternRefused { .. } => {
+            StatusCode::UNPROCESSABLE_ENTITY
+        }
+        RulesFault::Memory => StatusCode::INTERNAL_SERVER_ERROR,
+    }
+}
+
+/// The status of a record that is refused.
+fn convert_code(fault: &ConvertFault) -> StatusCode
+    ensures { result ≡ convert_status fault.now }
+{
+    match fault {
+        ConvertFault::BadRecord { .. }
+        | ConvertFault::NoDate { .. }
+        | ConvertFault::NoAmount { .. }
+        | ConvertFault::TwoAmounts { .. }
+        | ConvertFault::CsvRefused { .. } => StatusCode::UNPROCESSABLE_ENTITY,
+        ConvertFault::Memory => StatusCode::INTERNAL_SERVER_ERROR,
+    }
+}
+
+/// The status of a file that becomes no entries.
+fn csv_code(fault: &CsvFault) -> StatusCode
+    ensures { result ≡ csv_status fault.now }
+{
+    match fault {
+        CsvFault::Rules(fault) => rules_code(fault),
+        CsvFault::Convert(fault) => convert_code(fault),
+    }
+}
+
 /// The status of a reply.
 fn reply_code(reply: &Reply) -> StatusCode
     ensures { result ≡ status_of reply.now }
@@ -198,7 +261,8 @@ fn reply_code(reply: &Reply) -> StatusCode
         Reply::BadBase { .. } | Reply::NoSuchItem { .. } | Reply::NotTransactions { .. } => {
             StatusCode::BAD_REQUEST
         }
-        Reply::Words(fault) => words_code(fault),
+        Reply::Words(fault) => plan_code(fault),
+        Reply::Csv(fault) => csv_code(fault),
         Reply::Memory => StatusCode::INTERNAL_SERVER_ERROR,
         Reply::Forbidden { .. } => StatusCode::FORBIDDEN,
         Reply::Stale { .. } => StatusCode::CONFLICT,
@@ -237,6 +301,10 @@ pub fn desk_reply(
         }
         Reply::Load(fault) => {
             let line = print_fault(alloc, fault)?;
+            reply_bytes(alloc, status, said, "", closing, line.as_slice())
+        }
+        Reply::Words(fault) => {
+            let line = plan_fault_line(alloc, fault)?;
             reply_bytes(alloc, status, said, "", closing, line.as_slice())
         }
         _ => {

@@ -35,7 +35,7 @@ pub trait Ask {
         requires { IsDay day.0 }
         ensures answered { IfOk result (λ answer. leads self.old
             (record { request = request.now; day = day; reply = answer.0; revision = answer.1 } ∷ []) self.new) }
-        ensures maker { TellsAnswer day.0 (M.refusals maker.old) (M.refusals maker.new)
+        ensures maker { TellsAnswer request.now day.0 (M.refusals maker.old) (M.refusals maker.new)
             (M.last_refused maker.old) (M.last_refused maker.new) result }
         ensures spent { OnErr result (leads self.old [] self.new) }
         ensures shown { OnErr result (IsSpent self.new) };

@@ -1,12 +1,17 @@
 //! The lines in which replies say what was done, or why not.
 ghost use Rattle.std.specs.Prelude.{◌≡◌, IfOk};
 ghost use Rattle.std.specs.String.{string_bytes};
-ghost use Rattle.web_desk.specs.Lines.{two_numbers, ended, allow_word, usage_line, conflict_line, report_line, words_line, body_of, IsLine};
-ghost use Rattle.std.specs.Prelude.{codes, ◌++◌};
+ghost use Rattle.web_desk.specs.Lines.{two_numbers, ended, allow_word, usage_line, conflict_line, report_line, words_line, gen_line, plan_line, rules_line, convert_line, csv_line, body_of, IsLine};
+ghost use Rattle.std.specs.Prelude.{◌++◌};
 ghost use Rattle.std.specs.Fmt.{decimal};
 
-use desk::{Allow, Reply};
-use hl_base::{Memory, Text};
+use book::print_fault;
+use csv_entries::ConvertFault;
+use csv_rules::RulesFault;
+use desk::{Allow, CsvFault, Reply};
+use generated::GenFault;
+use hl_base::{Bytes, Memory, Text};
+use plan_commands::PlanFault;
 use report_cells::ReportFault;
 use report_commands::WordsFault;
 use std::alloc::Global;
@@ -125,6 +130,88 @@ fn words_fault_line(alloc: Global, fault: &WordsFault) -> Result<String, Memory>
     }
 }
 
+/// A line as bytes.
+fn bytes_of(line: String) -> Bytes
+    ensures { result ≡ string_bytes line }
+{
+    Bytes::from_vec(line.into_bytes())
+}
+
+/// Why the rules of a text make no book.
+fn gen_fault_line(alloc: Global, fault: &GenFault) -> Result<Bytes, Memory>
+    ensures { IfOk result (λ line. line ≡ gen_line fault.now) }
+{
+    match fault {
+        GenFault::Journal(fault) => print_fault(alloc, fault),
+        GenFault::BadTerm { line } => {
+            let text = one_number_line(alloc, "error: rule line ", *line, "\n")?;
+            Ok(bytes_of(text))
+        }
+        GenFault::PatternRefused { line } => {
+            let text = one_number_line(alloc, "error: rule pattern line ", *line, "\n")?;
+            Ok(bytes_of(text))
+        }
+        GenFault::TooMany { count, limit } => {
+            let text = two_numbers_line(alloc, "error: limit: ", *count, " of ", *limit)?;
+            Ok(bytes_of(text))
+        }
+        GenFault::Memory => Ok(bytes_of(String::from_str(alloc, "error: memory\n")?)),
+    }
+}
+
+/// Why a report isn't made.
+pub fn plan_fault_line(alloc: Global, fault: &PlanFault) -> Result<Bytes, Memory>
+    ensures { IfOk result (λ line. line ≡ plan_line fault.now) }
+{
+    match fault {
+        PlanFault::Words(fault) => Ok(bytes_of(words_fault_line(alloc, fault)?)),
+        PlanFault::Generated(fault) => gen_fault_line(alloc, fault),
+    }
+}
+
+/// Why a text is no file of rules.
+fn rules_fault_line(alloc: Global, fault: &RulesFault) -> Result<String, Memory>
+    ensures { IfOk result (λ line. string_bytes line ≡ rules_line fault.now) }
+{
+    match fault {
+        RulesFault::BadRule { line } => one_number_line(alloc, "error: rule line ", *line, "\n"),
+        RulesFault::PatternRefused { line } => {
+            one_number_line(alloc, "error: rule pattern line ", *line, "\n")
+        }
+        RulesFault::Memory => Ok(String::from_str(alloc, "error: memory\n")?),
+    }
+}
+
+/// Why a record of a file becomes no entry.
+fn convert_fault_line(alloc: Global, fault: &ConvertFault) -> Result<String, Memory>
+    ensures { IfOk result (λ line. string_bytes line ≡ convert_line fault.now) }
+{
+    match fault {
+        ConvertFault::BadRecord { n } => one_number_line(alloc, "error: record ", *n, ": bad\n"),
+        ConvertFault::NoDate { n } => one_number_line(alloc, "error: record ", *n, ": no date\n"),
+        ConvertFault::NoAmount { n } => {
+            one_number_line(alloc, "error: record ", *n, ": no amount\n")
+        }
+        ConvertFault::TwoAmounts { n } => {
+            one_number_line(alloc, "error: record ", *n, ": two amounts\n")
+        }
+        ConvertFault::CsvRefused { n } => {
+            one_number_line(alloc, "error: record ", *n, ": not text\n")
+        }
+        ConvertFault::Memory => Ok(String::from_str(alloc, "error: memory\n")?),
+    }
+}
+
+/// Why a file becomes no entries.
+pub fn csv_fault_line(alloc: Global, fault: &CsvFault) -> Result<String, Memory>
+    ensures { IfOk result (λ line. string_bytes line ≡ csv_line fault.now) }
+{
+    match fault {
+        CsvFault::Rules(fault) => rules_fault_line(alloc, fault),
+        CsvFault::Convert(fault) => convert_fault_line(alloc, fault),
+    }
+}
+
 /// The line that is the body of a reply.
 pub fn line_of(alloc: Global, reply: &Reply) -> Result<String, Memory>
     requires { IsLine reply.now }
@@ -133,7 +220,7 @@ pub fn line_of(alloc: Global, reply: &Reply) -> Result<String, Memory>
     match reply {
         Reply::Done { revision } => one_number_line(alloc, "revision ", *revision, "\n"),
         Reply::Same { revision } => one_number_line(alloc, "unchanged, revision ", *revision, "\n"),
-        Reply::Text { .. } | Reply::Load(_) => unreachable!(),
+        Reply::Text { .. } | Reply::Load(_) | Reply::Words(_) => unreachable!(),
         Reply::Forbidden { need, have } => forbidden_line(alloc, *need, *have),
         Reply::Stale { base, current } => {
             two_numbers_line(alloc, "error: stale: base ", *base, ", current ", *current)
@@ -165,7 +252,7 @@ pub fn line_of(alloc: Global, reply: &Reply) -> Result<String, Memory>
             *limit,
         ),
         Reply::DiskFault { .. } => Ok(String::from_str(alloc, "error: disk fault\n")?),
-        Reply::Words(fault) => words_fault_line(alloc, fault),
+        Reply::Csv(fault) => csv_fault_line(alloc, fault),
         Reply::Full { size, limit } => two_numbers_line(
             alloc,
             "error: full: ",

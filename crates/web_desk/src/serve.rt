@@ -4,35 +4,37 @@ ghost use Rattle.web_desk.specs.Answers.{refusal_message};
 ghost use Rattle.web_desk.specs.Calls.{call_at};
 ghost use Rattle.web_desk.specs.Counts.{Counted, CountedIn};
 ghost use Rattle.desk.specs.Entries.{Entry};
-ghost use Rattle.web_desk.specs.Receipt.{IsBroken, IsStream, ending_of};
+ghost use Rattle.web_messages.specs.Receipt.{IsStream, Keeps, NextSo, ending_of};
 ghost use Rattle.web_desk.specs.Makers.{AreAsked};
 ghost use Rattle.web_desk.specs.Served.{Served};
-ghost use Rattle.web_desk.specs.Streams.{end_of, most_messages};
-ghost use Rattle.web_desk.specs.Turns.{refusal_at, SentSo, ClosesSo, AnswersSo, IsFailure, StepSo};
+ghost use Rattle.web_messages.specs.Streams.{IsOfWhole, most_messages};
+ghost use Rattle.web_desk.specs.Ends.{EndsWell, IsBroken, end_of, end_of_broken};
+ghost use Rattle.web_desk.specs.Sent.{Sends};
+ghost use Rattle.web_desk.specs.Turns.{refusal_at, SentSo, ClosesSo, AnswersSo, IsFailure, Turned};
 
 use crate::answer::{desk_reply, refusal_reply};
 use crate::ask::Ask;
+use crate::calls::call;
 use crate::conn_end::{ConnEnd, Way};
-use crate::head::Head;
-use crate::incoming::Incoming;
-use crate::paths::Paths;
-use crate::receive::{Next, Stop, next_message};
-use crate::refusal::Refusal;
-use crate::route::call;
 use desk::Request;
 use hl_base::{Bytes, Clock, Link, Steps, send_all};
 use hl_time::Day;
 use query::Maker;
 use std::alloc::Global;
 use std::sync::ledger::Ledger;
+use web_messages::Broken;
+use web_messages::head::Head;
+use web_messages::incoming::Incoming;
+use web_messages::paths::Paths;
+use web_messages::receive::{Next, Stop, next_message};
+use web_messages::refusal::Refusal;
 
 /// The most messages of a connection.
 const MOST_MESSAGES: u64 = 1_000_000;
 
 /// Sends a reply.
 fn send<K: Link>(link: &mut K, reply: &Bytes) -> Result<(), ConnEnd>
-    ensures told { IfSome (K.sent link.old) (λ before.
-        (text : List ℕ) × (K.sent link.new ≡ Some (before ++ text)) × SentSo result reply.now text) }
+    ensures told { Sends (K.sent link.old) (K.sent link.new) (λ text. SentSo result reply.now text) }
     ensures coming { K.coming link.new ≡ K.coming link.old }
     ensures broken { IfErr result IsBroken }
     ensures counted { CountedIn result (K.read_faults link.old) (K.read_faults link.new) (K.write_faults link.old) (K.write_faults link.new) }
@@ -71,8 +73,7 @@ fn end_of_stop(stop: Stop, at: u64) -> ConnEnd
 
 /// Sends the reply that belongs to where the reading stopped.
 fn send_refusal<K: Link>(alloc: Global, link: &mut K, refusal: Refusal) -> Result<(), ConnEnd>
-    ensures told { IfSome (K.sent link.old) (λ before.
-        (text : List ℕ) × (K.sent link.new ≡ Some (before ++ text)) × SentSo result (refusal_message true refusal) text) }
+    ensures told { Sends (K.sent link.old) (K.sent link.new) (λ text. SentSo result (refusal_message true refusal) text) }
     ensures coming { K.coming link.new ≡ K.coming link.old }
     ensures broken { IfErr result IsBroken }
     ensures counted { CountedIn result (K.read_faults link.old) (K.read_faults link.new) (K.write_faults link.old) (K.write_faults link.new) }
@@ -83,18 +84,18 @@ fn send_refusal<K: Link>(alloc: Global, link: &mut K, refusal: Refusal) -> Resul
 
 /// Ends a connection where the reading stopped, after the reply that belongs to it.
 fn finish<K: Link>(alloc: Global, link: &mut K, stop: Stop, at: u64) -> ConnEnd
-    ensures told { IfSome (K.sent link.old) (λ before.
-        (text : List ℕ) × (K.sent link.new ≡ Some (before ++ text)) × ClosesSo at stop result text) }
+    ensures told { Sends (K.sent link.old) (K.sent link.new) (λ text. ClosesSo at stop result text) }
     ensures kind { (result ≡ end_of at (ending_of stop)) ⊎ IsBroken result }
     ensures coming { K.coming link.new ≡ K.coming link.old }
     ensures counted { Counted result (K.read_faults link.old) (K.read_faults link.new) (K.write_faults link.old) (K.write_faults link.new) }
 {
-    if let Some(refusal) = refusal_of_stop(stop) {
-        if let Err(end) = send_refusal(alloc, link, refusal) {
-            return end;
-        }
+    match refusal_of_stop(stop) {
+        None => end_of_stop(stop, at),
+        Some(refusal) => match send_refusal(alloc, link, refusal) {
+            Ok(()) => end_of_stop(stop, at),
+            Err(end) => end,
+        },
     }
-    end_of_stop(stop, at)
 }
 
 /// Asks, and sends the reply.
@@ -111,8 +112,7 @@ fn answer_request<A: Ask, K: Link, C: Clock, M: Maker, L: Ledger>(
     ensures answered { (entries : List Entry) × A.leads ask.old entries ask.new
         × AreAsked (C.always clock.old) (M.refusals maker.old) (M.refusals maker.new)
         (M.last_refused maker.old) (M.last_refused maker.new) entries
-        × IfSome (K.sent link.old) (λ before. (text : List ℕ) × (K.sent link.new ≡ Some (before ++ text))
-        × AnswersSo closing (Ok request.now) result entries text) }
+        × Sends (K.sent link.old) (K.sent link.new) (λ text. AnswersSo closing (Ok request.now) result entries text) }
     ensures spent { result ≡ Err ConnEnd.Spent → A.IsSpent ask.new }
     ensures always { C.always clock.new ≡ C.always clock.old }
     ensures coming { K.coming link.new ≡ K.coming link.old }
@@ -134,8 +134,7 @@ fn answer_refusal<K: Link>(
     refusal: Refusal,
     closing: bool,
 ) -> Result<(), ConnEnd>
-    ensures answered { IfSome (K.sent link.old) (λ before. (text : List ℕ) × (K.sent link.new ≡ Some (before ++ text))
-        × AnswersSo closing (Err refusal) result [] text) }
+    ensures answered { Sends (K.sent link.old) (K.sent link.new) (λ text. AnswersSo closing (Err refusal) result [] text) }
     ensures coming { K.coming link.new ≡ K.coming link.old }
     ensures kind { IfErr result IsBroken }
     ensures counted { CountedIn result (K.read_faults link.old) (K.read_faults link.new) (K.write_faults link.old) (K.write_faults link.new) }
@@ -159,8 +158,8 @@ fn answer<A: Ask, K: Link, C: Clock, M: Maker, L: Ledger>(
     ensures answered { (entries : List Entry) × A.leads ask.old entries ask.new
         × AreAsked (C.always clock.old) (M.refusals maker.old) (M.refusals maker.new)
         (M.last_refused maker.old) (M.last_refused maker.new) entries
-        × IfSome (K.sent link.old) (λ before. (text : List ℕ) × (K.sent link.new ≡ Some (before ++ text))
-        × AnswersSo closing (call_at head.now.route head.now.query body.now) result entries text) }
+        × Sends (K.sent link.old) (K.sent link.new)
+        (λ text. AnswersSo closing (call_at head.now.route head.now.query body.now) result entries text) }
     ensures spent { result ≡ Err ConnEnd.Spent → A.IsSpent ask.new }
     ensures always { C.always clock.new ≡ C.always clock.old }
     ensures coming { K.coming link.new ≡ K.coming link.old }
@@ -181,6 +180,35 @@ fn closes_after(head: &Head, count: u64) -> bool
     head.closing || count + 1 == MOST_MESSAGES
 }
 
+/// The end of a connection of whose stream no more was read.
+fn end_of_broken(cause: Broken) -> ConnEnd
+    ensures { result ≡ end_of_broken cause }
+{
+    match cause {
+        Broken::Link => ConnEnd::LinkFault { way: Way::Read },
+        Broken::Memory => ConnEnd::Memory,
+    }
+}
+
+/// Reads the next message, or up to where the stream stops.
+fn read_next<K: Link>(
+    alloc: Global,
+    paths: &Paths,
+    incoming: &mut Incoming,
+    link: &mut K,
+) -> Result<Next, ConnEnd>
+    ensures next { IfOk result (λ next. NextSo incoming.new.ended incoming.new.bytes next) }
+    ensures stream { OnOk result (Keeps (K.coming link.old) incoming.old (K.coming link.new) incoming.new) }
+    ensures sent { K.sent link.new ≡ K.sent link.old }
+    ensures broken { IfErr result IsBroken }
+    ensures counted { CountedIn result (K.read_faults link.old) (K.read_faults link.new) (K.write_faults link.old) (K.write_faults link.new) }
+{
+    match next_message(alloc, paths, incoming, link) {
+        Ok(next) => Ok(next),
+        Err(cause) => Err(end_of_broken(cause)),
+    }
+}
+
 /// Reads and answers the next message, and says how many bytes it had.
 fn serve_one<A: Ask, K: Link, C: Clock, M: Maker, L: Ledger>(
     alloc: Global,
@@ -198,17 +226,15 @@ fn serve_one<A: Ask, K: Link, C: Clock, M: Maker, L: Ledger>(
     ensures served { (entries : List Entry) × A.leads ask.old entries ask.new
         × AreAsked (C.always clock.old) (M.refusals maker.old) (M.refusals maker.new)
         (M.last_refused maker.old) (M.last_refused maker.new) entries
-        × ((rest : List ℕ) → IsStream (K.coming link.old) incoming.old rest → IfSome (K.sent link.old) (λ before.
-        (text : List ℕ) × (rest_now : List ℕ) × (K.sent link.new ≡ Some (before ++ text))
-        × OnOk result (IsStream (K.coming link.new) incoming.new rest_now)
-        × StepSo at count rest rest_now result entries text)) }
+        × ((rest : List ℕ) → IsStream (K.coming link.old) incoming.old rest
+        → Turned (K.sent link.old) (K.sent link.new) (K.coming link.new) incoming.new at count rest result entries) }
     ensures size { IfOk result (λ size. size ≤ 8404992) }
     ensures few { OnOk result (count + 1 < most_messages) }
     ensures spent { result ≡ Err ConnEnd.Spent → A.IsSpent ask.new }
     ensures always { C.always clock.new ≡ C.always clock.old }
     ensures counted { CountedIn result (K.read_faults link.old) (K.read_faults link.new) (K.write_faults link.old) (K.write_faults link.new) }
 {
-    match next_message(alloc, paths, incoming, link)? {
+    match read_next(alloc, paths, incoming, link)? {
         Next::Stopped(stop) => Err(finish(alloc, link, stop, at)),
         Next::Message { head, total } => {
             let closing = closes_after(&head, count);
@@ -235,15 +261,19 @@ pub fn serve_link<A: Ask, K: Link, C: Clock, M: Maker, L: Ledger>(
     steps: &mut Steps<L>,
 ) -> ConnEnd
     // The entries that were made are those of the messages that asked, in order, each on the clock's day; the maker's
-    // count rises with those alone whose pattern was refused; and what was sent are the answers in order, and then the
-    // reply that belongs to the end.
+    // count rises with those alone whose pattern was refused; and what was sent, where the link tells it, are the
+    // answers in order, and then the reply that belongs to the end.
     ensures served { (entries : List Entry) × A.leads ask.old entries ask.new
         × AreAsked (C.always clock.old) (M.refusals maker.old) (M.refusals maker.new)
         (M.last_refused maker.old) (M.last_refused maker.new) entries
-        × IfSome (K.coming link.old) (λ bytes. IfSome (K.sent link.old) (λ before.
-        (text : List ℕ) × (K.sent link.new ≡ Some (before ++ text)) × Served bytes result entries text)) }
+        × IfSome (K.coming link.old)
+        (λ bytes. Sends (K.sent link.old) (K.sent link.new) (λ text. Served bytes result entries text)) }
     ensures counted { Counted result (K.read_faults link.old) (K.read_faults link.new) (K.write_faults link.old) (K.write_faults link.new) }
     ensures spent { result ≡ ConnEnd.Spent → A.IsSpent ask.new }
+    ensures always { C.always clock.new ≡ C.always clock.old }
+
+    // A stream of whole messages within the limits is answered to its end, unless the connection breaks off before.
+    ensures sound { IfSome (K.coming link.old) (λ bytes. IsOfWhole bytes → EndsWell result) }
 {
     let Ok(paths) = Paths::new(alloc) else {
         return ConnEnd::Memory;

@@ -3,10 +3,11 @@ use Rattle.std.proofs.lemmas.Result.{err_from_is_err_and}
 use Rattle.desk.specs.declared.request.Request.{Request}
 use Rattle.web_desk.specs.declared.conn_end.ConnEnd.{ConnEnd}
 use Rattle.web_desk.specs.declared.conn_end.ConnEnd.TheVariants as conn
-use Rattle.web_desk.specs.declared.refusal.Refusal.{Refusal}
+use Rattle.web_messages.specs.declared.refusal.Refusal.{Refusal}
 use Rattle.web_desk.specs.Calls.{call_at}
 use Rattle.web_desk.specs.Turns.{AnswersSo}
-use Rattle.web_desk.proofs.AnswerLemmas.{Sends, sends_nothing}
+use Rattle.web_desk.specs.Sent.{Sends}
+use Rattle.web_desk.proofs.AnswerLemmas.{sends_nothing}
 use Rattle.web_desk.proofs.MakerLemmas.{none_asked}
 use Rattle.web_desk.proofs.serve.answer.Goals as goal
 

@@ -1,7 +1,8 @@
 use Rattle.std.proofs.Common.{ℕ, List, [], Err, subst}
 use Rattle.web_desk.specs.Answers.{refusal_message}
 use Rattle.web_desk.specs.Turns.{SentSo, AnswersSo}
-use Rattle.web_desk.proofs.AnswerLemmas.{Sends, sends_more, refusal_answers}
+use Rattle.web_desk.specs.Sent.{Sends}
+use Rattle.web_desk.proofs.AnswerLemmas.{sends_more, refusal_answers}
 use Rattle.web_desk.proofs.serve.answer_refusal.Goals as goal
 
 pub returns-clause-answered : goal.returns-clause-answered

@@ -5,7 +5,8 @@ use Rattle.web_desk.specs.declared.conn_end.ConnEnd.TheVariants as conn
 use Rattle.web_desk.specs.Answers.{entry_message}
 use Rattle.desk.specs.Entries.{Entry}
 use Rattle.web_desk.specs.Turns.{SentSo, AnswersSo}
-use Rattle.web_desk.proofs.AnswerLemmas.{Sends, sends_more, sends_nothing, entry_answers, entry_unanswered}
+use Rattle.web_desk.specs.Sent.{Sends}
+use Rattle.web_desk.proofs.AnswerLemmas.{sends_more, sends_nothing, entry_answers, entry_unanswered}
 use Rattle.web_desk.proofs.MakerLemmas.{none_told, one_asked}
 use Rattle.web_desk.proofs.serve.answer_request.Goals as goal
 

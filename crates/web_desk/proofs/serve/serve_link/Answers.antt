@@ -1,5 +1,6 @@
 use Rattle.std.proofs.Common.{◌∙◌, [], ◌++◌, sym, subst, refl, lit<, arith}
-use Rattle.web_desk.specs.Unread.{Unread}
+use Rattle.web_messages.specs.Unread.{Unread}
+use Rattle.web_desk.proofs.CourseLemmas.{nothing_well, told_well}
 use Rattle.web_desk.proofs.MakerLemmas.{asked_more, none_asked}
 use Rattle.web_desk.proofs.ServeLemmas.{Ran, ran_start, ran_more, served_end, served_nothing}
 use Rattle.web_desk.proofs.serve.serve_link.Goals as goal
@@ -66,3 +67,22 @@ messages-preserved g c =
             c.in-Ok-serve_one.size run.0 one.0 run.3 one.3,
       );
     }
+
+pub returns-in-Err-clause-always : goal.returns-in-Err-clause-always
+returns-in-Err-clause-always g c = c.serve_one.ensures.always ∙ c.messages.invariant.always
+
+pub returns-in_default-clause-sound : goal.returns-in_default-clause-sound
+returns-in_default-clause-sound g c = nothing_well (g.K.Link.coming c.args.link.now)
+
+pub returns-in_default-new-clause-sound : goal.returns-in_default-new-clause-sound
+returns-in_default-new-clause-sound g c = nothing_well (g.K.Link.coming c.args.link.now)
+
+pub returns-in-Err-clause-sound : goal.returns-in-Err-clause-sound
+returns-in-Err-clause-sound g c =
+    let link = g.K.Link in
+    let run = c.messages.invariant.run in
+    let one = c.in-Err.ensures.served in
+    told_well (link.coming c.args.link.now) (link.sent c.args.link.now) (link.sent c.serve_one.new.link) c.in-Err.end (run.0 ++ one.0)
+    (served_end (link.coming c.args.link.now) (link.sent c.args.link.now) (link.coming c.messages.link) (link.sent c.messages.link)
+    (link.coming c.serve_one.new.link) (link.sent c.serve_one.new.link) c.messages.incoming c.serve_one.new.incoming c.messages.at c.messages.count
+    c.in-Err.end run.0 one.0 run.3 one.3)

@@ -1,7 +1,7 @@
 use Rattle.std.proofs.Common.{◌≡◌, List, ◌*◌, ◌<◌, ◌≤◌}
 use Rattle.desk.specs.Entries.{Entry}
 use Rattle.web_desk.specs.Makers.{AreAsked}
-use Rattle.web_desk.specs.Streams.{most_messages}
+use Rattle.web_messages.specs.Streams.{most_messages}
 use Rattle.web_desk.proofs.ServeLemmas.{Ran}
 use Rattle.web_desk.proofs.serve.serve_link.Given as goal
 

@@ -1,0 +1,11 @@
+//! Connections to a machine over memory: how they end, what is sent, and which calls may fail.
+#![tactic(auto)]
+
+#[cfg(test)]
+mod disks;
+#[cfg(test)]
+mod ends;
+#[cfg(test)]
+mod heads;
+pub mod messages;
+pub mod served;

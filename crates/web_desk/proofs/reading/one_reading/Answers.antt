@@ -1,5 +1,0 @@
-use Rattle.web_desk.proofs.Readings.{readings_agree}
-use Rattle.web_desk.proofs.reading.one_reading.Goals as goal
-
-pub returns : goal.returns
-returns c bytes before other rest other_rest ending other_ending a b = readings_agree bytes before other rest other_rest ending other_ending a b
