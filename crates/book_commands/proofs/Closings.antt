@@ -22,13 +22,14 @@ use Rattle.query_terms.specs.Reading.{sources_of, terms_of}
 use Rattle.query_terms.specs.declared.kinds.Term.{Term}
 use Rattle.report_commands.specs.Faults.{of_query}
 use Rattle.report_commands.specs.Matters.{letters_in}
-use Rattle.book_commands.specs.Answers.{Finds, Refuses, Telling}
+use Rattle.refusals.specs.Refusing.{Refuses}
+use Rattle.book_commands.specs.Answers.{Finds, Telling}
 use Rattle.book_commands.specs.Closed.{IsClosingOf}
 use Rattle.book_commands.specs.FaultLines.{close_line}
-use Rattle.book_commands.specs.Outcomes.{Outcome, refused, written}
+use Rattle.refusals.specs.Outcomes.{Outcome, refused, written}
 use Rattle.book_commands.specs.Works.{close_by, close_made, close_outcome, closed_over, closing_outcome, pair_text}
-use Rattle.book_commands.specs.declared.refusal.Refusal.{Refusal}
-use Rattle.book_commands.specs.declared.refusal.Refusal.TheVariants as refusal
+use Rattle.refusals.specs.declared.refusal.Refusal.{Refusal}
+use Rattle.refusals.specs.declared.refusal.Refusal.TheVariants as refusal
 use Rattle.book_commands.specs.declared.work.CloseAsked.{CloseAsked}
 use Rattle.book_commands.proofs.Answering.{Tells, answering, memory_found, refused_found}
 

@@ -9,7 +9,7 @@ use Rattle.book_care.specs.declared.faults.StrictFault.TheVariants as strict_fau
 use Rattle.journal_printer.specs.Texts.{calendar_text}
 use Rattle.time_logs.specs.declared.faults.LogFault.{LogFault}
 use Rattle.time_logs.specs.declared.faults.LogFault.TheVariants as log_fault
-use Rattle.book_commands.specs.Errors.{limit_line, line_with, memory_line}
+use Rattle.refusals.specs.Errors.{limit_line, line_with, memory_line}
 
 -- what is wrong in a line of a log
 abbrev pub in_log : ℕ → List ℕ → List ℕ

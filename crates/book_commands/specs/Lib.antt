@@ -1,10 +1,8 @@
 pub mod Answers
 pub mod Closed
 pub mod Days
-pub mod Errors
 pub mod FaultLines
 pub mod Journals
-pub mod Outcomes
 pub mod Reported
 pub mod Texts
 pub mod Works

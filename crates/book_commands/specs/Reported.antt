@@ -1,8 +1,8 @@
 -- What is told of the report over a text.
 use Rattle.std.specs.Prelude.{Result, Ok, Err}
 use Rattle.book.specs.declared.fault.Fault.{Fault}
-use Rattle.report_commands.specs.Reports.{Report}
-use Rattle.book_commands.specs.Outcomes.{Judged}
+use Rattle.plan_commands.specs.Reports.{Report}
+use Rattle.refusals.specs.Outcomes.{Judged}
 use Rattle.book_commands.specs.Texts.{fault_refusal}
 use Rattle.book_commands.specs.Works.{report_outcome}
 

@@ -1,15 +1,14 @@
 -- What is answered to a text that has to load first.
-use Rattle.std.specs.Prelude.{ℕ, List, nat_lt, Option, Some, Result, Ok, Err, if◌then◌else◌, length}
+use Rattle.std.specs.Prelude.{ℕ, List, nat_lt, Option, Result, Ok, Err, if◌then◌else◌, length}
 use Rattle.hl_base.specs.Items.{items_of}
-use Rattle.hl_time.specs.Calendar.{year_of}
 use Rattle.book.specs.declared.fault.Fault.{Fault}
 use Rattle.book.specs.declared.item.Book.{Book}
 use Rattle.book.specs.declared.item.Placed.{Placed}
 use Rattle.book.specs.FaultLine.{fault_line}
 use Rattle.balancing.specs.Load.{load}
 use Rattle.journal_reader.specs.Items.{items_in}
-use Rattle.book_commands.specs.Errors.{fault_status, limit_line}
-use Rattle.book_commands.specs.Outcomes.{Judged, Outcome, refused}
+use Rattle.refusals.specs.Errors.{fault_status, limit_line}
+use Rattle.refusals.specs.Outcomes.{Judged, Outcome, refused}
 
 -- the most items that a text may have
 abbrev pub most_items : ℕ
@@ -31,9 +30,9 @@ abbrev pub made_read : Making → Result (List Placed) Fault → Judged
 made_read make (Ok items) = made_loaded make items (load items)
 made_read make (Err fault) = Err (fault_refusal fault)
 
--- What is answered to a text that was read, on a day, or the refusal of the text: its items are counted first; then it is
--- read, with the day's year for dates without one, and loaded.
-abbrev pub judged_text : Making → ℕ → List ℕ → Judged
-judged_text make day text =
+-- What is answered to a text that was read, or the refusal of the text: its items are counted first; then it is read, with a
+-- year for dates without one, if there is one, and loaded.
+abbrev pub judged_text : Making → Option ℕ → List ℕ → Judged
+judged_text make year text =
     if nat_lt most_items (length (items_of text)) then Err (refused 7 (limit_line (length (items_of text)) most_items))
-    else made_read make (items_in (Some (year_of day)) text)
+    else made_read make (items_in year text)

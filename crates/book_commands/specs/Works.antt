@@ -1,15 +1,16 @@
 -- What each command answers to a text.
-use Rattle.std.specs.Prelude.{ℕ, Bool, List, [], ◌∷◌, ◌++◌, Option, Some, None, Result, Ok, Err}
+use Rattle.std.specs.Prelude.{ℕ, ◌≤◌, length, Bool, List, [], ◌∷◌, ◌++◌, Option, Some, None, Result, Ok, Err}
 use Rattle.std.specs.List.{flat_map}
 use Rattle.std.specs.Option.{option_or}
 use Rattle.book.specs.declared.item.Book.{Book}
 use Rattle.book.specs.declared.item.Placed.{Placed}
 use Rattle.book.specs.declared.transaction.Txn.{Txn}
 use Rattle.book_care.specs.Asked.{Asked as Closed}
-use Rattle.book_care.specs.Breaks.{first_fault}
+use Rattle.book_care.specs.Breaks.{first_by, first_fault}
 use Rattle.book_care.specs.Entries.{made}
 use Rattle.book_care.specs.Judged.{first_cause}
 use Rattle.book_care.specs.Reads.{context_at_end}
+use Rattle.book_care.specs.declared.declarations.Declarations.{Declarations}
 use Rattle.book_care.specs.declared.faults.Check.{Check}
 use Rattle.book_care.specs.declared.faults.CloseFault.{CloseFault}
 use Rattle.book_care.specs.declared.faults.StrictFault.{StrictFault}
@@ -22,15 +23,15 @@ use Rattle.query.specs.Words.{terms_mean}
 use Rattle.query_terms.specs.Reading.{terms_of}
 use Rattle.query_terms.specs.declared.kinds.Term.{Term}
 use Rattle.report_commands.specs.Matters.{letters_in}
-use Rattle.report_commands.specs.Reports.{Report, answer_over}
+use Rattle.plan_commands.specs.Reports.{Report, answer_over}
 use Rattle.report_commands.specs.declared.asked.Asked.{Asked}
 use Rattle.report_options.specs.Options.{IsValid}
 use Rattle.time_logs.specs.Timeclock.{timeclock}
 use Rattle.time_logs.specs.Timedot.{timedot}
 use Rattle.time_logs.specs.declared.faults.LogFault.{LogFault}
-use Rattle.book_commands.specs.Errors.{term_line, words_line, words_status}
+use Rattle.refusals.specs.Errors.{plan_line, plan_status, term_line}
 use Rattle.book_commands.specs.FaultLines.{close_line, log_line, log_status, strict_line}
-use Rattle.book_commands.specs.Outcomes.{Judged, Outcome, refused, written}
+use Rattle.refusals.specs.Outcomes.{Judged, Outcome, refused, written}
 use Rattle.book_commands.specs.Texts.{judged_text}
 use Rattle.book_commands.specs.declared.work.CloseAsked.{CloseAsked}
 use Rattle.book_commands.specs.declared.work.LogForm.{LogForm}
@@ -49,10 +50,10 @@ entries_text context txns = flat_map (entry_text context) txns
 
 -- ---- reports
 
--- what is written of a report, or of why there is none
+-- what is written of a report, with what the rules of its text make, or of why there is none
 abbrev pub report_outcome : Report → Outcome
 report_outcome (Ok text) = written text
-report_outcome (Err fault) = refused (words_status fault) (words_line fault)
+report_outcome (Err fault) = refused (plan_status fault) (plan_line fault)
 
 unfoldable pub report_made : Asked → ℕ → List Placed → Book → Outcome
 report_made asked day items book = report_outcome (answer_over asked day items book)
@@ -78,9 +79,19 @@ hours_made form text = hours_outcome (log_txns form (contents_of text))
 -- ---- strict checks
 
 -- what the first check that fails says, in their order
+abbrev pub first_said : (Check → Option StrictFault) → List Check → Option StrictFault
+first_said says [] = None
+first_said says (check ∷ checks) = option_or (says check) (first_said says checks)
+
 abbrev pub first_broken : List Check → List Placed → List Txn → Option StrictFault
-first_broken [] items txns = None
-first_broken (check ∷ checks) items txns = option_or (first_fault check items txns) (first_broken checks items txns)
+first_broken checks items txns = first_said (λ check. first_fault check items txns) checks
+
+-- the same, by the names that are kept as declared
+abbrev pub by_kept : Declarations → List Txn → Check → Option StrictFault
+by_kept declarations txns check = first_by declarations check txns
+
+abbrev pub first_kept : List Check → Declarations → List Txn → Option StrictFault
+first_kept checks declarations txns = first_said (by_kept declarations txns) checks
 
 abbrev pub strict_outcome : Option StrictFault → Outcome
 strict_outcome None = written []
@@ -123,15 +134,17 @@ close_made asked day items book = close_by asked items book (terms_of day asked.
 
 -- ---- all commands
 
--- What is judged of a text on a day.
-abbrev pub judge : ℕ → Work → List ℕ → Judged
-judge day (works.Report asked) text = judged_text (report_made asked day) day text
-judge day (works.Hours form) text = Ok (hours_made form text)
-judge day (works.Strict checks) text = judged_text (strict_made checks) day text
-judge day (works.Close asked) text = judged_text (close_made asked day) day text
+-- What is judged of a text on a day, with a year for dates without one.
+abbrev pub judge : ℕ → Option ℕ → Work → List ℕ → Judged
+judge day year works.Text text = Ok (written text)
+judge day year (works.Report asked) text = judged_text (report_made asked day) year text
+judge day year (works.Hours form) text = Ok (hours_made form text)
+judge day year (works.Strict checks) text = judged_text (strict_made checks) year text
+judge day year (works.Close asked) text = judged_text (close_made asked day) year text
 
 -- the words of which a pattern may be refused
 abbrev pub words_of : Work → List (List ℕ)
+words_of works.Text = []
 words_of (works.Report asked) = asked.words
 words_of (works.Hours form) = []
 words_of (works.Strict checks) = []
@@ -141,3 +154,8 @@ words_of (works.Close asked) = asked.words
 abbrev pub IsWorkable : Work → Type 0
 IsWorkable (works.Report asked) = IsValid asked.options
 IsWorkable other = Unit {0}
+
+-- a text of which more is asked than itself has its limit
+abbrev pub IsWithin : Work → List ℕ → Type 0
+IsWithin works.Text text = Unit {0}
+IsWithin other text = length text ≤ 16777216

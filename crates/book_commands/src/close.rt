@@ -1,5 +1,5 @@
 //! The entries that close accounts and open them again, as text.
-ghost use Rattle.std.specs.Prelude.{◌≡◌, ◌≢◌, ◌≤◌, ◌<◌, ℕ, List, Ok, Err, IfOk, length};
+ghost use Rattle.std.specs.Prelude.{◌≡◌, ◌≤◌, ◌<◌, ℕ, List, Ok, IfOk, length};
 ghost use Rattle.hl_time.specs.Calendar.{IsDay, last_day};
 ghost use Rattle.book.specs.Bounds.{TurnoverFits};
 ghost use Rattle.book.specs.Postings.{postings_of};
@@ -7,7 +7,8 @@ ghost use Rattle.book_care.specs.Reads as reads;
 ghost use Rattle.book.specs.declared.item.Book.{Book};
 ghost use Rattle.book.specs.declared.item.Placed.{Placed};
 ghost use Rattle.query.specs.Made.{IsQueryOf};
-ghost use Rattle.book_commands.specs.Answers.{Finds, IsOfReport, IsQuiet, TellsMaker, told_by};
+ghost use Rattle.refusals.specs.Refusing.{IsOfReport};
+ghost use Rattle.book_commands.specs.Answers.{Finds, IsQuiet, TellsWords, told_by};
 ghost use Rattle.book_commands.specs.Closed.{IsClosingOf};
 ghost use Rattle.book_commands.specs.Texts.{judged_text};
 ghost use Rattle.book_commands.specs.Works as spec;
@@ -15,16 +16,16 @@ ghost use Rattle.book_commands.specs.declared.work.CloseAsked.{CloseAsked as Clo
 
 use crate::context_end::context_at_end;
 use crate::entries::pair_text;
-use crate::errors::refuse_report;
 use crate::fault_lines::refuse_close;
 use crate::journal::{Kept, load_kept};
-use crate::refusal::Refusal;
+use crate::today::Today;
 use crate::work::CloseAsked;
 use book::Txn;
 use book_care::{Closing, close_entries};
 use hl_base::{Bytes, Memory, Steps};
 use hl_time::Day;
 use query::{Maker, Query, Types, make_query};
+use refusals::{Refusal, refuse_report};
 use report_commands::WordsFault;
 use std::alloc::Global;
 use std::sync::ledger::Ledger;
@@ -96,8 +97,7 @@ fn close_kept<M: Maker>(
     requires fits { TurnoverFits (postings_of kept.now.book.txns) }
     ensures found { Finds result (Ok (spec.close_made asked.now day.0 kept.now.items kept.now.book)) }
     ensures kind { IsOfReport result }
-    ensures read { result ≢ Err Refusal.ReadFault }
-    ensures maker { TellsMaker day.0 asked.now.words (told_by M.Maker maker.old maker.new) result }
+    ensures maker { TellsWords day.0 asked.now.words (told_by M.Maker maker.old maker.new) result }
 {
     match make_query(alloc, asked.words.as_slice(), day, maker) {
         Ok(query) => close_by(alloc, asked, kept, day, &query),
@@ -110,19 +110,18 @@ pub(crate) fn close_on<M: Maker, L: Ledger>(
     alloc: Global,
     asked: &CloseAsked,
     text: &[u8],
-    day: Day,
+    today: Today,
     maker: &mut M,
     steps: &mut Steps<L>,
 ) -> Result<Bytes, Refusal>
     requires size { length text.now ≤ 16777216 }
-    requires day { IsDay day.0 }
-    ensures found { Finds result (judged_text (spec.close_made asked.now day.0) day.0 text.now) }
+    requires day { IsDay today.day.0 }
+    ensures found { Finds result (judged_text (spec.close_made asked.now today.day.0) today.year text.now) }
     ensures kind { IsOfReport result }
-    ensures read { result ≢ Err Refusal.ReadFault }
-    ensures maker { TellsMaker day.0 asked.now.words (told_by M.Maker maker.old maker.new) result }
+    ensures maker { TellsWords today.day.0 asked.now.words (told_by M.Maker maker.old maker.new) result }
 {
-    let kept = load_kept(alloc, text, day, steps)?;
-    let found = close_kept(alloc, asked, &kept, day, maker);
+    let kept = load_kept(alloc, text, today.year, steps)?;
+    let found = close_kept(alloc, asked, &kept, today.day, maker);
     // The program ends after its answer, so a large journal isn't taken apart first.
     std::mem::forget(kept);
     found

@@ -4,14 +4,13 @@ ghost use Rattle.journal_printer.specs.Texts.{calendar_text};
 ghost use Rattle.time_logs.specs.declared.faults.LogFault.TheVariants as log_fault;
 ghost use Rattle.book_care.specs.declared.faults.CloseFault.TheVariants as close_fault;
 ghost use Rattle.book_care.specs.declared.faults.StrictFault.TheVariants as strict_fault;
-ghost use Rattle.book_commands.specs.Answers.{IsJudgedStatus, IsOfReport, IsOfText, IsQuiet, Refuses};
+ghost use Rattle.refusals.specs.Refusing.{IsJudgedStatus, IsOfText, Refuses};
 ghost use Rattle.book_commands.specs.FaultLines as spec;
 
-use crate::errors::{line_with, memory_line, past_limit};
-use crate::refusal::Refusal;
 use book_care::{CloseFault, StrictFault};
 use hl_base::{Bytes, Memory};
 use hl_time::{DAY_END, Day, print_day};
+use refusals::{Refusal, line_with, memory_line, past_limit};
 use std::alloc::Global;
 use std::string::ToString;
 use time_logs::LogFault;

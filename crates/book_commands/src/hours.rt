@@ -3,16 +3,17 @@ ghost use Rattle.std.specs.Prelude.{◌≡◌, Ok, IfOk};
 ghost use Rattle.hl_base.specs.Gives.{Gives};
 ghost use Rattle.entry_reader.specs.Lines.{contents_of};
 ghost use Rattle.time_logs.specs.Faults.{log_cause};
-ghost use Rattle.book_commands.specs.Answers.{Finds, IsOfReport, IsQuiet};
+ghost use Rattle.refusals.specs.Refusing.{IsOfReport};
+ghost use Rattle.book_commands.specs.Answers.{Finds, IsQuiet};
 ghost use Rattle.book_commands.specs.Works as spec;
 
 use crate::entries::entries_text;
 use crate::fault_lines::refuse_log;
-use crate::refusal::Refusal;
 use crate::work::LogForm;
 use book::Txn;
 use entry_reader::Context;
 use hl_base::{Bytes, List, Memory};
+use refusals::Refusal;
 use std::alloc::Global;
 use time_logs::{LogFault, read_timeclock, read_timedot};
 

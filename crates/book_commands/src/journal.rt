@@ -1,25 +1,23 @@
 //! What a text makes that is loaded.
-ghost use Rattle.std.specs.Prelude.{◌≡◌, ◌≤◌, Some, Ok, false, IfOk, IfErr, OnOk, nat_lt, length};
+ghost use Rattle.std.specs.Prelude.{◌≡◌, ◌≤◌, Ok, false, IfOk, IfErr, OnOk, nat_lt, length};
 ghost use Rattle.hl_base.specs.Items.{items_of};
-ghost use Rattle.hl_time.specs.Calendar.{IsDay, year_of};
 ghost use Rattle.book.specs.Bounds.{TurnoverFits};
 ghost use Rattle.book.specs.Postings.{postings_of};
 ghost use Rattle.balancing.specs.Load.{load};
 ghost use Rattle.journal_reader.specs.Items.{items_in};
 ghost use Rattle.journal_reader.specs.Whole.{AreWithin};
 ghost use Rattle.book_commands.specs.Answers.{RefusesText};
-ghost use Rattle.book_commands.specs.Journals.{IsBookIn, IsJournalIn, IsJournalOf, IsKeptOf};
+ghost use Rattle.book_commands.specs.Journals.{IsCheckedIn, IsCheckedOf, IsBookIn, IsJournalIn, IsJournalOf, IsKeptOf, IsWholeOf};
 ghost use Rattle.book_commands.specs.Texts.{Making, judged_text, made_loaded, made_read, most_items};
 
-use crate::errors::{past_limit, refuse_fault};
-use crate::refusal::Refusal;
 use balancing::{CheckFault, check};
 use book::{Book, Items, Styles};
+use book_care::Declarations;
 use hl_base::{Piece, Steps, cut_items};
-use hl_time::{Day, civil_of};
 use journal_reader::{ReadFault, read_items};
 use prices::Prices;
 use query::Types;
+use refusals::{Refusal, past_limit, refuse_fault};
 use std::alloc::Global;
 use std::sync::ledger::Ledger;
 
@@ -35,6 +33,13 @@ pub(crate) struct Journal {
     pub prices: Prices,
 }
 
+/// The names that a text declares, and the book of its items.
+#[derive(Drop)]
+pub(crate) struct Checked {
+    pub declarations: Declarations,
+    pub book: Book,
+}
+
 /// The items of a text and their book.
 #[derive(Drop)]
 pub(crate) struct Kept {
@@ -42,21 +47,28 @@ pub(crate) struct Kept {
     pub book: Book,
 }
 
+/// The items of a text, and what they make.
+#[derive(Drop)]
+pub(crate) struct Whole {
+    pub items: Items,
+    pub journal: Journal,
+}
+
 /// The items of a text, with a year for dates without one.
 fn read<L: Ledger>(
     alloc: Global,
     text: &[u8],
     pieces: &[Piece],
-    year: u16,
+    year: Option<u16>,
     steps: &mut Steps<L>,
 ) -> Result<Items, Refusal>
     requires pieces { pieces.now ≡ items_of text.now }
     requires within { AreWithin text.now pieces.now }
-    ensures items { IfOk result (λ items. items_in (Some year) text.now ≡ Ok items) }
+    ensures items { IfOk result (λ items. items_in year text.now ≡ Ok items) }
     ensures refused { IfErr result (λ r. (make : Making)
-        → RefusesText r (made_read make (items_in (Some year) text.now))) }
+        → RefusesText r (made_read make (items_in year text.now))) }
 {
-    match read_items(alloc, text, pieces, Some(year), steps) {
+    match read_items(alloc, text, pieces, year, steps) {
         Ok(items) => Ok(items),
         Err(ReadFault::Read(fault)) => Err(refuse_fault(alloc, &fault)),
         Err(ReadFault::Memory) => Err(Refusal::Memory),
@@ -77,19 +89,18 @@ fn make_book(alloc: Global, items: Items) -> Result<Book, Refusal>
     }
 }
 
-/// The items of a text within the limit of bytes, with the day's year for dates without one.
+/// The items of a text within the limit of bytes, with a year for dates without one.
 fn load_items<L: Ledger>(
     alloc: Global,
     text: &[u8],
-    day: Day,
+    year: Option<u16>,
     steps: &mut Steps<L>,
 ) -> Result<Items, Refusal>
     requires size { length text.now ≤ 16777216 }
-    requires day { IsDay day.0 }
     ensures few { OnOk result (nat_lt most_items (length (items_of text.now)) ≡ false) }
-    ensures items { IfOk result (λ items. items_in (Some (year_of day.0)) text.now ≡ Ok items) }
+    ensures items { IfOk result (λ items. items_in year text.now ≡ Ok items) }
     ensures refused { IfErr result (λ r. (make : Making)
-        → RefusesText r (judged_text make day.0 text.now)) }
+        → RefusesText r (judged_text make year text.now)) }
 {
     let pieces = cut_items(alloc, text)?;
     let count = pieces.len() as u64;
@@ -97,7 +108,6 @@ fn load_items<L: Ledger>(
         let line = past_limit(alloc, count, MOST_ITEMS)?;
         return Err(Refusal::Line { status: 7, line });
     }
-    let year = civil_of(day).year;
     read(alloc, text, pieces.as_slice(), year, steps)
 }
 
@@ -119,58 +129,102 @@ fn make_journal(alloc: Global, items: Items) -> Result<Journal, Refusal>
     })
 }
 
-/// What a text within the limit of bytes makes, with the day's year for dates without one.
+/// What a text within the limit of bytes makes, with a year for dates without one.
 pub(crate) fn load_journal<L: Ledger>(
     alloc: Global,
     text: &[u8],
-    day: Day,
+    year: Option<u16>,
     steps: &mut Steps<L>,
 ) -> Result<Journal, Refusal>
     requires size { length text.now ≤ 16777216 }
-    requires day { IsDay day.0 }
     ensures few { OnOk result (nat_lt most_items (length (items_of text.now)) ≡ false) }
-    ensures journal { IfOk result (λ journal. IsJournalIn day.0 text.now journal) }
+    ensures journal { IfOk result (λ journal. IsJournalIn year text.now journal) }
     ensures refused { IfErr result (λ r. (make : Making)
-        → RefusesText r (judged_text make day.0 text.now)) }
+        → RefusesText r (judged_text make year text.now)) }
 {
-    let items = load_items(alloc, text, day, steps)?;
+    let items = load_items(alloc, text, year, steps)?;
     make_journal(alloc, items)
 }
 
-/// The book of a text within the limit of bytes, with the day's year for dates without one.
+/// The names that items declare, and their book. Balancing takes the items, so their book is made last.
+fn make_checked(alloc: Global, items: Items) -> Result<Checked, Refusal>
+    ensures made { IfOk result (λ checked. IsCheckedOf items checked) }
+    ensures refused { IfErr result (λ r. (make : Making)
+        → RefusesText r (made_loaded make items (load items))) }
+{
+    let declarations = Declarations::new(alloc, &items)?;
+    let book = make_book(alloc, items)?;
+    Ok(Checked { declarations, book })
+}
+
+/// The names that a text within the limit of bytes declares, and its book, with a year for dates without one.
+pub(crate) fn load_checked<L: Ledger>(
+    alloc: Global,
+    text: &[u8],
+    year: Option<u16>,
+    steps: &mut Steps<L>,
+) -> Result<Checked, Refusal>
+    requires size { length text.now ≤ 16777216 }
+    ensures few { OnOk result (nat_lt most_items (length (items_of text.now)) ≡ false) }
+    ensures checked { IfOk result (λ checked. IsCheckedIn year text.now checked) }
+    ensures refused { IfErr result (λ r. (make : Making)
+        → RefusesText r (judged_text make year text.now)) }
+{
+    let items = load_items(alloc, text, year, steps)?;
+    make_checked(alloc, items)
+}
+
+/// The book of a text within the limit of bytes, with a year for dates without one.
 fn load_book<L: Ledger>(
     alloc: Global,
     text: &[u8],
-    day: Day,
+    year: Option<u16>,
     steps: &mut Steps<L>,
 ) -> Result<Book, Refusal>
     requires size { length text.now ≤ 16777216 }
-    requires day { IsDay day.0 }
     ensures few { OnOk result (nat_lt most_items (length (items_of text.now)) ≡ false) }
-    ensures book { IfOk result (λ book. IsBookIn day.0 text.now book) }
+    ensures book { IfOk result (λ book. IsBookIn year text.now book) }
     ensures refused { IfErr result (λ r. (make : Making)
-        → RefusesText r (judged_text make day.0 text.now)) }
+        → RefusesText r (judged_text make year text.now)) }
 {
-    let items = load_items(alloc, text, day, steps)?;
+    let items = load_items(alloc, text, year, steps)?;
     make_book(alloc, items)
 }
 
-/// The items of a text within the limit of bytes, with the day's year for dates without one, and their book. It is read
+/// The items of a text within the limit of bytes, with a year for dates without one, and their book. It is read
 /// once for the book, which takes its items, and once for those that are kept.
 pub(crate) fn load_kept<L: Ledger>(
     alloc: Global,
     text: &[u8],
-    day: Day,
+    year: Option<u16>,
     steps: &mut Steps<L>,
 ) -> Result<Kept, Refusal>
     requires size { length text.now ≤ 16777216 }
-    requires day { IsDay day.0 }
     ensures few { OnOk result (nat_lt most_items (length (items_of text.now)) ≡ false) }
-    ensures kept { IfOk result (λ kept. IsKeptOf day.0 text.now kept) }
+    ensures kept { IfOk result (λ kept. IsKeptOf year text.now kept) }
     ensures refused { IfErr result (λ r. (make : Making)
-        → RefusesText r (judged_text make day.0 text.now)) }
+        → RefusesText r (judged_text make year text.now)) }
 {
-    let book = load_book(alloc, text, day, steps)?;
-    let items = load_items(alloc, text, day, steps)?;
+    let book = load_book(alloc, text, year, steps)?;
+    let items = load_items(alloc, text, year, steps)?;
     Ok(Kept { items, book })
+}
+
+/// The items of a text within the limit of bytes, with a year for dates without one, and what they make. It is read once
+/// for the book, which takes its items, and once for those that are kept.
+pub(crate) fn load_whole<L: Ledger>(
+    alloc: Global,
+    text: &[u8],
+    year: Option<u16>,
+    steps: &mut Steps<L>,
+) -> Result<Whole, Refusal>
+    requires size { length text.now ≤ 16777216 }
+    ensures few { OnOk result (nat_lt most_items (length (items_of text.now)) ≡ false) }
+    ensures whole { IfOk result (λ whole. IsWholeOf year text.now whole) }
+    ensures refused { IfErr result (λ r. (make : Making)
+        → RefusesText r (judged_text make year text.now)) }
+{
+    let journal = load_journal(alloc, text, year, steps)?;
+    let items = load_items(alloc, text, year, steps)?;
+    Ok(Whole { items, journal })
 }

@@ -5,17 +5,16 @@
 mod close;
 mod context_end;
 mod entries;
-mod errors;
 mod fault_lines;
 mod hours;
 mod journal;
 mod law;
-mod refusal;
+mod planned;
 mod report;
 mod strict_checks;
+mod today;
 mod work;
 
-pub use errors::{absent, no_command, past_limit, words_line};
 pub use law::report_judged;
-pub use refusal::Refusal;
+pub use today::Today;
 pub use work::{CloseAsked, ClosingDay, LogForm, Work, answer_text};

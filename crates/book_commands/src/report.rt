@@ -1,24 +1,29 @@
 //! The answer of a report to a text.
-ghost use Rattle.std.specs.Prelude.{◌≡◌, ◌≢◌, ◌≤◌, List, Ok, Err, length};
+ghost use Rattle.std.specs.Prelude.{◌≡◌, ◌≤◌, List, Ok, false, length};
 ghost use Rattle.hl_time.specs.Calendar.{IsDay};
 ghost use Rattle.book.specs.declared.item.Placed.{Placed};
+ghost use Rattle.plan_commands.specs.Reports.{asks_rules};
+ghost use Rattle.refusals.specs.Refusing.{IsOfReport};
 ghost use Rattle.report_options.specs.Options.{IsValid};
-ghost use Rattle.book_commands.specs.Answers.{Finds, IsOfReport, TellsMaker, told_by};
+ghost use Rattle.book_commands.specs.Answers.{Finds, TellsWords, TellsWork, told_by};
 ghost use Rattle.book_commands.specs.Journals.{IsJournalOf};
 ghost use Rattle.book_commands.specs.Texts.{judged_text};
 ghost use Rattle.book_commands.specs.Works.{report_made};
+ghost use Rattle.book_commands.specs.declared.work.Work.TheVariants as works;
 
-use crate::errors::refuse_report;
 use crate::journal::{Journal, load_journal};
-use crate::refusal::Refusal;
+use crate::planned::planned_on;
+use crate::today::Today;
 use hl_base::{Bytes, Steps};
 use hl_time::Day;
+use plan_commands::asks_rules;
 use query::Maker;
+use refusals::{Refusal, refuse_report};
 use report_commands::{Asked, Material, report_of};
 use std::alloc::Global;
 use std::sync::ledger::Ledger;
 
-/// What is asked of a journal, on a day, over any items that make it.
+/// What is asked of a journal, on a day, without rules and budgets, over any items that make it.
 fn report_journal<M: Maker>(
     alloc: Global,
     asked: &Asked,
@@ -28,12 +33,12 @@ fn report_journal<M: Maker>(
 ) -> Result<Bytes, Refusal>
     requires day { IsDay day.0 }
     requires valid { IsValid asked.now.options }
+    requires plain { asks_rules asked.now.options ≡ false }
     ensures found { (items : List Placed) → IsJournalOf items journal.now
         → Finds result (Ok (report_made asked.now day.0 items journal.now.book)) }
     ensures kind { IsOfReport result }
-    ensures read { result ≢ Err Refusal.ReadFault }
     ensures maker { (items : List Placed) → IsJournalOf items journal.now
-        → TellsMaker day.0 asked.now.words (told_by M.Maker maker.old maker.new) result }
+        → TellsWords day.0 asked.now.words (told_by M.Maker maker.old maker.new) result }
 {
     let material = Material {
         book: &journal.book,
@@ -48,26 +53,51 @@ fn report_journal<M: Maker>(
     }
 }
 
+/// What is asked of a text, on a day, without rules and budgets: once its book is made its items aren't needed any more.
+fn plain_on<M: Maker, L: Ledger>(
+    alloc: Global,
+    asked: &Asked,
+    text: &[u8],
+    today: Today,
+    maker: &mut M,
+    steps: &mut Steps<L>,
+) -> Result<Bytes, Refusal>
+    requires size { length text.now ≤ 16777216 }
+    requires day { IsDay today.day.0 }
+    requires valid { IsValid asked.now.options }
+    requires plain { asks_rules asked.now.options ≡ false }
+    ensures found { Finds result (judged_text (report_made asked.now today.day.0) today.year text.now) }
+    ensures kind { IsOfReport result }
+    ensures maker { TellsWork today.day.0 today.year (works.Report asked.now) text.now
+        (told_by M.Maker maker.old maker.new) result }
+{
+    let journal = load_journal(alloc, text, today.year, steps)?;
+    let found = report_journal(alloc, asked, &journal, today.day, maker);
+    // The program ends after its report, so a large journal isn't taken apart first.
+    std::mem::forget(journal);
+    found
+}
+
 /// What is asked of a text, on a day.
 pub(crate) fn report_on<M: Maker, L: Ledger>(
     alloc: Global,
     asked: &Asked,
     text: &[u8],
-    day: Day,
+    today: Today,
     maker: &mut M,
     steps: &mut Steps<L>,
 ) -> Result<Bytes, Refusal>
     requires size { length text.now ≤ 16777216 }
-    requires day { IsDay day.0 }
+    requires day { IsDay today.day.0 }
     requires valid { IsValid asked.now.options }
-    ensures found { Finds result (judged_text (report_made asked.now day.0) day.0 text.now) }
+    ensures found { Finds result (judged_text (report_made asked.now today.day.0) today.year text.now) }
     ensures kind { IsOfReport result }
-    ensures read { result ≢ Err Refusal.ReadFault }
-    ensures maker { TellsMaker day.0 asked.now.words (told_by M.Maker maker.old maker.new) result }
+    ensures maker { TellsWork today.day.0 today.year (works.Report asked.now) text.now
+        (told_by M.Maker maker.old maker.new) result }
 {
-    let journal = load_journal(alloc, text, day, steps)?;
-    let found = report_journal(alloc, asked, &journal, day, maker);
-    // The program ends after its report, so a large journal isn't taken apart first.
-    std::mem::forget(journal);
-    found
+    if asks_rules(&asked.options) {
+        planned_on(alloc, asked, text, today, maker, steps)
+    } else {
+        plain_on(alloc, asked, text, today, maker, steps)
+    }
 }

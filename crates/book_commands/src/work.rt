@@ -1,19 +1,22 @@
 //! The commands over a text.
-ghost use Rattle.std.specs.Prelude.{◌≡◌, ◌≢◌, ◌≤◌, ◌<◌, Err, IfSome, length};
+ghost use Rattle.std.specs.Prelude.{◌≡◌, ◌<◌, Ok};
 ghost use Rattle.hl_time.specs.Calendar.{IsDay, last_day};
-ghost use Rattle.book_commands.specs.Answers.{Finds, IsOfReport, TellsMaker, told_by};
+ghost use Rattle.refusals.specs.Refusing.{IsOfReport};
+ghost use Rattle.refusals.specs.Outcomes.{written};
+ghost use Rattle.book_commands.specs.Answers.{Finds, IsQuiet, TellsWork, told_by};
 ghost use Rattle.book_commands.specs.Days.{closing_day};
-ghost use Rattle.book_commands.specs.Works.{IsWorkable, judge, words_of};
+ghost use Rattle.book_commands.specs.Works.{IsWithin, IsWorkable, judge};
 
 use crate::close::close_on;
 use crate::hours::hours_on;
-use crate::refusal::Refusal;
 use crate::report::report_on;
 use crate::strict_checks::strict_on;
+use crate::today::Today;
 use book_care::Check;
 use hl_base::{Bytes, List, Steps, Text};
 use hl_time::{DAY_END, Day};
 use query::Maker;
+use refusals::Refusal;
 use report_commands::Asked;
 use std::alloc::Global;
 use std::marker::Model;
@@ -79,6 +82,8 @@ pub struct CloseAsked {
 /// What is asked of a text.
 #[derive(Drop)]
 pub enum Work {
+    /// The text as it is.
+    Text,
     /// A report.
     Report(Asked),
     /// The hours of a time log, as the text of a journal.
@@ -89,28 +94,39 @@ pub enum Work {
     Close(CloseAsked),
 }
 
-/// What is asked of a text of at most 16,777,216 bytes, on a day: what is to be written, or why there is nothing. A
-/// journal has at most 200,000 items, and is read and loaded before anything else of it is judged.
+/// A text as it is.
+fn text_on(alloc: Global, text: &[u8]) -> Result<Bytes, Refusal>
+    ensures found { Finds result (Ok (written text.now)) }
+    ensures kind { IsOfReport result }
+    ensures quiet { IsQuiet result }
+{
+    Ok(Bytes::copied(alloc, text)?)
+}
+
+/// What is asked of a text, on a day: what is to be written, or why there is nothing. A text of which more is asked than
+/// itself has at most 16,777,216 bytes. A journal has at most 200,000 items, and is read and loaded before anything else of it is judged. Where a report asks for
+/// entries that rules make, or for a budget, the text is read once more, since its book takes the items.
 pub fn answer_text<M: Maker, L: Ledger>(
     alloc: Global,
     work: &Work,
     text: &[u8],
-    day: Day,
+    today: Today,
     maker: &mut M,
     steps: &mut Steps<L>,
 ) -> Result<Bytes, Refusal>
-    requires size { length text.now ≤ 16777216 }
-    requires day { IsDay day.0 }
+    requires size { IsWithin work.now text.now }
+    requires day { IsDay today.day.0 }
     requires valid { IsWorkable work.now }
-    ensures found { Finds result (judge day.0 work.now text.now) }
+    ensures found { Finds result (judge today.day.0 today.year work.now text.now) }
     ensures kind { IsOfReport result }
-    ensures read { result ≢ Err Refusal.ReadFault }
-    ensures maker { TellsMaker day.0 (words_of work.now) (told_by M.Maker maker.old maker.new) result }
+    ensures maker { TellsWork today.day.0 today.year work.now text.now
+        (told_by M.Maker maker.old maker.new) result }
 {
     match work {
-        Work::Report(asked) => report_on(alloc, asked, text, day, maker, steps),
+        Work::Text => text_on(alloc, text),
+        Work::Report(asked) => report_on(alloc, asked, text, today, maker, steps),
         Work::Hours(form) => hours_on(alloc, *form, text),
-        Work::Strict(checks) => strict_on(alloc, checks.as_slice(), text, day, steps),
-        Work::Close(asked) => close_on(alloc, asked, text, day, maker, steps),
+        Work::Strict(checks) => strict_on(alloc, checks.as_slice(), text, today.year, steps),
+        Work::Close(asked) => close_on(alloc, asked, text, today, maker, steps),
     }
 }

@@ -2,7 +2,7 @@
 use Rattle.std.proofs.Common.{◌≡◌, ℕ, ◌^◌, ◌≤◌, List, length, Option, Ok, refl, ap}
 use Rattle.balancing.proofs.Solving.{solves_loads}
 use Rattle.book.specs.declared.transaction.Txn.{Txn}
-use Rattle.book_commands.specs.Outcomes.{Judged, Outcome, written}
+use Rattle.refusals.specs.Outcomes.{Judged, Outcome, written}
 use Rattle.book_commands.specs.Works.{entries_text, hours_made, hours_outcome, judge, log_txns, plain_context}
 use Rattle.book_commands.specs.declared.work.LogForm.{LogForm}
 use Rattle.book_commands.specs.declared.work.LogForm.TheVariants as forms
@@ -19,9 +19,9 @@ made : (form : LogForm) (log : List ℕ) (txns : List Txn) → log_txns form (co
 unfolding hours_made
 made form log txns is = ap hours_outcome is
 
-pub told : (day : ℕ) (form : LogForm) (log : List ℕ) (txns : List Txn) → log_txns form (contents_of log) ≡ Ok txns
-    → judge day (works.Hours form) log ≡ Ok (written (entries_text plain_context txns))
-told day form log txns is = ap (λ (o : Outcome). Ok o) (made form log txns is)
+pub told : (day : ℕ) (year : Option ℕ) (form : LogForm) (log : List ℕ) (txns : List Txn) → log_txns form (contents_of log) ≡ Ok txns
+    → judge day year (works.Hours form) log ≡ Ok (written (entries_text plain_context txns))
+told day year form log txns is = ap (λ (o : Outcome). Ok o) (made form log txns is)
 
 pub loads : (year : Option ℕ) (form : LogForm) (log : List ℕ) (txns : List Txn)
     → length log ≤ 2 ^ 24 → log_txns form (contents_of log) ≡ Ok txns → AreShort (entry_shape plain_context) detailed.Written txns

@@ -1,7 +1,7 @@
 //! What becomes of the text that is written of a log.
 ghost use Rattle.std.specs.Prelude.{◌≡◌, ◌≤◌, ◌^◌, ℕ, List, [], length, Option, Ok};
 ghost use Rattle.book.specs.declared.transaction.Txn.{Txn};
-ghost use Rattle.book_commands.specs.Outcomes.{written};
+ghost use Rattle.refusals.specs.Outcomes.{written};
 ghost use Rattle.book_commands.specs.Works.{entries_text, judge, log_txns, plain_context};
 ghost use Rattle.book_commands.specs.declared.work.LogForm.{LogForm};
 ghost use Rattle.book_commands.specs.declared.work.Work.TheVariants as works;
@@ -65,9 +65,9 @@ pub fn hours_own()
 /// So what the command `hours` writes of a log, on whatever day, loads to the book of the log's transactions, where the
 /// log has at most 16,777,216 bytes and no entry is over 65,536.
 pub fn command_loads()
-    ensures written { (day : ℕ) (form : LogForm) (log : List ℕ) (txns : List Txn)
+    ensures written { (day : ℕ) (year : Option ℕ) (form : LogForm) (log : List ℕ) (txns : List Txn)
         → log_txns form (contents_of log) ≡ Ok txns
-        → judge day (works.Hours form) log ≡ Ok (written (entries_text plain_context txns)) }
+        → judge day year (works.Hours form) log ≡ Ok (written (entries_text plain_context txns)) }
     ensures loads { (year : Option ℕ) (form : LogForm) (log : List ℕ) (txns : List Txn)
         → length log ≤ 2 ^ 24 → log_txns form (contents_of log) ≡ Ok txns
         → AreShort (entry_shape plain_context) detailed.Written txns

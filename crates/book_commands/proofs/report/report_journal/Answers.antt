@@ -1,13 +1,19 @@
+use Rattle.std.proofs.Common.{Ok, Err}
+use Rattle.plan_commands.specs.Telling.{Never}
+use Rattle.plan_commands.specs.declared.fault.PlanFault.TheVariants as plan_fault
 use Rattle.book_commands.specs.Answers.{told_by}
 use Rattle.book_commands.specs.Works.{report_made}
-use Rattle.book_commands.proofs.Answering.{report_tells, report_told, words_found, words_maker}
+use Rattle.book_commands.proofs.Answering.{fault_found, fault_maker, plain_says, report_tells, report_told}
 use Rattle.book_commands.proofs.report.report_journal.Goals as goal
 
 pub returns-in-Ok-clause-found : goal.returns-in-Ok-clause-found
 returns-in-Ok-clause-found g c = λ items is.
     let journal = c.args.journal.now in
-    report_told c.args.asked.now c.args.day.0 items journal.book c.in-Ok.text
-    (c.in-Ok.ensures items (record { letters = is.letters; styles = is.styles; quotes = is.quotes })).0
+    let asked = c.args.asked.now in
+    let t = told_by g.M.Maker c.args.maker.now c.report_of.new.maker in
+    report_told asked c.args.day.0 items journal.book t Never c.in-Ok.text
+    (plain_says asked c.args.day.0 items journal.book t (Ok c.in-Ok.text) c.requires.plain
+    (c.in-Ok.ensures items (record { letters = is.letters; styles = is.styles; quotes = is.quotes })))
 
 pub returns-in-Ok-clause-maker : goal.returns-in-Ok-clause-maker
 returns-in-Ok-clause-maker g c = λ items is.
@@ -17,18 +23,22 @@ pub returns-in-Err-clause-found : goal.returns-in-Err-clause-found
 returns-in-Err-clause-found g c = λ items is.
     let journal = c.args.journal.now in
     let asked = c.args.asked.now in
+    let day = c.args.day.0 in
     let t = told_by g.M.Maker c.args.maker.now c.report_of.new.maker in
-    words_found c.args.day.0 asked.words t (report_made asked c.args.day.0 items journal.book) c.in-Err.fault c.refuse_report.result
-    (report_tells asked c.args.day.0 items journal.book t c.in-Err.fault
-    (c.in-Err.ensures items (record { letters = is.letters; styles = is.styles; quotes = is.quotes })))
+    fault_found day asked.words Never t (report_made asked day items journal.book) (plan_fault.Words c.in-Err.fault) c.refuse_report.result
+    (report_tells asked day items journal.book t Never (plan_fault.Words c.in-Err.fault)
+    (plain_says asked day items journal.book t (Err c.in-Err.fault) c.requires.plain
+    (c.in-Err.ensures items (record { letters = is.letters; styles = is.styles; quotes = is.quotes }))))
     c.refuse_report.ensures.cause
 
 pub returns-in-Err-clause-maker : goal.returns-in-Err-clause-maker
 returns-in-Err-clause-maker g c = λ items is.
     let journal = c.args.journal.now in
     let asked = c.args.asked.now in
+    let day = c.args.day.0 in
     let t = told_by g.M.Maker c.args.maker.now c.report_of.new.maker in
-    words_maker c.args.day.0 asked.words t (report_made asked c.args.day.0 items journal.book) c.in-Err.fault c.refuse_report.result
-    (report_tells asked c.args.day.0 items journal.book t c.in-Err.fault
-    (c.in-Err.ensures items (record { letters = is.letters; styles = is.styles; quotes = is.quotes })))
+    fault_maker day asked.words Never t (report_made asked day items journal.book) (plan_fault.Words c.in-Err.fault) c.refuse_report.result
+    (report_tells asked day items journal.book t Never (plan_fault.Words c.in-Err.fault)
+    (plain_says asked day items journal.book t (Err c.in-Err.fault) c.requires.plain
+    (c.in-Err.ensures items (record { letters = is.letters; styles = is.styles; quotes = is.quotes }))))
     c.refuse_report.ensures.cause

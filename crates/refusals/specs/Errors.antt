@@ -3,11 +3,17 @@ use Rattle.std.specs.Prelude.{ℕ, List, ◌++◌, codes}
 use Rattle.std.specs.Fmt.{decimal}
 use Rattle.book.specs.declared.fault.Cause.{Cause}
 use Rattle.book.specs.declared.fault.Cause.TheVariants.{TooLong}
-use Rattle.book.specs.FaultLine.{ended}
+use Rattle.book.specs.FaultLine.{ended, fault_line}
+use Rattle.generated.specs.declared.fault.GenFault.{GenFault}
+use Rattle.generated.specs.declared.fault.GenFault.TheVariants as gen_fault
+use Rattle.plan_commands.specs.declared.fault.PlanFault.{PlanFault}
+use Rattle.plan_commands.specs.declared.fault.PlanFault.TheVariants as plan_fault
 use Rattle.report_cells.specs.declared.fault.ReportFault.{ReportFault}
 use Rattle.report_cells.specs.declared.fault.ReportFault.TheVariants as report_fault
 use Rattle.report_commands.specs.declared.fault.WordsFault.{WordsFault}
 use Rattle.report_commands.specs.declared.fault.WordsFault.TheVariants as words_fault
+use Rattle.refusals.specs.declared.refusal.PatternOf.{PatternOf}
+use Rattle.refusals.specs.declared.refusal.PatternOf.TheVariants as pattern_of
 
 -- no command
 abbrev pub usage_line : List ℕ
@@ -17,6 +23,10 @@ usage_line = ended (codes "error: usage")
 abbrev pub line_with : List ℕ → List ℕ → List ℕ
 line_with front word = ended (front ++ word)
 
+-- a line that ends with a number
+abbrev pub numbered : List ℕ → ℕ → List ℕ
+numbered front number = ended (front ++ decimal number)
+
 -- a word that has no place
 abbrev pub usage_word_line : List ℕ → List ℕ
 usage_word_line word = line_with (codes "error: usage: ") word
@@ -25,12 +35,18 @@ usage_word_line word = line_with (codes "error: usage: ") word
 abbrev pub conflict_line : List ℕ → List ℕ → List ℕ
 conflict_line a b = ended (codes "error: usage: " ++ a ++ codes " with " ++ b)
 
--- a word that is no term of a query, and one of which a pattern isn't built
+-- a word that is no term of a query
 abbrev pub term_line : List ℕ → List ℕ
 term_line word = line_with (codes "error: term: ") word
 
-abbrev pub pattern_line : List ℕ → List ℕ
-pattern_line word = line_with (codes "error: pattern: ") word
+-- the line of an automated rule of which a word is no term
+abbrev pub rule_line : ℕ → List ℕ
+rule_line line = numbered (codes "error: rule line ") line
+
+-- a pattern that isn't built: one of a word, or one of the automated rule at a line
+abbrev pub pattern_line : PatternOf → List ℕ
+pattern_line (pattern_of.Word word) = line_with (codes "error: pattern: ") word
+pattern_line (pattern_of.Rule line) = numbered (codes "error: rule pattern line ") line
 
 -- a symbol whose amounts are out of range
 abbrev pub range_line : List ℕ → List ℕ
@@ -46,6 +62,9 @@ absent_line name = line_with (codes "error: absent: ") name
 
 abbrev pub read_fault_line : List ℕ
 read_fault_line = ended (codes "error: read fault")
+
+abbrev pub disk_fault_line : List ℕ
+disk_fault_line = ended (codes "error: disk fault")
 
 abbrev pub write_fault_line : List ℕ
 write_fault_line = ended (codes "error: write fault")
@@ -72,7 +91,7 @@ words_line (words_fault.NoCommand word) = usage_word_line word
 words_line (words_fault.BadOption word) = usage_word_line word
 words_line (words_fault.Conflict a b) = conflict_line a b
 words_line (words_fault.BadTerm word) = term_line word
-words_line (words_fault.PatternRefused word) = pattern_line word
+words_line (words_fault.PatternRefused word) = pattern_line (pattern_of.Word word)
 words_line (words_fault.Report fault) = report_line fault
 words_line words_fault.Memory = memory_line
 
@@ -84,3 +103,26 @@ report_status _ = 1
 abbrev pub words_status : WordsFault → ℕ
 words_status (words_fault.Report fault) = report_status fault
 words_status _ = 1
+
+-- why rules make no book
+abbrev pub rules_line : GenFault → List ℕ
+rules_line (gen_fault.Journal fault) = fault_line fault
+rules_line (gen_fault.BadTerm line) = rule_line line
+rules_line (gen_fault.PatternRefused line) = pattern_line (pattern_of.Rule line)
+rules_line (gen_fault.TooMany count limit) = limit_line count limit
+rules_line gen_fault.Memory = memory_line
+
+-- the exit status of rules that make no book: 7 where an entry is too long or they make too much, else 1
+abbrev pub rules_status : GenFault → ℕ
+rules_status (gen_fault.Journal fault) = fault_status fault.cause
+rules_status (gen_fault.TooMany count limit) = 7
+rules_status _ = 1
+
+-- why a report isn't made with what rules make, and its exit status
+abbrev pub plan_line : PlanFault → List ℕ
+plan_line (plan_fault.Words fault) = words_line fault
+plan_line (plan_fault.Generated fault) = rules_line fault
+
+abbrev pub plan_status : PlanFault → ℕ
+plan_status (plan_fault.Words fault) = words_status fault
+plan_status (plan_fault.Generated fault) = rules_status fault

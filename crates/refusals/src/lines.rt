@@ -1,16 +1,15 @@
 //! The lines that say why a command is refused.
-ghost use Rattle.std.specs.Prelude.{◌≡◌, Err, IfOk, ◌++◌, ◌∷◌, []};
+ghost use Rattle.std.specs.Prelude.{◌≡◌, ◌++◌, ◌∷◌, [], IfOk};
 ghost use Rattle.std.specs.String.{string_bytes};
-ghost use Rattle.book.specs.FaultLine.{fault_line};
-ghost use Rattle.book_commands.specs.Answers.{IsJudgedStatus, IsOfReport, IsOfText, Refuses, RefusesReport, RefusesWord};
-ghost use Rattle.book_commands.specs.Errors as spec;
+ghost use Rattle.refusals.specs.Errors as spec;
 
-use crate::refusal::Refusal;
-use book::{Cause, Fault, print_fault};
+use crate::refusal::PatternOf;
+use book::print_fault;
+use generated::GenFault;
 use hl_base::{Bytes, Memory, Text};
 use report_cells::ReportFault;
 use report_commands::WordsFault;
-use std::alloc::{AllocError, Global};
+use std::alloc::Global;
 use std::string::ToString;
 
 /// A line of one text.
@@ -22,11 +21,20 @@ fn ended(mut line: String) -> Result<Bytes, Memory>
 }
 
 /// A line that ends with what is wrong.
-pub(crate) fn line_with(alloc: Global, front: &str, word: &Text) -> Result<Bytes, Memory>
+pub fn line_with(alloc: Global, front: &str, word: &Text) -> Result<Bytes, Memory>
     ensures { IfOk result (λ line. line ≡ spec.line_with front.now word.now) }
 {
     let mut line = String::from_str(alloc, front)?;
     line.push_str(word.as_str())?;
+    ended(line)
+}
+
+/// A line that ends with a number.
+fn numbered(alloc: Global, front: &str, number: u64) -> Result<Bytes, Memory>
+    ensures { IfOk result (λ line. line ≡ spec.numbered front.now number) }
+{
+    let mut line = String::from_str(alloc, front)?;
+    line.push_str(number.to_string(alloc)?.as_str())?;
     ended(line)
 }
 
@@ -67,10 +75,20 @@ pub fn absent(alloc: Global, name: &Text) -> Result<Bytes, Memory>
 }
 
 /// Want of memory.
-pub(crate) fn memory_line(alloc: Global) -> Result<Bytes, Memory>
+pub fn memory_line(alloc: Global) -> Result<Bytes, Memory>
     ensures { IfOk result (λ line. line ≡ spec.memory_line) }
 {
     ended(String::from_str(alloc, "error: memory")?)
+}
+
+/// A pattern that isn't built.
+pub(crate) fn pattern_line(alloc: Global, what: &PatternOf) -> Result<Bytes, Memory>
+    ensures { IfOk result (λ line. line ≡ spec.pattern_line what.now) }
+{
+    match what {
+        PatternOf::Word(word) => line_with(alloc, "error: pattern: ", word),
+        PatternOf::Rule(line) => numbered(alloc, "error: rule pattern line ", *line),
+    }
 }
 
 /// Why a report can't be made.
@@ -99,81 +117,15 @@ pub fn words_line(alloc: Global, fault: &WordsFault) -> Result<Bytes, Memory>
     }
 }
 
-/// The exit status of a text with a fault: 7 where an entry is too long, else 1.
-fn status_for(cause: &Cause) -> u8
-    ensures status { result ≡ spec.fault_status cause.now }
-    ensures kind { IsJudgedStatus result }
-{
-    match cause {
-        Cause::TooLong => 7,
-        _ => 1,
-    }
-}
-
-/// The refusal of a text with a fault.
-pub(crate) fn refuse_fault(alloc: Global, fault: &Fault) -> Refusal
-    ensures line { Refuses result (spec.fault_status fault.now.cause) (fault_line fault.now) }
-    ensures kind { IsOfText result }
-{
-    let status = status_for(&fault.cause);
-    match print_fault(alloc, fault) {
-        Ok(line) => Refusal::Line { status, line },
-        Err(_) => Refusal::Memory,
-    }
-}
-
-/// The exit status of a report that can't be made: 7 where it has too many columns, else 1.
-fn report_status(fault: &ReportFault) -> u8
-    ensures status { result ≡ spec.report_status fault.now }
-    ensures kind { IsJudgedStatus result }
+/// Why rules make no book.
+pub(crate) fn rules_line(alloc: Global, fault: &GenFault) -> Result<Bytes, Memory>
+    ensures { IfOk result (λ line. line ≡ spec.rules_line fault.now) }
 {
     match fault {
-        ReportFault::TooWide { .. } => 7,
-        _ => 1,
-    }
-}
-
-/// The exit status of a report that isn't made.
-fn words_status(fault: &WordsFault) -> u8
-    ensures status { result ≡ spec.words_status fault.now }
-    ensures kind { IsJudgedStatus result }
-{
-    match fault {
-        WordsFault::Report(fault) => report_status(fault),
-        _ => 1,
-    }
-}
-
-/// The refusal of a report that isn't made.
-fn refuse_words(alloc: Global, fault: &WordsFault) -> Refusal
-    ensures line { Refuses result (spec.words_status fault.now) (spec.words_line fault.now) }
-    ensures kind { IsOfText result }
-{
-    let status = words_status(fault);
-    match words_line(alloc, fault) {
-        Ok(line) => Refusal::Line { status, line },
-        Err(Memory) => Refusal::Memory,
-    }
-}
-
-/// The refusal of a word of which a pattern isn't built.
-fn refuse_pattern(alloc: Global, word: Text) -> Refusal
-    ensures { RefusesWord result word }
-{
-    match line_with(alloc, "error: pattern: ", &word) {
-        Ok(line) => Refusal::Pattern { word, line },
-        Err(Memory) => Refusal::Memory,
-    }
-}
-
-/// The refusal of a report that isn't made, or of which a pattern isn't built.
-pub(crate) fn refuse_report(alloc: Global, fault: WordsFault) -> Refusal
-    ensures cause { RefusesReport result fault }
-    ensures kind { IsOfReport (Err result) }
-{
-    match fault {
-        WordsFault::Memory => Refusal::Memory,
-        WordsFault::PatternRefused { word } => refuse_pattern(alloc, word),
-        fault => refuse_words(alloc, &fault),
+        GenFault::Journal(fault) => print_fault(alloc, fault),
+        GenFault::BadTerm { line } => numbered(alloc, "error: rule line ", *line),
+        GenFault::PatternRefused { line } => numbered(alloc, "error: rule pattern line ", *line),
+        GenFault::TooMany { count, limit } => past_limit(alloc, *count, *limit),
+        GenFault::Memory => memory_line(alloc),
     }
 }
