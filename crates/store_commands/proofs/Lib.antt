@@ -1,0 +1,4 @@
+pub mod AskingLaws
+pub mod EditLaws
+pub mod ReplyLaws
+pub mod StandingLaws

@@ -1,0 +1,17 @@
+use Rattle.std.proofs.Common.{refl}
+use Rattle.store_commands.proofs.asking.ask_disks.Goals as goal
+
+pub returns-in-Ok : goal.returns-in-Ok
+returns-in-Ok g c =
+    let o = c.in-Ok.ensures in (
+      c.in-Ok.desk,
+      record { shown = o.opened; allowed = o.allowed; size = o.size; any_moment = o.any_moment; keeps = o.keeps },
+      c.ask_desk-first.ensures,
+    )
+
+pub returns-in-Err : goal.returns-in-Err
+returns-in-Err g c =
+    let o = c.in-Err.ensures in (
+      record { fault = c.in-Err.fault; is = c.of_opening.ensures; cause = o.cause; any_moment = o.any_moment; keeps = o.keeps },
+      record { count = refl; told = refl },
+    )

@@ -1,0 +1,9 @@
+//! What is asked of a store among the files of a shelf: it is opened, asked once, and closed.
+#![tactic(auto)]
+
+mod asking;
+mod edit;
+mod lines;
+
+pub use edit::{StoreEdit, edit_store};
+pub use lines::{reply_line, reply_status};
