@@ -1,13 +1,14 @@
 -- How a report ends that was written.
 use Rattle.std.proofs.Common.{◌≡◌, ◌≢◌, ◌⊎◌, inl, inr, ℕ, List, Option, Some, None, Ok, IfSome, length, ap, sym, ◌∙◌, subst, arith}
 use Rattle.hl_base.specs.Causes.{Rose}
-use Rattle.book_commands.specs.Errors.{write_fault_line}
-use Rattle.book_commands.specs.Outcomes.{Judged, Outcome, outcome_of, written}
-use Rattle.book_commands.specs.Works.{words_of}
-use Rattle.command_line.specs.declared.task.TextTask.{TextTask}
+use Rattle.refusals.specs.Errors.{write_fault_line}
+use Rattle.refusals.specs.Outcomes.{Judged, Outcome, outcome_of, written}
+use Rattle.command_words.specs.declared.task.Origin.{Origin}
+use Rattle.command_words.specs.declared.task.Origin.TheVariants as origins
+use Rattle.command_words.specs.declared.task.TextTask.{TextTask}
 use Rattle.command_line.specs.Answers.{IsErrorLine, IsTextStatus, Says, Wrote, WrotePrefix}
 use Rattle.command_line.specs.Runs.{AnswersText, RunsText, TextSoundly}
-use Rattle.command_line.specs.Scenes.{IsReadWhole, OtherStays, Scene, Soundness, judged_in}
+use Rattle.command_line.specs.Scenes.{FilesStay, IsReadWhole, OtherStays, Scene, Soundness, judged_in}
 use Rattle.command_line.proofs.Endings.{no_text, says_from}
 
 -- a scene in which the outputs alone have changed
@@ -15,15 +16,24 @@ abbrev pub with_outputs : Scene → Option (List ℕ) → ℕ → Option (List �
 with_outputs s output output_faults error error_faults =
     record s { output = output; output_faults = output_faults; error = error; error_faults = error_faults }
 
-other_on : (file : Option (List ℕ)) (old mid : Scene) (output : Option (List ℕ)) (output_faults : ℕ) (error : Option (List ℕ)) (faults : ℕ)
-    → OtherStays file old mid → OtherStays file old (with_outputs mid output output_faults error faults)
-other_on None old mid output output_faults error faults h = h
-other_on (Some name) old mid output output_faults error faults h = h
+module _ (old mid : Scene) (output : Option (List ℕ)) (output_faults : ℕ) (error : Option (List ℕ)) (faults : ℕ) where
+  abbrev after : Scene
+  after = with_outputs mid output output_faults error faults
 
-whole_on : (file : Option (List ℕ)) (old mid : Scene) (output : Option (List ℕ)) (output_faults : ℕ) (error : Option (List ℕ)) (faults : ℕ)
-    → IsReadWhole file old mid → IsReadWhole file old (with_outputs mid output output_faults error faults)
-whole_on None old mid output output_faults error faults h = h
-whole_on (Some name) old mid output output_faults error faults h = tt
+  other_on : (origin : Origin) → OtherStays origin old mid → OtherStays origin old after
+  other_on origins.Input h = h
+  other_on (origins.File name) h = h
+  other_on (origins.Store name) h = h
+
+  files_on : (origin : Origin) → FilesStay origin old mid → FilesStay origin old after
+  files_on origins.Input h = h
+  files_on (origins.File name) h = h
+  files_on (origins.Store name) h = h
+
+  whole_on : (origin : Origin) → IsReadWhole origin old mid → IsReadWhole origin old after
+  whole_on origins.Input h = h
+  whole_on (origins.File name) h = tt
+  whole_on (origins.Store name) h = tt
 
 -- what was written is what the definition says
 wrote_so : (told : Option Judged) (output : List ℕ) (old new : Option (List ℕ)) → Wrote old new output
@@ -62,22 +72,24 @@ module _ (given : TextTask) (day status : ℕ) (output : List ℕ) (old mid : Sc
       let R : ℕ → Type 0 = λ n. Rose n out_faults in
       record {
         read = λ e. no_other status 2 kind e (λ x. omega arith) (λ x. omega arith);
-        done = λ e. (quiet e ∙ a.outputs.error, whole_on given.file old mid out out_faults error error_faults a.whole, a.maker, wrote_so told output old.output out (subst F a.outputs.output (wrote e)) a.found);
+        done = λ e. (quiet e ∙ a.outputs.error, whole_on old mid out out_faults error error_faults given.origin a.whole, a.maker, wrote_so told output old.output out (subst F a.outputs.output (wrote e)) a.found);
         refused = λ k. absurd (none_text status kind k);
         named = λ e. absurd (no_other status 8 kind e (λ x. omega arith) (λ x. omega arith));
         read_fault = λ e. absurd (no_other status 3 kind e (λ x. omega arith) (λ x. omega arith));
+        disk_fault = λ e. absurd (no_other status 5 kind e (λ x. omega arith) (λ x. omega arith));
         write_fault = λ e. inl (
           (subst R a.outputs.output_faults (rose e), says_from status 4 write_fault_line old.error mid.error error old.error_faults mid.error_faults error_faults a.outputs.error a.outputs.error_faults (said e)),
           front_so told output old.output out (subst G a.outputs.output prefix) a.found,
         );
         memory = λ e. absurd (no_other status 6 kind e (λ x. omega arith) (λ x. omega arith));
         maker = inl a.maker;
-        other = other_on given.file old mid out out_faults error error_faults a.other;
+        other = other_on old mid out out_faults error error_faults given.origin a.other;
+        files = files_on old mid out out_faults error error_faults given.origin a.files;
       }
 
   sound_by : (sound : Soundness) (judged : Option Judged) → IfSome judged (λ t. t ≡ Ok (written output)) → (sound.output (length output) → status ≡ 0)
       → IfSome judged (λ t. sound.output (length (outcome_of t).output)
-      → ((line : List ℕ) → IsErrorLine (words_of given.work) (outcome_of t) line → sound.error (length line)) → status ≢ 4)
+      → ((line : List ℕ) → IsErrorLine given.work (outcome_of t) line → sound.error (length line)) → status ≢ 4)
   sound_by sound None found own = tt
   sound_by sound (Some t) found own = λ room lines e.
       let F : Judged → Type 0 = λ x. sound.output (length (outcome_of x).output) in

@@ -1,10 +1,11 @@
-mod Choosing
 mod Endings
 mod Finishing
 mod Histories
+mod Limits
 mod Reporting
 mod Running
-mod Saying
+mod StoreEnds
+mod Storing
 mod TalkEndings
 mod Talking
 mod Unmade

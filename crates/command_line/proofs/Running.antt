@@ -5,22 +5,25 @@ use Rattle.report_commands.specs.declared.fault.WordsFault.{WordsFault}
 use Rattle.report_commands.specs.declared.fault.WordsFault.TheVariants as words_fault
 use Rattle.web_desk.specs.declared.conn_end.ConnEnd.{ConnEnd}
 use Rattle.web_desk.specs.declared.conn_end.ConnEnd.TheVariants as conn
-use Rattle.command_line.specs.declared.task.TextTask.{TextTask}
-use Rattle.command_line.specs.declared.task.Task.{Task}
-use Rattle.command_line.specs.declared.task.Task.TheVariants as task
-use Rattle.command_line.specs.declared.usage.UsageFault.{UsageFault}
-use Rattle.command_line.specs.declared.usage.UsageFault.TheVariants as usages
-use Rattle.book_commands.specs.declared.refusal.Refusal.{Refusal}
-use Rattle.book_commands.specs.declared.refusal.Refusal.TheVariants as refusal
-use Rattle.book_commands.specs.Answers.{Finds, Refuses}
+use Rattle.command_words.specs.declared.task.Origin.{Origin}
+use Rattle.command_words.specs.declared.task.Origin.TheVariants as origins
+use Rattle.command_words.specs.declared.task.TextTask.{TextTask}
+use Rattle.command_words.specs.declared.task.Task.{Task}
+use Rattle.command_words.specs.declared.task.Task.TheVariants as task
+use Rattle.command_words.specs.declared.usage.UsageFault.{UsageFault}
+use Rattle.command_words.specs.declared.usage.UsageFault.TheVariants as usages
+use Rattle.refusals.specs.declared.refusal.Refusal.{Refusal}
+use Rattle.refusals.specs.declared.refusal.Refusal.TheVariants as refusal
+use Rattle.refusals.specs.Refusing.{Refuses}
+use Rattle.book_commands.specs.Answers.{Finds}
 use Rattle.command_line.specs.Answers.{Says, Wrote, WrotePrefix, status_of, line_of}
-use Rattle.command_line.specs.Commands.{usage_of}
-use Rattle.command_line.specs.Usage.{usage_cause}
-use Rattle.book_commands.specs.Errors.{memory_line}
+use Rattle.command_words.specs.Commands.{usage_of}
+use Rattle.command_words.specs.Usage.{usage_cause}
+use Rattle.refusals.specs.Errors.{memory_line}
 use Rattle.command_line.specs.Help.{help_text, version_text}
-use Rattle.book_commands.specs.Outcomes.{Judged}
+use Rattle.refusals.specs.Outcomes.{Judged}
 use Rattle.command_line.specs.Runs.{AnswersText, Connects, Prints, RefusesWords, Runs, RunsSoundly}
-use Rattle.command_line.specs.Scenes.{OtherStays, Scene, Soundness, judged_in, telling}
+use Rattle.command_line.specs.Scenes.{FilesStay, OtherStays, Scene, Soundness, judged_in, telling}
 use Rattle.command_line.specs.Talks.{TellsEnd}
 use Rattle.command_line.proofs.Endings.{none_written, not_same, refused_report, refused_soundly, with_error}
 use Rattle.command_line.proofs.Talking.{nothing_done, unasked}
@@ -58,9 +61,15 @@ free_found : (told : Option Judged) → IfSome told (Finds (Err refusal.Memory))
 free_found None = tt
 free_found (Some t) = tt
 
-other_same : (file : Option (List ℕ)) (s : Scene) → OtherStays file s s
-other_same None s = (refl, refl)
-other_same (Some name) s = (refl, refl)
+other_same : (origin : Origin) (s : Scene) → OtherStays origin s s
+other_same origins.Input s = (refl, refl, refl)
+other_same (origins.File name) s = ((refl, refl), refl)
+other_same (origins.Store name) s = (refl, refl)
+
+files_same : (origin : Origin) (s : Scene) → FilesStay origin s s
+files_same origins.Input s = λ name. refl
+files_same (origins.File name) s = λ other. refl
+files_same (origins.Store name) s = (λ other a b. refl, λ told. inr refl)
 
 memory_answers : (given : TextTask) (day : ℕ) (s : Scene) → AnswersText given day (Err refusal.Memory) s s
 memory_answers given day s = record {
@@ -68,7 +77,9 @@ memory_answers given day s = record {
   kind = tt;
   whole = tt;
   rose = λ e. cc;
-  other = other_same given.file s;
+  disk_rose = λ e. cc;
+  other = other_same given.origin s;
+  files = files_same given.origin s;
   outputs = record { output = refl; output_faults = refl; error = refl; error_faults = refl };
   maker = inl (unasked s.refusals s.last_refused);
 }
@@ -87,6 +98,7 @@ memory_talk day status old error faults h =
       read_fault = λ e. absurd (no_other status old error faults 3 kind e (λ x. omega arith) (λ x. omega arith));
       write_fault = λ e. inr (four_rose status old error faults h e);
       unread = refl;
+      files = λ name. refl;
     }
 
 none_of : (out : Option (List ℕ)) (text : List ℕ) → WrotePrefix out out text
@@ -108,6 +120,7 @@ memory_prints text status old error faults h =
       write_fault = λ e. inr ((four_rose status old error faults h e, refl), four_front status old error faults h e);
       memory = λ e. (refl, six_wrote status old error faults h e);
       unread = (refl, refl);
+      files = λ name. refl;
       maker = unasked old.refusals old.last_refused;
     }
 
@@ -116,11 +129,12 @@ memory_runs : (words : List (List ℕ)) (day status : ℕ) (old : Scene) (error 
     → Runs words day status old (with_error old error faults) what
 memory_runs words day status old error faults (Ok (task.Over given)) h =
     refused_report given day status old old error faults refusal.Memory (memory_answers given day old) h
+memory_runs words day status old error faults (Ok (task.Stored what)) h = λ e. no_other status old error faults 2 (six_or_four status old error faults h) e (λ x. omega arith) (λ x. omega arith)
 memory_runs words day status old error faults (Ok task.Talk) h = memory_talk day status old error faults h
 memory_runs words day status old error faults (Ok task.Help) h = memory_prints help_text status old error faults h
 memory_runs words day status old error faults (Ok task.Version) h = memory_prints version_text status old error faults h
 memory_runs words day status old error faults (Err fault) h =
-    record { said = inr h; unread = (refl, refl); unwritten = refl; maker = unasked old.refusals old.last_refused }
+    record { said = inr h; unread = (refl, refl); files = λ name. refl; unwritten = refl; maker = unasked old.refusals old.last_refused }
 
 says_line : (status own : ℕ) (line told : List ℕ) (old new : Option (List ℕ)) (fo fn : ℕ) → own ≡ 2 → line ≡ told → Says status own line old new fo fn → Says status 2 told old new fo fn
 says_line status own line told old new fo fn e l h =
@@ -134,13 +148,15 @@ refused_runs : (r : Refusal) (line : List ℕ) (status : ℕ) (old : Scene) (err
 refused_runs (refusal.Line own told) line status old error faults k h = record {
   said = inl (says_line status own told line old.error error old.error_faults faults k.0 k.1 h);
   unread = (refl, refl);
+  files = λ name. refl;
   unwritten = refl;
   maker = unasked old.refusals old.last_refused;
 }
-refused_runs (refusal.Pattern word told) line status old error faults k h = absurd k
+refused_runs (refusal.Pattern what told) line status old error faults k h = absurd k
 refused_runs refusal.ReadFault line status old error faults k h = absurd k
+refused_runs refusal.DiskFault line status old error faults k h = absurd k
 refused_runs refusal.Memory line status old error faults k h =
-    record { said = inr h; unread = (refl, refl); unwritten = refl; maker = unasked old.refusals old.last_refused }
+    record { said = inr h; unread = (refl, refl); files = λ name. refl; unwritten = refl; maker = unasked old.refusals old.last_refused }
 
 says_memory : (r : Refusal) (status : ℕ) (old : Scene) (error : Option (List ℕ)) (faults : ℕ) → r ≡ refusal.Memory → SaysRefusal r status old error faults → SaysMemory status old error faults
 says_memory r status old error faults e h =
@@ -156,6 +172,7 @@ memory_sound : (words : List (List ℕ)) (day status : ℕ) (old : Scene) (error
     → SaysMemory status old error faults → (sound.error (length memory_line) → status ≡ 6) → RunsSoundly words day status old sound what
 memory_sound words day status old error faults sound (Ok (task.Over given)) h own =
     refused_soundly given day status old old error faults refusal.Memory sound (memory_answers given day old) h (λ s e. cc) own
+memory_sound words day status old error faults sound (Ok (task.Stored what)) h own = tt
 memory_sound words day status old error faults sound (Ok task.Talk) h own = tt
 memory_sound words day status old error faults sound (Ok task.Help) h own = λ room line e. not_same status 6 4 (own line) e (λ x. omega arith)
 memory_sound words day status old error faults sound (Ok task.Version) h own = λ room line e. not_same status 6 4 (own line) e (λ x. omega arith)
@@ -168,8 +185,9 @@ refused_sound (refusal.Line own told) line status error_room k says usage memory
     let F : List ℕ → Type 0 = λ l. error_room (length l) in
     let is : status ≡ own = says (subst F (sym k.1) usage) in
     omega (arith, is, k.0, e)
-refused_sound (refusal.Pattern word told) line status error_room k says usage memory e = absurd k
+refused_sound (refusal.Pattern what told) line status error_room k says usage memory e = absurd k
 refused_sound refusal.ReadFault line status error_room k says usage memory e = absurd k
+refused_sound refusal.DiskFault line status error_room k says usage memory e = absurd k
 refused_sound refusal.Memory line status error_room k says usage memory e = not_same status 6 4 (says memory) e (λ x. omega arith)
 
 module _ (words : List (List ℕ)) (day status : ℕ) (old : Scene) (error : Option (List ℕ)) (faults : ℕ) (r : Refusal) (what : Result Task UsageFault) where

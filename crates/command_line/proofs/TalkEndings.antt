@@ -7,7 +7,7 @@ use Rattle.web_desk.specs.declared.conn_end.ConnEnd.TheVariants as conn
 use Rattle.web_desk.specs.declared.conn_end.Way.{Way}
 use Rattle.web_desk.specs.declared.conn_end.Way.TheVariants.{Read, Write}
 use Rattle.command_line.specs.Answers.{IsStatus, Says}
-use Rattle.book_commands.specs.Errors.{read_fault_line, write_fault_line}
+use Rattle.refusals.specs.Errors.{read_fault_line, write_fault_line}
 use Rattle.command_line.specs.Talks.{TellsEnd, end_status}
 
 -- the status is that of the end, or a line couldn't be written
@@ -42,7 +42,7 @@ own_kind (conn.BodyTooLong said) = inr (inl (inl (inl refl)))
 own_kind (conn.CutOff had said) = inr (inl (inl (inl refl)))
 own_kind conn.Spent = inr (inl (inl (inl refl)))
 own_kind (conn.HeadCut had) = inr (inl (inl (inl refl)))
-own_kind conn.Memory = inr (inr (inr (inr refl)))
+own_kind conn.Memory = inr (inr (inr (inr (inr refl))))
 
 pub kind : (end : ConnEnd) (status : ℕ) (fo fn : ℕ) → (status ≡ end_status end) ⊎ ((status ≡ 4) × Rose fo fn) → IsStatus status
 kind end status fo fn (inl h) = subst (λ (n : ℕ). IsStatus n) (sym h) (own_kind end)

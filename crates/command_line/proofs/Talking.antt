@@ -9,6 +9,7 @@ use Rattle.desk.specs.States.{State}
 use Rattle.desk.specs.declared.desk.Desk.{Desk}
 use Rattle.hl_time.specs.declared.day.Day.{Day}
 use Rattle.web_desk.specs.Makers.{AreAsked}
+use Rattle.web_desk.specs.Sent.{Sends}
 use Rattle.web_desk.specs.Served.{AreOf, Served}
 use Rattle.web_desk.specs.declared.conn_end.ConnEnd.{ConnEnd}
 use Rattle.web_desk.specs.declared.conn_end.ConnEnd.TheVariants as conn
@@ -25,7 +26,7 @@ pub unasked : (count : ℕ) (last : Option (List ℕ)) → Stays count count las
 unasked count last = record { count = refl; told = refl }
 
 nothing_by : (coming sent : Option (List ℕ)) (day : ℕ) (maker : Telling) → MakerStays maker
-    → IfSome coming (λ bytes. IfSome sent (λ before. (text : List ℕ) × (sent ≡ Some (before ++ text)) × Served bytes conn.Memory [] text))
+    → IfSome coming (λ bytes. Sends sent sent (λ text. Served bytes conn.Memory [] text))
     → IfSome coming (λ bytes. IfSome sent (λ before. (text : List ℕ) × (sent ≡ Some (before ++ text)) × Talks day maker bytes conn.Memory text))
 nothing_by None sent day maker stays h = tt
 nothing_by (Some bytes) None day maker stays h = tt
@@ -47,7 +48,7 @@ module _ {D : Type 0} {g : Ghosts D} (unfailing : (disk : D) (room : ℕ) → g.
   pub talked : (old new : Desk D g) (day : ℕ) (always : Option ℕ) (maker : Telling) (coming sent sent_new : Option (List ℕ)) (end : ConnEnd)
       → NeverFails room old → state_of old ≡ begun → always ≡ Some day
       → ((entries : List Entry) × Leads old entries new × AreAsked always maker.count_before maker.count_now maker.last_before maker.last_now entries
-      × IfSome coming (λ bytes. IfSome sent (λ before. (text : List ℕ) × (sent_new ≡ Some (before ++ text)) × Served bytes end entries text)))
+      × IfSome coming (λ bytes. Sends sent sent_new (λ text. Served bytes end entries text)))
       → IfSome coming (λ bytes. IfSome sent (λ before. (text : List ℕ) × (sent_new ≡ Some (before ++ text)) × Talks day maker bytes end text))
   talked old new day always maker None sent sent_new end never is day_of h = tt
   talked old new day always maker (Some bytes) None sent_new end never is day_of h = tt

@@ -1,10 +1,8 @@
 pub mod Answers
-pub mod Chores
-pub mod Commands
 pub mod Help
 pub mod Runs
-pub mod Said
 pub mod Scenes
 pub mod Sources
+pub mod StoreTasks
+pub mod Stored
 pub mod Talks
-pub mod Usage

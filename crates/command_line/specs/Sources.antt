@@ -1,9 +1,16 @@
--- The text of a file or of the input.
-use Rattle.std.specs.Prelude.{ℕ, ◌+◌, List, nat_lt, Option, Some, None, Result, Ok, Err, if◌then◌else◌, length}
-use Rattle.book_commands.specs.Errors.{absent_line, limit_line}
-use Rattle.book_commands.specs.Outcomes.{Judged, Outcome, refused}
+-- The text of the input, of a file or of a store.
+use Rattle.std.specs.Prelude.{ℕ, ◌+◌, Bool, true, false, ◌&&◌, List, nat_lt, Option, Some, None, Result, Ok, Err, if◌then◌else◌, length}
+use Rattle.hl_time.specs.Calendar.{year_of}
 use Rattle.book_commands.specs.Works.{judge}
 use Rattle.book_commands.specs.declared.work.Work.{Work}
+use Rattle.book_commands.specs.declared.work.Work.TheVariants as works
+use Rattle.command_words.specs.declared.task.Origin.{Origin}
+use Rattle.command_words.specs.declared.task.Origin.TheVariants as origins
+use Rattle.refusals.specs.Errors.{absent_line, limit_line}
+use Rattle.refusals.specs.Outcomes.{Judged, Outcome, refused}
+use Rattle.store_text.specs.Refusals.{line_of, status_of, text_in as text_of_store}
+use Rattle.store_text.specs.Shelved.{image_under}
+use Rattle.store_text.specs.declared.refusal.StoreRefusal.{StoreRefusal}
 
 -- the most bytes that a text may have
 abbrev pub most_bytes : ℕ
@@ -19,7 +26,32 @@ abbrev pub text_under : List ℕ → Option (List ℕ) → Result (List ℕ) Out
 text_under name None = Err (refused 8 (absent_line name))
 text_under name (Some text) = within_bytes text
 
+-- the text of a store of this name, or why it has none
+abbrev pub text_stored : List ℕ → Result (List ℕ) StoreRefusal → Result (List ℕ) Outcome
+text_stored name (Ok text) = Ok text
+text_stored name (Err r) = Err (refused (status_of r) (line_of name r))
+
+-- that of the store of a name, among the files of a shelf
+abbrev pub store_under : (List ℕ → Option (List ℕ)) → List ℕ → Result (List ℕ) Outcome
+store_under file name = text_stored name (text_of_store (image_under file name))
+
+-- the year of dates that have none: that of the day, and none in a store
+abbrev pub default_year : Origin → ℕ → Option ℕ
+default_year origins.Input day = Some (year_of day)
+default_year (origins.File name) day = Some (year_of day)
+default_year (origins.Store name) day = None
+
+-- a text of which more is asked than itself has a limit; one that a store holds is told with its size
+abbrev pub has_limit : Work → Bool
+has_limit works.Text = false
+has_limit _ = true
+
+abbrev pub judge_within : ℕ → Option ℕ → Work → List ℕ → Judged
+judge_within day year work text =
+    if has_limit work && nat_lt most_bytes (length text) then Err (refused 7 (limit_line (length text) most_bytes))
+    else judge day year work text
+
 -- what is judged of a text that was read, and before it the refusal of what is there in place of one
-abbrev pub judged : ℕ → Work → Result (List ℕ) Outcome → Judged
-judged day work (Ok text) = judge day work text
-judged day work (Err refusal) = Err refusal
+abbrev pub judged : ℕ → Option ℕ → Work → Result (List ℕ) Outcome → Judged
+judged day year work (Ok text) = judge_within day year work text
+judged day year work (Err refusal) = Err refusal

@@ -20,7 +20,7 @@ use Rattle.web_desk.specs.declared.conn_end.ConnEnd.TheVariants as conn
 use Rattle.web_desk.specs.declared.conn_end.Way.TheVariants.{Read, Write}
 use Rattle.book_commands.specs.Answers.{Telling}
 use Rattle.command_line.specs.Answers.{Says}
-use Rattle.book_commands.specs.Errors.{connection_line, memory_line, read_fault_line, write_fault_line}
+use Rattle.refusals.specs.Errors.{connection_line, memory_line, read_fault_line, write_fault_line}
 
 -- the most bytes of each file of its store
 abbrev pub room : ℕ

@@ -1,60 +1,31 @@
 //! The program's run over its words, its input, its files and its outputs.
-ghost use Rattle.std.specs.Prelude.{◌≡◌, ◌≢◌, ◌⊎◌, ℕ, List, Err, length};
+ghost use Rattle.std.specs.Prelude.{◌≡◌, ◌≢◌, ◌⊎◌, length};
 ghost use Rattle.hl_base.specs.Causes.{Rose};
 ghost use Rattle.hl_time.specs.Calendar.{IsDay};
 ghost use Rattle.book_commands.specs.Works.{IsWorkable};
 ghost use Rattle.command_line.specs.Answers.{IsStatus, Says, Wrote, WrotePrefix, line_of, status_of};
-ghost use Rattle.command_line.specs.Commands.{IsReadable, task_of};
-ghost use Rattle.book_commands.specs.Errors.{write_fault_line};
-ghost use Rattle.command_line.specs.Runs.{AnswersText, RunsText, TextSoundly, Runs, RunsSoundly, RunsTask, TaskSoundly};
-ghost use Rattle.command_line.specs.Scenes.{SourceIsSound, scene, soundness};
+ghost use Rattle.command_words.specs.Commands.{IsReadable, task_of};
+ghost use Rattle.refusals.specs.Errors.{write_fault_line};
+ghost use Rattle.command_line.specs.Runs.{RunsText, TextSoundly, Runs, RunsSoundly, RunsTask, TaskSoundly};
+ghost use Rattle.command_line.specs.Scenes.{scene, soundness};
+ghost use Rattle.command_line.specs.StoreTasks.{RunsStored, Stores, StoresTask};
 
+use crate::answering::answer;
 use crate::help::{help_text, version_text};
 use crate::outside::Outside;
-use crate::source::read_text;
+use crate::store_tasks::answer_stored;
 use crate::talk::talk;
-use crate::task::{Task, TextTask};
-use crate::words::{read_words, refuse_words};
-use book_commands::{Refusal, answer_text};
-use hl_base::{Bytes, Shelf, Sink, Source, Steps, Text, write_all};
+use command_words::{StoreTask, Task, TextTask, read_words, refuse_words};
+use hl_base::{Shelf, Sink, Source, Steps, Text, write_all};
 use hl_time::Day;
 use query::Maker;
+use refusals::Refusal;
 use std::alloc::Global;
 use std::sync::ledger::Ledger;
 
 /// An exit status.
 #[derive(Clone, Copy, Debug, PartialEq, Eq)]
 pub struct Status(pub u8);
-
-/// What is answered to a text, before anything is written.
-fn answer<J: Source, O: Sink, E: Sink, S: Shelf, M: Maker, L: Ledger>(
-    alloc: Global,
-    task: &TextTask,
-    day: Day,
-    outside: &mut Outside<J, O, E, S, M>,
-    steps: &mut Steps<L>,
-) -> Result<Bytes, Refusal>
-    requires day { IsDay day.0 }
-    requires valid { IsWorkable task.now.work }
-    ensures answers { AnswersText task.now day.0 result
-        (scene J.Source O.Sink E.Sink S.Shelf M.Maker outside.old)
-        (scene J.Source O.Sink E.Sink S.Shelf M.Maker outside.new) }
-    ensures sound { SourceIsSound task.now.file (soundness J.Source O.Sink E.Sink S.Shelf outside.old)
-        → result ≢ Err Refusal.ReadFault }
-    ensures output { outside.new.streams.output ≡ outside.old.streams.output }
-    ensures err { outside.new.err ≡ outside.old.err }
-    ensures files { (name : List ℕ) → S.file outside.new.shelf name ≡ S.file outside.old.shelf name }
-{
-    let text = read_text(alloc, &task.file, outside)?;
-    answer_text(
-        alloc,
-        &task.work,
-        text.as_slice(),
-        day,
-        &mut outside.maker,
-        steps,
-    )
-}
 
 /// The exit status of a refusal, and the line that says why.
 fn status_and_line(refusal: &Refusal) -> (u8, &[u8])
@@ -65,6 +36,7 @@ fn status_and_line(refusal: &Refusal) -> (u8, &[u8])
         Refusal::Line { status, line } => (*status, line.as_slice()),
         Refusal::Pattern { line, .. } => (1, line.as_slice()),
         Refusal::ReadFault => (3, b"error: read fault\n"),
+        Refusal::DiskFault => (5, b"error: disk fault\n"),
         Refusal::Memory => (6, b"error: memory\n"),
     }
 }
@@ -128,9 +100,32 @@ fn run_text<J: Source, O: Sink, E: Sink, S: Shelf, M: Maker, L: Ledger>(
     ensures sound { TextSoundly task.now day.0 result.0
         (scene J.Source O.Sink E.Sink S.Shelf M.Maker outside.old)
         (soundness J.Source O.Sink E.Sink S.Shelf outside.old) }
-    ensures files { (name : List ℕ) → S.file outside.new.shelf name ≡ S.file outside.old.shelf name }
 {
     match answer(alloc, task, day, outside, steps) {
+        Ok(output) => finish(
+            &mut outside.streams.output,
+            &mut outside.err,
+            output.as_slice(),
+        ),
+        Err(refusal) => refuse(&mut outside.err, &refusal),
+    }
+}
+
+/// Runs what is asked of a store that changes: makes it or edits it, and writes the output or the line that says why not.
+fn run_stored<J: Source, O: Sink, E: Sink, S: Shelf, M: Maker, L: Ledger>(
+    alloc: Global,
+    task: StoreTask,
+    day: Day,
+    outside: &mut Outside<J, O, E, S, M>,
+    steps: &mut Steps<L>,
+) -> Status
+    requires day { IsDay day.0 }
+    ensures statuses { IsStatus result.0 }
+    ensures read { result.0 ≢ 2 }
+    ensures stored { RunsStored (scene J.Source O.Sink E.Sink S.Shelf M.Maker)
+        S.Shelf S.Disk.Disk M.Maker task day result.0 outside.old outside.new }
+{
+    match answer_stored(alloc, task, day, outside, steps) {
         Ok(output) => finish(
             &mut outside.streams.output,
             &mut outside.err,
@@ -143,24 +138,26 @@ fn run_text<J: Source, O: Sink, E: Sink, S: Shelf, M: Maker, L: Ledger>(
 /// Runs what is asked for.
 fn run_task<J: Source, O: Sink, E: Sink, S: Shelf, M: Maker, L: Ledger>(
     alloc: Global,
-    task: &Task,
+    task: Task,
     day: Day,
     outside: &mut Outside<J, O, E, S, M>,
     steps: &mut Steps<L>,
 ) -> Status
     requires day { IsDay day.0 }
-    requires valid { IsReadable task.now }
+    requires valid { IsReadable task }
     ensures statuses { IsStatus result.0 }
     ensures runs { RunsTask day.0 result.0
         (scene J.Source O.Sink E.Sink S.Shelf M.Maker outside.old)
-        (scene J.Source O.Sink E.Sink S.Shelf M.Maker outside.new) task.now }
+        (scene J.Source O.Sink E.Sink S.Shelf M.Maker outside.new) task }
     ensures sound { TaskSoundly day.0 result.0
         (scene J.Source O.Sink E.Sink S.Shelf M.Maker outside.old)
-        (soundness J.Source O.Sink E.Sink S.Shelf outside.old) task.now }
-    ensures files { (name : List ℕ) → S.file outside.new.shelf name ≡ S.file outside.old.shelf name }
+        (soundness J.Source O.Sink E.Sink S.Shelf outside.old) task }
+    ensures stored { StoresTask (scene J.Source O.Sink E.Sink S.Shelf M.Maker)
+        S.Shelf S.Disk.Disk M.Maker day result.0 outside.old outside.new task }
 {
     match task {
-        Task::Over(given) => run_text(alloc, given, day, outside, steps),
+        Task::Over(given) => run_text(alloc, &given, day, outside, steps),
+        Task::Stored(what) => run_stored(alloc, what, day, outside, steps),
         Task::Talk => talk(
             alloc,
             day,
@@ -183,12 +180,13 @@ fn run_task<J: Source, O: Sink, E: Sink, S: Shelf, M: Maker, L: Ledger>(
 }
 
 /// Runs the program: reads what the words ask for, and writes the answer or the line that says why there is none.
-/// The status is 0 where all was done; 1 where the text has a fault, the query or the range of a report refuses, a check
-/// fails, accounts can't be closed, a time log isn't read, or a connection ended badly; 2 where the words have no
-/// reading; 3 where the input or the file couldn't be read; 4 where an output couldn't be written; 6 where memory ran
-/// out; 7 where the text or a report is past a limit; and 8 where there is no file of that name. Dates without a year
-/// have that of the day. `talk` answers the requests of one connection over the input and the output, to a journal that
-/// begins empty. No file is changed.
+/// The status is 0 where all was done; 1 where the text has a fault, the query, a rule or the range of a report refuses, a
+/// check fails, accounts can't be closed, a time log isn't read, or a connection ended badly; 2 where the words have no
+/// reading; 3 where the input, the file or the store couldn't be read; 4 where an output couldn't be written; 5 where a
+/// disk of the store failed; 6 where memory ran out; 7 where the text, what rules make or a report is past a limit; and 8
+/// where there is no file or no store of that name. Dates without a year have that of the day, and in a store they don't
+/// read. `talk` answers the requests of one connection over the input and the output, to a journal that begins empty. No
+/// file is changed but those of a store that is read, whose image stays.
 pub fn run<J: Source, O: Sink, E: Sink, S: Shelf, M: Maker, L: Ledger>(
     alloc: Global,
     words: &[Text],
@@ -204,10 +202,11 @@ pub fn run<J: Source, O: Sink, E: Sink, S: Shelf, M: Maker, L: Ledger>(
     ensures sound { RunsSoundly words.now day.0 result.0
         (scene J.Source O.Sink E.Sink S.Shelf M.Maker outside.old)
         (soundness J.Source O.Sink E.Sink S.Shelf outside.old) (task_of day.0 words.now) }
-    ensures files { (name : List ℕ) → S.file outside.new.shelf name ≡ S.file outside.old.shelf name }
+    ensures stored { Stores (scene J.Source O.Sink E.Sink S.Shelf M.Maker)
+        S.Shelf S.Disk.Disk M.Maker day result.0 outside.old outside.new (task_of day.0 words.now) }
 {
     match read_words(alloc, words, day) {
-        Ok(task) => run_task(alloc, &task, day, outside, steps),
+        Ok(task) => run_task(alloc, task, day, outside, steps),
         Err(fault) => refuse(&mut outside.err, &refuse_words(alloc, words, &fault)),
     }
 }

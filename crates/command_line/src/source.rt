@@ -1,26 +1,27 @@
-//! The text that a report is over.
+//! The text that a command is over.
 ghost use Rattle.std.specs.Prelude.{◌≡◌, ◌≢◌, ◌≤◌, ℕ, List, Some, [], Err, IfOk, IfErr, IfSome, OnOk, IsTrue, None, ◌<◌, length};
 ghost use Rattle.hl_base.specs.Causes.{Rose};
-ghost use Rattle.book_commands.specs.Answers.{IsOfText};
-ghost use Rattle.command_line.specs.Answers.{FindsText, IsOfFile};
+ghost use Rattle.command_line.specs.Answers.{FindsText, IsOfFile, IsOfInput};
 ghost use Rattle.command_line.specs.Sources.{text_under, within_bytes};
 ghost use Rattle.command_line.specs.Runs.{ReadsText};
 ghost use Rattle.command_line.specs.Scenes.{SourceIsSound, scene, soundness};
 
 use crate::outside::Outside;
-use book_commands::{Refusal, absent, past_limit};
+use crate::stored::load_store;
+use command_words::Origin;
 use hl_base::{Bytes, ReadAllFault, Shelf, ShelfFault, Sink, Source, Text, read_all};
 use query::Maker;
+use refusals::{Refusal, absent, past_limit};
 use std::alloc::Global;
 
 /// The most bytes that a text may have.
-const MOST_BYTES: u64 = 16_777_216;
+pub(crate) const MOST_BYTES: u64 = 16_777_216;
 
 /// The refusal of a text with more bytes than it may have.
 fn too_long(alloc: Global) -> Refusal
     ensures refused { (text : List ℕ) → 16777216 < length text
         → FindsText (Err result) (within_bytes text) }
-    ensures kind { IsOfText result }
+    ensures input { IsOfInput result }
     ensures file { IsOfFile result }
     ensures read { result ≢ Refusal.ReadFault }
 {
@@ -45,8 +46,7 @@ fn no_file(alloc: Global, name: &Text) -> Refusal
 /// The text of the input, which is read to its end.
 fn read_input<J: Source>(alloc: Global, input: &mut J) -> Result<Bytes, Refusal>
     ensures found { IfSome (J.left input.old) (λ text. FindsText result (within_bytes text)) }
-    ensures kind { IfErr result IsOfText }
-    ensures size { IfOk result (λ text. length text ≤ 16777216) }
+    ensures kind { IfErr result IsOfInput }
     ensures whole { OnOk result (IfSome (J.left input.old) (λ _. J.left input.new ≡ Some [])) }
     ensures rose { result ≡ Err Refusal.ReadFault → Rose (J.faults input.old) (J.faults input.new) }
     ensures sound { J.IsSound input.old → result ≢ Err Refusal.ReadFault }
@@ -64,7 +64,7 @@ fn load_file<S: Shelf>(alloc: Global, name: &Text, shelf: &mut S) -> Result<Byte
     ensures found { IsTrue ((S.tells shelf.old).files)
         → FindsText result (text_under name.now (S.file shelf.old name.now)) }
     ensures kind { IfErr result IsOfFile }
-    ensures size { IfOk result (λ text. length text ≤ 16777216) }
+    ensures disks { S.disk_faults shelf.new ≡ S.disk_faults shelf.old }
     ensures rose { result ≡ Err Refusal.ReadFault → Rose (S.faults shelf.old) (S.faults shelf.new) }
     ensures named { result ≡ Err Refusal.ReadFault → S.last_failed shelf.new ≡ Some name.now }
     ensures files { (other : List ℕ) → S.file shelf.new other ≡ S.file shelf.old other }
@@ -79,25 +79,24 @@ fn load_file<S: Shelf>(alloc: Global, name: &Text, shelf: &mut S) -> Result<Byte
     }
 }
 
-/// The text of the file that is named, or else of the input.
+/// The text of the input, of the file or of the store.
 pub fn read_text<J: Source, O: Sink, E: Sink, S: Shelf, M: Maker>(
     alloc: Global,
-    file: &Option<Text>,
+    origin: &Origin,
     outside: &mut Outside<J, O, E, S, M>,
 ) -> Result<Bytes, Refusal>
-    ensures reads { ReadsText file.now result
+    ensures reads { ReadsText origin.now result
         (scene J.Source O.Sink E.Sink S.Shelf M.Maker outside.old)
         (scene J.Source O.Sink E.Sink S.Shelf M.Maker outside.new) }
-    ensures size { IfOk result (λ text. length text ≤ 16777216) }
-    ensures sound { SourceIsSound file.now (soundness J.Source O.Sink E.Sink S.Shelf outside.old)
+    ensures sound { SourceIsSound origin.now (soundness J.Source O.Sink E.Sink S.Shelf outside.old)
         → result ≢ Err Refusal.ReadFault }
-    ensures files { (name : List ℕ) → S.file outside.new.shelf name ≡ S.file outside.old.shelf name }
     ensures output { outside.new.streams.output ≡ outside.old.streams.output }
     ensures err { outside.new.err ≡ outside.old.err }
     ensures maker { outside.new.maker ≡ outside.old.maker }
 {
-    match file {
-        Some(name) => load_file(alloc, name, &mut outside.shelf),
-        None => read_input(alloc, &mut outside.streams.input),
+    match origin {
+        Origin::Input => read_input(alloc, &mut outside.streams.input),
+        Origin::File(name) => load_file(alloc, name, &mut outside.shelf),
+        Origin::Store(name) => load_store(alloc, name, &mut outside.shelf),
     }
 }

@@ -22,12 +22,14 @@ pub struct Case<'a> {
     pub error_fails: &'a [u64],
 }
 
-/// A file, the numbers of the loads that are to fail, and a pattern that is refused.
+/// A file, the numbers of the loads and takes that are to fail, those of the calls of each of its disks, and a pattern that
+/// is refused.
 #[derive(Clone, Copy)]
 pub struct Beside<'a> {
     pub name: &'a str,
     pub text: &'a [u8],
     pub load_fails: &'a [u64],
+    pub disk_fails: &'a [u64],
     pub refused: &'a str,
 }
 
@@ -48,6 +50,7 @@ pub fn nothing() -> Beside<'static> {
         name: "empty",
         text: &[],
         load_fails: &[],
+        disk_fails: &[],
         refused: "a.refused.pattern",
     }
 }
@@ -64,7 +67,7 @@ fn shelf_of(alloc: Global, beside: &Beside) -> Result<MemShelf, Memory> {
         ROOM,
         None,
         beside.load_fails,
-        &[],
+        beside.disk_fails,
     )
 }
 

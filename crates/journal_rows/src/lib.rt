@@ -4,13 +4,8 @@
 pub mod case;
 mod cuts;
 #[cfg(test)]
-mod disks;
-#[cfg(test)]
-mod ends;
-#[cfg(test)]
-mod heads;
-#[cfg(test)]
 mod runs;
-pub mod served;
+#[cfg(test)]
+mod stores;
 #[cfg(test)]
 mod talks;

@@ -34,6 +34,7 @@ fn runs_each_command(rt: HostRuntime) -> Result<(), Fail> {
         name: "home",
         text: HOME,
         load_fails: &[],
+        disk_fails: &[],
         refused: "a.c",
     };
     for (words, status, output, error) in [
@@ -163,6 +164,7 @@ fn tells_a_load_that_fails(rt: HostRuntime) -> Result<(), Fail> {
             name: "home",
             text: HOME,
             load_fails,
+            disk_fails: &[],
             refused: "a.c",
         };
         let case = case_of(&["accounts", "-f", "home", "food"], BREAD);

@@ -1,31 +1,12 @@
 //! Connections of `talk`: what must be sent for the bytes that come, however they come, and where a call fails.
 use crate::case::{Case, answer_beside, answer_in_cuts, nothing};
 use crate::runs::{case_of, expect};
-use std::alloc::Global;
+use connection_rows::messages::{ADDED, GET, LISTED, joined};
 use std::test::Fail;
-
-pub const GET: &[u8] = b"GET /balance HTTP/1.1\r\nHost: a\r\n\r\n";
-
-pub const ADD: &[u8] =
-    b"POST /add HTTP/1.1\r\nHost: a\r\nContent-Length: 82\r\n\r\nentry=2024-01-05+gift%0A++++assets%3Acash++30+EUR%0A++++income%3Agifts++-30+EUR%0A";
-
-/// The balance of the empty text.
-pub const LISTED: &[u8] =
-    b"HTTP/1.1 200 OK\r\nContent-Type: text/plain; charset=utf-8\r\nX-Revision: 0\r\nContent-Length: 44\r\n\r\n--------------------\n                   0  \n";
-
-pub const ADDED: &[u8] =
-    b"HTTP/1.1 200 OK\r\nContent-Type: text/plain; charset=utf-8\r\nX-Revision: 1\r\nContent-Length: 11\r\n\r\nrevision 1\n";
 
 /// Both after one another.
 const GET_AND_ADD: &[u8] =
     b"GET /balance HTTP/1.1\r\nHost: a\r\n\r\nPOST /add HTTP/1.1\r\nHost: a\r\nContent-Length: 82\r\n\r\nentry=2024-01-05+gift%0A++++assets%3Acash++30+EUR%0A++++income%3Agifts++-30+EUR%0A";
-
-/// Two pieces after one another.
-pub fn joined(alloc: Global, first: &[u8], second: &[u8]) -> Result<Vec<u8>, Fail> {
-    let mut text = Vec::from_slice(alloc, first)?;
-    text.extend_from_slice(second)?;
-    Ok(text)
-}
 
 #[test]
 fn answers_the_same_byte_by_byte(rt: HostRuntime) -> Result<(), Fail> {

@@ -1,7 +1,7 @@
 //! A run whose words, day, input, files and outputs are those of the process.
 
 ghost use Rattle.command_line.specs.Answers.{Says};
-ghost use Rattle.book_commands.specs.Errors.{memory_line, usage_line};
+ghost use Rattle.refusals.specs.Errors.{memory_line, usage_line};
 ghost use Rattle.hl_time.specs.Calendar.{IsDay};
 ghost use Rattle.std.specs.Prelude.{◌≡◌, ◌≤◌};
 

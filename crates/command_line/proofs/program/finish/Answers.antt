@@ -1,6 +1,6 @@
 use Rattle.std.proofs.Common.{ℕ, length, subst, sym, inr, add-zero, arith}
 use Rattle.std.proofs.lemmas.Bool.{false≢true}
-use Rattle.book_commands.specs.Errors.{write_fault_line}
+use Rattle.refusals.specs.Errors.{write_fault_line}
 use Rattle.command_line.proofs.Endings.{not_same, said_four}
 use Rattle.command_line.proofs.program.finish.Goals as goal
 

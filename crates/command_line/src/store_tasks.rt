@@ -1,0 +1,256 @@
+//! What is answered to a command that makes a store or edits one.
+ghost use Rattle.std.specs.Prelude.{◌≡◌, ◌≢◌, ◌<◌, ◌-◌, ◌^◌, ◌+◌, ℕ, List, Some, None, Err, IfErr, IsTrue, length};
+ghost use Rattle.hl_base.specs.Causes.{Rose};
+ghost use Rattle.hl_time.specs.Calendar.{IsDay};
+ghost use Rattle.store_making.specs.Lines.{line_of, status_of};
+ghost use Rattle.store_commands.specs.Replies.{IsEdit, IsEditReply, line_of as reply_line_of, status_of as reply_status_of};
+ghost use Rattle.command_line.specs.Answers.{FindsText, IsOfFile};
+ghost use Rattle.command_line.specs.Scenes.{scene};
+ghost use Rattle.command_line.specs.StoreTasks as spec;
+
+use crate::outside::Outside;
+use crate::source::read_text;
+use command_words::{Importing, Making, Origin, StoreTask};
+use desk::{Reply, Request};
+use hl_base::{Bytes, Memory, Shelf, ShelfFault, Sink, Source, Steps, Text};
+use hl_time::Day;
+use query::Maker;
+use refusals::{Refusal, absent, past_limit};
+use std::alloc::Global;
+use std::sync::ledger::Ledger;
+use store_commands::{StoreEdit, edit_store, reply_line, reply_status};
+use store_making::{JournalRefusal, init_store, journal_line, journal_status};
+
+/// The most bytes of a file that is imported, and of its rules.
+const MOST_IMPORTED: u64 = 8_388_608;
+
+/// The refusal of a file with more bytes than it may have.
+fn too_long(alloc: Global) -> Refusal
+    ensures refused { (name bytes : List ℕ) → 8388608 < length bytes
+        → FindsText (Err result) (spec.file_within spec.most_imported name (Some bytes)) }
+    ensures kind { IsOfFile result }
+    ensures read { result ≢ Refusal.ReadFault }
+{
+    match past_limit(alloc, MOST_IMPORTED + 1, MOST_IMPORTED) {
+        Ok(line) => Refusal::Line { status: 7, line },
+        Err(_) => Refusal::Memory,
+    }
+}
+
+/// The refusal of a name under which there is no file.
+fn no_file(alloc: Global, name: &Text) -> Refusal
+    ensures refused { FindsText (Err result) (spec.file_within spec.most_imported name.now None) }
+    ensures kind { IsOfFile result }
+    ensures read { result ≢ Refusal.ReadFault }
+{
+    match absent(alloc, name) {
+        Ok(line) => Refusal::Line { status: 8, line },
+        Err(_) => Refusal::Memory,
+    }
+}
+
+/// The bytes of a file that is imported, or of its rules. All names keep what stands under them.
+fn load_imported<S: Shelf>(alloc: Global, name: &Text, shelf: &mut S) -> Result<Bytes, Refusal>
+    ensures found { IsTrue ((S.tells shelf.old).files) → FindsText result
+        (spec.file_within spec.most_imported name.now (S.file shelf.old name.now)) }
+    ensures kind { IfErr result IsOfFile }
+    ensures disks { S.disk_faults shelf.new ≡ S.disk_faults shelf.old }
+    ensures rose { result ≡ Err Refusal.ReadFault → Rose (S.faults shelf.old) (S.faults shelf.new) }
+    ensures named { result ≡ Err Refusal.ReadFault → S.last_failed shelf.new ≡ Some name.now }
+    ensures files { (other : List ℕ) → S.file shelf.new other ≡ S.file shelf.old other }
+    ensures sound { S.IsSound shelf.old → result ≢ Err Refusal.ReadFault }
+{
+    match shelf.load(alloc, name, MOST_IMPORTED) {
+        Ok(bytes) => Ok(bytes),
+        Err(ShelfFault::TooLong { .. }) => Err(too_long(alloc)),
+        Err(ShelfFault::Absent) => Err(no_file(alloc, name)),
+        Err(ShelfFault::Failed) => Err(Refusal::ReadFault),
+        Err(ShelfFault::Memory) => Err(Refusal::Memory),
+    }
+}
+
+/// The refusal of a store of this name.
+fn refuse_journal(alloc: Global, name: &Text, refusal: &JournalRefusal) -> Refusal
+    ensures refused { spec.RefusedAs (status_of refusal.now) (line_of name.now refusal.now) result }
+    ensures kind { spec.IsOfStored result }
+{
+    let status = journal_status(refusal);
+    match journal_line(alloc, name, refusal) {
+        Ok(line) => Refusal::Line { status, line },
+        Err(Memory) => Refusal::Memory,
+    }
+}
+
+/// A store of a text.
+fn make_store<S: Shelf, L: Ledger>(
+    alloc: Global,
+    what: &Making,
+    text: &[u8],
+    shelf: &mut S,
+    steps: &mut Steps<L>,
+) -> Result<Bytes, Refusal>
+    ensures made { spec.MadeOf S.Shelf S.Disk.Disk what.now text.now shelf.old shelf.new result }
+    ensures kind { IfErr result spec.IsOfStored }
+{
+    match init_store(alloc, &what.store, text, what.limit, shelf, steps) {
+        Ok(()) => Ok(Bytes::new(alloc)),
+        Err(refusal) => Err(refuse_journal(alloc, &what.store, &refusal)),
+    }
+}
+
+/// A store of the text of the input or of a file.
+fn init<J: Source, O: Sink, E: Sink, S: Shelf, M: Maker, L: Ledger>(
+    alloc: Global,
+    what: &Making,
+    outside: &mut Outside<J, O, E, S, M>,
+    steps: &mut Steps<L>,
+) -> Result<Bytes, Refusal>
+    ensures inits { spec.InitsStore (scene J.Source O.Sink E.Sink S.Shelf M.Maker)
+        S.Shelf S.Disk.Disk what.now outside.old outside.new result }
+    ensures kind { IfErr result spec.IsOfStored }
+{
+    match read_text(alloc, &what.source, outside) {
+        Ok(text) => make_store(alloc, what, text.as_slice(), &mut outside.shelf, steps),
+        Err(refusal) => Err(refusal),
+    }
+}
+
+/// The line of a reply with this status: the output where that is 0, and else why the edit is refused.
+fn told_line(status: u8, line: Bytes) -> Result<Bytes, Refusal>
+    ensures { spec.ToldLine status line result }
+{
+    if status == 0 {
+        Ok(line)
+    } else {
+        Err(Refusal::Line { status, line })
+    }
+}
+
+/// What is said of a reply.
+fn answer_reply(alloc: Global, reply: &Reply) -> Result<Bytes, Refusal>
+    requires { IsEditReply reply.now }
+    ensures told { spec.ToldLine (reply_status_of reply.now) (reply_line_of reply.now) result }
+    ensures kind { IfErr result spec.IsOfStored }
+{
+    let status = reply_status(reply);
+    match reply_line(alloc, reply) {
+        Ok(line) => told_line(status, line),
+        Err(Memory) => Err(Refusal::Memory),
+    }
+}
+
+/// Asks a store for an edit.
+fn edit<J: Source, O: Sink, E: Sink, S: Shelf, M: Maker, L: Ledger>(
+    alloc: Global,
+    what: &StoreEdit,
+    outside: &mut Outside<J, O, E, S, M>,
+    steps: &mut Steps<L>,
+) -> Result<Bytes, Refusal>
+    requires day { IsDay what.now.day.0 }
+    requires edit { IsEdit what.now.request }
+    ensures edits { spec.EditedBy S.Shelf S.Disk.Disk M.Maker
+        what.now.store what.now.request what.now.day outside.old outside.new result }
+    ensures kind { IfErr result spec.IsOfStored }
+{
+    match edit_store(alloc, what, &mut outside.shelf, &mut outside.maker, steps) {
+        Ok(reply) => answer_reply(alloc, &reply),
+        Err(refusal) => Err(refuse_journal(alloc, &what.store, &refusal)),
+    }
+}
+
+/// Adds the entry that the input is to the store of a name.
+fn add<J: Source, O: Sink, E: Sink, S: Shelf, M: Maker, L: Ledger>(
+    alloc: Global,
+    store: Text,
+    day: Day,
+    outside: &mut Outside<J, O, E, S, M>,
+    steps: &mut Steps<L>,
+) -> Result<Bytes, Refusal>
+    requires { IsDay day.0 }
+    ensures adds { spec.AddsEntry (scene J.Source O.Sink E.Sink S.Shelf M.Maker)
+        S.Shelf S.Disk.Disk M.Maker store day outside.old outside.new result }
+    ensures kind { IfErr result spec.IsOfStored }
+{
+    match read_text(alloc, &Origin::Input, outside) {
+        Ok(entry) => {
+            let request = Request::Add { entry };
+            let what = StoreEdit {
+                store,
+                request,
+                day,
+            };
+            edit(alloc, &what, outside, steps)
+        }
+        Err(refusal) => Err(refusal),
+    }
+}
+
+/// Imports the bytes of a file, after its rules were read.
+fn import_by<J: Source, O: Sink, E: Sink, S: Shelf, M: Maker, L: Ledger>(
+    alloc: Global,
+    what: Importing,
+    csv: Bytes,
+    day: Day,
+    outside: &mut Outside<J, O, E, S, M>,
+    steps: &mut Steps<L>,
+) -> Result<Bytes, Refusal>
+    requires { IsDay day.0 }
+    ensures imports { spec.ImportsBy S.Shelf S.Disk.Disk M.Maker what day csv outside.old outside.new result }
+    ensures kind { IfErr result spec.IsOfStored }
+{
+    let Importing { store, file, rules } = what;
+    match load_imported(alloc, &rules, &mut outside.shelf) {
+        Ok(rules) => {
+            let request = Request::Import {
+                name: file,
+                rules,
+                csv,
+            };
+            let what = StoreEdit {
+                store,
+                request,
+                day,
+            };
+            edit(alloc, &what, outside, steps)
+        }
+        Err(refusal) => Err(refusal),
+    }
+}
+
+/// Imports a file into a store. The file is read before its rules.
+fn import<J: Source, O: Sink, E: Sink, S: Shelf, M: Maker, L: Ledger>(
+    alloc: Global,
+    what: Importing,
+    day: Day,
+    outside: &mut Outside<J, O, E, S, M>,
+    steps: &mut Steps<L>,
+) -> Result<Bytes, Refusal>
+    requires { IsDay day.0 }
+    ensures imports { spec.ImportsFile S.Shelf S.Disk.Disk M.Maker what day outside.old outside.new result }
+    ensures kind { IfErr result spec.IsOfStored }
+{
+    match load_imported(alloc, &what.file, &mut outside.shelf) {
+        Ok(csv) => import_by(alloc, what, csv, day, outside, steps),
+        Err(refusal) => Err(refusal),
+    }
+}
+
+/// What is answered to a command that makes a store or edits one, before anything is written.
+pub(crate) fn answer_stored<J: Source, O: Sink, E: Sink, S: Shelf, M: Maker, L: Ledger>(
+    alloc: Global,
+    task: StoreTask,
+    day: Day,
+    outside: &mut Outside<J, O, E, S, M>,
+    steps: &mut Steps<L>,
+) -> Result<Bytes, Refusal>
+    requires { IsDay day.0 }
+    ensures answers { spec.AnswersStored (scene J.Source O.Sink E.Sink S.Shelf M.Maker)
+        S.Shelf S.Disk.Disk M.Maker task day outside.old outside.new result }
+    ensures kind { IfErr result spec.IsOfStored }
+{
+    match task {
+        StoreTask::Init(what) => init(alloc, &what, outside, steps),
+        StoreTask::Add(store) => add(alloc, store, day, outside, steps),
+        StoreTask::Import(what) => import(alloc, what, day, outside, steps),
+    }
+}

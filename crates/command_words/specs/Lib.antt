@@ -1,0 +1,6 @@
+pub mod Chores
+pub mod Commands
+pub mod Limits
+pub mod Said
+pub mod StoreWords
+pub mod Usage

@@ -1,0 +1,104 @@
+-- What the words of commands over a store ask for.
+use Rattle.std.specs.Prelude.{ℕ, List, [], ◌∷◌, ◌++◌, codes, Option, Some, None, Result, Ok, Err, if◌then◌else◌}
+use Rattle.book_commands.specs.declared.work.Work.TheVariants as works
+use Rattle.report_options.specs.Items.{is_end, is_option}
+use Rattle.command_words.specs.Limits.{most_limit}
+use Rattle.command_words.specs.Usage.{misplaced, missing}
+use Rattle.command_words.specs.declared.task.Origin.{Origin}
+use Rattle.command_words.specs.declared.task.Origin.TheVariants as origins
+use Rattle.command_words.specs.declared.task.StoreTask.TheVariants as stored
+use Rattle.command_words.specs.declared.task.Task.{Task}
+use Rattle.command_words.specs.declared.task.Task.TheVariants as task
+use Rattle.command_words.specs.declared.usage.UsageFault.{UsageFault}
+
+abbrev pub misplaced_name : List ℕ → Result (List ℕ) UsageFault
+misplaced_name word = misplaced word
+
+abbrev pub missing_name : Result (List ℕ) UsageFault
+missing_name = missing
+
+-- a name with no word behind it
+abbrev pub name_alone : List ℕ → List (List ℕ) → Result (List ℕ) UsageFault
+name_alone name [] = Ok name
+name_alone name (next ∷ rest) = misplaced_name next
+
+-- or none but one that ends the options
+abbrev pub name_before : List ℕ → List (List ℕ) → Result (List ℕ) UsageFault
+name_before name [] = Ok name
+name_before name (next ∷ rest) = if is_end next then name_alone name rest else misplaced_name next
+
+-- one name that is read as no option
+abbrev pub plain_name : List (List ℕ) → Result (List ℕ) UsageFault
+plain_name [] = missing_name
+plain_name (name ∷ rest) = name_alone name rest
+
+abbrev pub name_from : List ℕ → List (List ℕ) → Result (List ℕ) UsageFault
+name_from word rest =
+    if is_end word then plain_name rest
+    else if is_option word then misplaced_name word
+    else name_before word rest
+
+-- The one name that some words are; behind `--` no word is an option. The first word that has no place is told.
+abbrev pub one_name : List (List ℕ) → Result (List ℕ) UsageFault
+one_name [] = missing_name
+one_name (word ∷ rest) = name_from word rest
+
+-- the text of the store of a name
+abbrev pub export : List ℕ → Task
+export name = task.Over (record { origin = origins.Store name; work = works.Text })
+
+abbrev pub export_of : Result (List ℕ) UsageFault → Result Task UsageFault
+export_of (Ok name) = Ok (export name)
+export_of (Err fault) = Err fault
+
+abbrev pub export_task : List (List ℕ) → Result Task UsageFault
+export_task words = export_of (one_name words)
+
+-- ---- stores that are made or edited: the words that are no options name them
+
+-- the limit of a store where none is given
+abbrev pub limit_or_default : Option ℕ → ℕ
+limit_or_default (Some limit) = limit
+limit_or_default None = most_limit
+
+-- a store that is to be made of a text
+abbrev pub making : Origin → Option ℕ → List ℕ → Task
+making source limit store = task.Stored (stored.Init (record { store = store; source = source; limit = limit_or_default limit }))
+
+abbrev pub making_of : Origin → Option ℕ → Result (List ℕ) UsageFault → Result Task UsageFault
+making_of source limit (Ok store) = Ok (making source limit store)
+making_of source limit (Err fault) = Err fault
+
+abbrev pub init_task : Origin → Option ℕ → List (List ℕ) → Result Task UsageFault
+init_task source limit words = making_of source limit (plain_name words)
+
+-- an entry into a store
+abbrev pub adding : List ℕ → Task
+adding store = task.Stored (stored.Add store)
+
+abbrev pub adding_of : Result (List ℕ) UsageFault → Result Task UsageFault
+adding_of (Ok store) = Ok (adding store)
+adding_of (Err fault) = Err fault
+
+abbrev pub add_task : List (List ℕ) → Result Task UsageFault
+add_task words = adding_of (plain_name words)
+
+-- the rules of a file stand beside it where none are given
+abbrev pub rules_beside : List ℕ → List ℕ
+rules_beside file = file ++ codes ".rules"
+
+abbrev pub rules_or_default : Option (List ℕ) → List ℕ → List ℕ
+rules_or_default (Some rules) file = rules
+rules_or_default None file = rules_beside file
+
+-- a file that is to be imported into a store
+abbrev pub importing : List ℕ → Option (List ℕ) → List ℕ → Task
+importing store rules file = task.Stored (stored.Import (record { store = store; file = file; rules = rules_or_default rules file }))
+
+abbrev pub import_of : List ℕ → Option (List ℕ) → Result (List ℕ) UsageFault → Result Task UsageFault
+import_of store rules (Ok file) = Ok (importing store rules file)
+import_of store rules (Err fault) = Err fault
+
+abbrev pub import_task : Option (List ℕ) → List (List ℕ) → Result Task UsageFault
+import_task rules [] = missing
+import_task rules (store ∷ words) = import_of store rules (plain_name words)

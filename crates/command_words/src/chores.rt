@@ -1,0 +1,131 @@
+//! The commands over a text or a store that are no reports, and their options.
+ghost use Rattle.std.specs.Prelude.{◌≡◌, codes};
+ghost use Rattle.std.specs.Str.{bytes_eq};
+ghost use Rattle.command_words.specs.Chores as spec;
+
+use book_care::Check;
+
+/// A command over a text or a store that is no report.
+#[derive(Clone, Copy)]
+pub(crate) enum Chore {
+    /// The hours of a time log.
+    Hours,
+    /// Checks.
+    Strict,
+    /// Closing entries.
+    Close,
+    /// A store of a text.
+    Init,
+    /// An entry into a store.
+    Add,
+    /// A file of a bank into a store.
+    Import,
+}
+
+/// An option of these commands.
+#[derive(Clone, Copy)]
+pub(crate) enum Name {
+    Dot,
+    File,
+    Store,
+    On,
+    Into,
+    Limit,
+    Rules,
+}
+
+fn is_same(a: &[u8], b: &[u8]) -> bool
+    ensures { result ≡ bytes_eq a.now b.now }
+{
+    a == b
+}
+
+/// The command that a word names.
+#[tactic(auto, unfolding(crate::specs::Chores::chore_named))]
+pub(crate) fn chore_named(word: &[u8]) -> Option<Chore>
+    ensures { result ≡ spec.chore_named word.now }
+{
+    if is_same(word, b"hours") {
+        Some(Chore::Hours)
+    } else if is_same(word, b"strict") {
+        Some(Chore::Strict)
+    } else if is_same(word, b"close") {
+        Some(Chore::Close)
+    } else if is_same(word, b"init") {
+        Some(Chore::Init)
+    } else if is_same(word, b"add") {
+        Some(Chore::Add)
+    } else if is_same(word, b"import") {
+        Some(Chore::Import)
+    } else {
+        None
+    }
+}
+
+/// The check that a word names.
+#[tactic(auto, unfolding(crate::specs::Chores::check_named))]
+pub(crate) fn check_named(word: &[u8]) -> Option<Check>
+    ensures { result ≡ spec.check_named word.now }
+{
+    if is_same(word, b"accounts") {
+        Some(Check::Accounts)
+    } else if is_same(word, b"commodities") {
+        Some(Check::Commodities)
+    } else if is_same(word, b"payees") {
+        Some(Check::Payees)
+    } else if is_same(word, b"tags") {
+        Some(Check::Tags)
+    } else if is_same(word, b"ordereddates") {
+        Some(Check::OrderedDates)
+    } else {
+        None
+    }
+}
+
+/// The option that a word names, without a value behind `=`.
+#[tactic(auto, unfolding(crate::specs::Chores::name_of))]
+pub(crate) fn name_of(word: &[u8]) -> Option<Name>
+    ensures { result ≡ spec.name_of word.now }
+{
+    if is_same(word, b"--dot") {
+        Some(Name::Dot)
+    } else if is_same(word, b"-f") {
+        Some(Name::File)
+    } else if is_same(word, b"--store") {
+        Some(Name::Store)
+    } else if is_same(word, b"--on") {
+        Some(Name::On)
+    } else if is_same(word, b"--into") {
+        Some(Name::Into)
+    } else if is_same(word, b"--limit") {
+        Some(Name::Limit)
+    } else if is_same(word, b"--rules") {
+        Some(Name::Rules)
+    } else {
+        None
+    }
+}
+
+/// Whether a value has to be written.
+pub(crate) fn takes_value(name: Name) -> bool
+    ensures { result ≡ spec.takes_value name }
+{
+    match name {
+        Name::Dot => false,
+        Name::File | Name::Store | Name::On | Name::Into | Name::Limit | Name::Rules => true,
+    }
+}
+
+/// Whether a command has an option.
+pub(crate) fn has_option(chore: Chore, name: Name) -> bool
+    ensures { result ≡ spec.has_option chore name }
+{
+    match name {
+        Name::File => !matches!(chore, Chore::Add | Chore::Import),
+        Name::Dot => matches!(chore, Chore::Hours),
+        Name::Store => matches!(chore, Chore::Strict | Chore::Close),
+        Name::On | Name::Into => matches!(chore, Chore::Close),
+        Name::Limit => matches!(chore, Chore::Init),
+        Name::Rules => matches!(chore, Chore::Import),
+    }
+}

@@ -1,0 +1,222 @@
+//! The words of commands over a store.
+ghost use Rattle.std.specs.Prelude.{◌≡◌, IfOk, codes};
+ghost use Rattle.std.specs.Str.{bytes_eq};
+ghost use Rattle.hl_base.specs.Gives.{Gives};
+ghost use Rattle.command_words.specs.Commands.{IsReadable};
+ghost use Rattle.command_words.specs.StoreWords as spec;
+ghost use Rattle.command_words.specs.Usage.{usage_cause};
+
+use crate::limit::MOST_LIMIT;
+use crate::said::{is_end, is_option};
+use crate::task::{Importing, Making, Origin, StoreTask, Task, TextTask};
+use crate::usage::UsageFault;
+use book_commands::Work;
+use hl_base::{Memory, Text};
+use report_commands::WordsFault;
+use std::alloc::Global;
+
+/// Whether a word asks for the text of a store.
+pub(crate) fn is_export(word: &Text) -> bool
+    ensures { result ≡ bytes_eq word.now (codes "export") }
+{
+    word.as_bytes() == b"export".as_slice()
+}
+
+/// The fault of a word that has no place.
+fn misplaced(alloc: Global, word: &Text) -> Result<Text, UsageFault>
+    ensures { Gives (λ name. name) usage_cause result (spec.misplaced_name word.now) }
+{
+    let word = Text::copied(alloc, word.as_str())?;
+    Err(UsageFault::Words(WordsFault::BadOption { word }))
+}
+
+/// A name with no word behind it.
+fn name_alone(alloc: Global, name: &Text, rest: &[Text]) -> Result<Text, UsageFault>
+    ensures { Gives (λ name. name) usage_cause result (spec.name_alone name.now rest.now) }
+{
+    match rest {
+        [] => Ok(Text::copied(alloc, name.as_str())?),
+        [next, ..] => misplaced(alloc, next),
+    }
+}
+
+/// A name with no word behind it but one that ends the options.
+fn name_before(alloc: Global, name: &Text, rest: &[Text]) -> Result<Text, UsageFault>
+    ensures { Gives (λ name. name) usage_cause result (spec.name_before name.now rest.now) }
+{
+    match rest {
+        [] => Ok(Text::copied(alloc, name.as_str())?),
+        [next, later @ ..] => {
+            if is_end(next) {
+                name_alone(alloc, name, later)
+            } else {
+                misplaced(alloc, next)
+            }
+        }
+    }
+}
+
+/// The one name that some words are, none of which is an option.
+fn plain_name(alloc: Global, words: &[Text]) -> Result<Text, UsageFault>
+    ensures { Gives (λ name. name) usage_cause result (spec.plain_name words.now) }
+{
+    match words {
+        [] => Err(UsageFault::Missing),
+        [name, rest @ ..] => name_alone(alloc, name, rest),
+    }
+}
+
+/// The one name that a word and those behind it are.
+fn name_from(alloc: Global, word: &Text, rest: &[Text]) -> Result<Text, UsageFault>
+    ensures { Gives (λ name. name) usage_cause result (spec.name_from word.now rest.now) }
+{
+    if is_end(word) {
+        plain_name(alloc, rest)
+    } else if is_option(word) {
+        misplaced(alloc, word)
+    } else {
+        name_before(alloc, word, rest)
+    }
+}
+
+/// The one name that some words are.
+fn one_name(alloc: Global, words: &[Text]) -> Result<Text, UsageFault>
+    ensures { Gives (λ name. name) usage_cause result (spec.one_name words.now) }
+{
+    match words {
+        [] => Err(UsageFault::Missing),
+        [word, rest @ ..] => name_from(alloc, word, rest),
+    }
+}
+
+/// The text of the store of this name.
+fn export(name: Text) -> Task
+    ensures task { result ≡ spec.export name }
+    ensures valid { IsReadable result }
+{
+    let origin = Origin::Store(name);
+    let work = Work::Text;
+    Task::Over(TextTask { origin, work })
+}
+
+/// The text of the store that the words name.
+pub(crate) fn export_task(alloc: Global, words: &[Text]) -> Result<Task, UsageFault>
+    ensures answer { Gives (λ task. task) usage_cause result (spec.export_task words.now) }
+    ensures valid { IfOk result IsReadable }
+{
+    let name = one_name(alloc, words)?;
+    Ok(export(name))
+}
+
+/// The limit of a store: 2^40 bytes where none is given.
+fn limit_or_default(limit: Option<u64>) -> u64
+    ensures { result ≡ spec.limit_or_default limit }
+{
+    match limit {
+        Some(limit) => limit,
+        None => MOST_LIMIT,
+    }
+}
+
+/// The store of this name that is to be made of a text.
+fn making(store: Text, source: Origin, limit: Option<u64>) -> Task
+    ensures task { result ≡ spec.making source limit store }
+    ensures valid { IsReadable result }
+{
+    let limit = limit_or_default(limit);
+    Task::Stored(StoreTask::Init(Making {
+        store,
+        source,
+        limit,
+    }))
+}
+
+/// The store that the words name, which is to be made of a text.
+pub(crate) fn init_task(
+    alloc: Global,
+    source: Origin,
+    limit: Option<u64>,
+    words: &[Text],
+) -> Result<Task, UsageFault>
+    ensures answer { Gives (λ task. task) usage_cause result (spec.init_task source limit words.now) }
+    ensures valid { IfOk result IsReadable }
+{
+    let store = plain_name(alloc, words)?;
+    Ok(making(store, source, limit))
+}
+
+/// An entry into the store of this name.
+fn adding(store: Text) -> Task
+    ensures task { result ≡ spec.adding store }
+    ensures valid { IsReadable result }
+{
+    Task::Stored(StoreTask::Add(store))
+}
+
+/// An entry into the store that the words name.
+pub(crate) fn add_task(alloc: Global, words: &[Text]) -> Result<Task, UsageFault>
+    ensures answer { Gives (λ task. task) usage_cause result (spec.add_task words.now) }
+    ensures valid { IfOk result IsReadable }
+{
+    let store = plain_name(alloc, words)?;
+    Ok(adding(store))
+}
+
+/// The name of the rules of a file where none is given.
+fn rules_beside(alloc: Global, file: &Text) -> Result<Text, Memory>
+    ensures { IfOk result (λ rules. rules ≡ spec.rules_beside file.now) }
+{
+    let mut rules = String::from_str(alloc, file.as_str())?;
+    rules.push_str(".rules")?;
+    Ok(Text::from_string(rules))
+}
+
+/// The name of the rules of a file.
+fn rules_or_default(alloc: Global, rules: Option<Text>, file: &Text) -> Result<Text, Memory>
+    ensures { IfOk result (λ name. name ≡ spec.rules_or_default rules file.now) }
+{
+    match rules {
+        Some(rules) => Ok(rules),
+        None => rules_beside(alloc, file),
+    }
+}
+
+/// A file that is to be imported into a store.
+fn importing(alloc: Global, store: &Text, file: Text, rules: Option<Text>) -> Result<Task, Memory>
+    ensures task { IfOk result (λ task. task ≡ spec.importing store.now rules file) }
+    ensures valid { IfOk result IsReadable }
+{
+    let rules = rules_or_default(alloc, rules, &file)?;
+    let store = Text::copied(alloc, store.as_str())?;
+    Ok(Task::Stored(StoreTask::Import(Importing { store, file, rules })))
+}
+
+/// The file that some words name, which is to be imported into a store.
+fn import_into(
+    alloc: Global,
+    store: &Text,
+    rules: Option<Text>,
+    words: &[Text],
+) -> Result<Task, UsageFault>
+    ensures answer { Gives (λ task. task) usage_cause result
+        (spec.import_of store.now rules (spec.plain_name words.now)) }
+    ensures valid { IfOk result IsReadable }
+{
+    let file = plain_name(alloc, words)?;
+    Ok(importing(alloc, store, file, rules)?)
+}
+
+/// The file that the words name behind a store, which is to be imported into that.
+pub(crate) fn import_task(
+    alloc: Global,
+    rules: Option<Text>,
+    words: &[Text],
+) -> Result<Task, UsageFault>
+    ensures answer { Gives (λ task. task) usage_cause result (spec.import_task rules words.now) }
+    ensures valid { IfOk result IsReadable }
+{
+    match words {
+        [] => Err(UsageFault::Missing),
+        [store, rest @ ..] => import_into(alloc, store, rules, rest),
+    }
+}
