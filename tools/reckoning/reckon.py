@@ -4,9 +4,10 @@
     reckon.py [--today=Y-M-D] JOURNAL COMMAND WORDS..
 
 Writes the output, the error line to the error output, and ends with the status. It reads a subset of journals: entries with
-amounts, costs, missing amounts, tags, marks, codes, comments and posting dates; `account`, `commodity`, `D`, `P`, `payee` and
-`tag` directives. It doesn't read (and says so with status 99): assertions and assignments, aliases, `apply account`, `Y`,
-`decimal-mark`, rules of `=` and `~`; and it knows no --auto, --forecast, --budget and no Range."""
+amounts, costs, missing amounts, assertions and assignments, tags, marks, codes, comments and posting dates; `account`,
+`commodity`, `D`, `P`, `payee` and `tag` directives, and rules of `=` and `~` (rules.py, with --auto, --forecast and --budget).
+It doesn't read (and says so with status 99): costs behind assertions, aliases, `apply account`, `Y`, `decimal-mark`; and it
+knows no Range."""
 import re, sys, unicodedata
 from datetime import date
 from fractions import Fraction
@@ -15,7 +16,7 @@ from fractions import Fraction
 
 TAKEN = {
     "empty": "earlier",        # accounts that -E adds: those with postings before the span too; else "inside"
-    "dates": "columns",        # -H beside date: terms counts undated what is before the first "columns"; else before the "span", or "all"
+    "dates": "all",            # -H beside date: terms counts "all" undated; else what is before the first of the "columns", or before the "span"
     "wide": "whole",           # a register amount wider than its field stands whole; else "cut"
     "no days": "before",       # ending balances of an empty span count what is before its end; else "nothing"
     "width": "shown",          # the total that -N leaves out doesn't widen the list; else "total"
@@ -146,6 +147,8 @@ class Amount:
 class Posting:
     def __init__(self):
         self.mark, self.side, self.account, self.amount, self.cost = "", "real", "", None, None
+        self.factor = None          # of a rule: how many times the matched amount, and the symbol in place of its own
+        self.want = None            # of an assertion: the amount, whether no other symbol may be left, whether subaccounts count
         self.filled = self.costed = False
         self.comment, self.tags, self.own_day, self.line, self.txn = "", [], None, 0, None
     @property
@@ -161,8 +164,9 @@ class Journal:
     def __init__(self):
         self.txns, self.prices, self.types = [], [], {}
         self.commodities, self.defaults = {}, {}
-        self.written, self.others = {}, {}     # amounts of postings; of costs and prices
+        self.written, self.others = {}, {}     # amounts of postings; of costs, assertions, prices and rules
         self.default = None
+        self.autos, self.periodics = [], []
 
 SYMBOL = r"[^\s0-9!\"#&'()*+,\-./:;<=>?@\[\\\]^`{|}~]+"
 
@@ -222,7 +226,51 @@ TYPE_WORDS = {"asset": "A", "liability": "L", "equity": "E", "revenue": "R", "ex
 def note_amount(table, amount):
     table.setdefault(amount.symbol, []).append(amount)
 
+def read_factor(text, line):
+    """`*N` and `*N SYM`."""
+    m = re.fullmatch(r'\*\s*([+-]?)\s*([0-9.,]+)\s*("[^"]*"|%s)?' % SYMBOL, text)
+    n = read_number(m[2]) if m else None
+    if n is None:
+        raise NotRead("line %d: a factor" % line)
+    return -n.value if m[1] == "-" else n.value, m[3].strip('"') if m[3] else None
+
+def read_want(text, journal, line):
+    """The amounts before an assertion, and what it wants."""
+    m = re.match(r'((?:[^="]|"[^"]*")*)(==?)(\*?)(.*)$', text)
+    if not m:
+        return text, None
+    if "@" in m[4]:
+        raise NotRead("line %d: a cost behind an assertion" % line)
+    amount = read_amount(m[4], journal, line)
+    if amount is None:
+        raise Refused("error: line %d: form" % line, 1)
+    return m[1].strip(), (amount, m[2] == "==", m[3] == "*")
+
+def read_amounts(p, text, journal):
+    """The amount of a posting, or a rule's factor, its cost and its assertion."""
+    text, p.want = read_want(text, journal, p.line)
+    if p.side == "free" and not text and p.want is None:
+        raise Refused("error: line %d: form" % p.line, 1)
+    m = re.match(r"(.*?)\s*(\(@@\)|\(@\)|@@|@)\s*(.*)$", text)
+    main, kind, cost = (m[1], m[2].strip("()"), m[3]) if m else (text, None, None)
+    if main.startswith("*") and p.txn is None:
+        p.factor = read_factor(main, p.line)
+    elif main:
+        p.amount = read_amount(main, journal, p.line)
+        if p.amount is None:
+            raise Refused("error: line %d: form" % p.line, 1)
+        note_amount(journal.written, p.amount)
+    if kind:
+        c = read_amount(cost, journal, p.line)
+        if c is None or not main:
+            raise Refused("error: line %d: form" % p.line, 1)
+        note_amount(journal.others, c)
+        p.cost = (kind, c)
+    if p.want:
+        note_amount(journal.others, p.want[0])
+
 def read_posting(text, journal, txn, line):
+    """A posting of a transaction, or of a rule where there is none."""
     p = Posting()
     p.line, p.txn = line, txn
     m = re.match(r"([!*])\s+", text)
@@ -238,24 +286,9 @@ def read_posting(text, journal, txn, line):
         raise Refused("error: line %d: account" % line, 1)
     p.account = name
     quoted = re.match(r'((?:[^;"]|"[^"]*")*)(;.*)?$', rest)
-    amounts, comment = quoted[1].strip(), quoted[2]
-    if comment is not None:
-        p.comment = comment[1:].strip()
-    if amounts:
-        if "=" in amounts:
-            raise NotRead("line %d: an assertion" % line)
-        m = re.match(r"(.*?)\s*(\(@@\)|\(@\)|@@|@)\s*(.*)$", amounts)
-        main, kind, cost = (m[1], m[2].strip("()"), m[3]) if m else (amounts, None, None)
-        p.amount = read_amount(main, journal, line)
-        if p.amount is None:
-            raise Refused("error: line %d: form" % line, 1)
-        note_amount(journal.written, p.amount)
-        if kind:
-            c = read_amount(cost, journal, line)
-            if c is None:
-                raise Refused("error: line %d: form" % line, 1)
-            note_amount(journal.others, c)
-            p.cost = (kind, c)
+    if quoted[2] is not None:
+        p.comment = quoted[2][1:].strip()
+    read_amounts(p, quoted[1].strip(), journal)
     return p
 
 def read_entry(lines, journal, number):
@@ -295,6 +328,9 @@ def read_entry(lines, journal, number):
 
 def read_directive(lines, journal):
     at, first = lines[0]
+    if first[0] in "=~":
+        rules.read_rule(lines, journal)
+        return
     word, _, rest = first.partition(" ")
     if word == "account":
         name, _, comment = rest.partition(";")
@@ -365,12 +401,19 @@ def at_cost(p):
     sign = (p.amount.value > 0) - (p.amount.value < 0)
     return c.symbol, sign * abs(c.value)
 
+def places_at_cost(p):
+    """How many decimals it has at its cost; a product has those that it needs."""
+    if p.cost is None:
+        return p.amount.places
+    return p.cost[1].places if p.cost[0] == "@@" else needed_places(at_cost(p)[1])
+
 FOUND = Shape(False, True, None)
 
 def balance_txn(txn):
+    """Finds what isn't written, and refuses sums that aren't zero. An amount that was found sets no decimals."""
     written, costs = {}, {}
     for p in txn.postings:
-        if p.amount:
+        if p.amount and not p.filled:
             written[p.amount.symbol] = max(written.get(p.amount.symbol, 0), p.amount.places)
         if p.cost:
             costs[p.cost[1].symbol] = max(costs.get(p.cost[1].symbol, 0), p.cost[1].places)
@@ -382,8 +425,6 @@ def balance_txn(txn):
     sums_of = {}
     for side in ("real", "balanced"):
         missing = [p for p in txn.postings if p.side == side and p.amount is None]
-        if len(missing) > 1:
-            raise Refused("error: line %d: two missing amounts" % txn.line, 1)
         sums = {}
         for p in txn.postings:
             if p.side == side and p.amount:
@@ -416,20 +457,80 @@ def balance_txn(txn):
     for side, sums in (("real", real), ("balanced", sums_of["balanced"])):
         bad = sorted((s for s in sums if not is_zero(s, sums[s])), key=str.encode)
         if bad:
-            places = max([p.amount.places for p in txn.postings if p.amount and p.amount.symbol == bad[0]]
-                         + [p.cost[1].places for p in txn.postings if p.cost and p.cost[1].symbol == bad[0]] + [needed_places(sums[bad[0]])])
+            places = max(places_at_cost(p) for p in txn.postings if p.side == side and p.amount and at_cost(p)[0] == bad[0])
             text = print_number(sums[bad[0]], places, ".", None, 3, 3)
-            raise Refused(("error: line %d: unbalanced %s %s" % (txn.line, text, bad[0])).rstrip(), 1)
+            raise Refused("error: line %d: unbalanced %s %s" % (txn.line, text, bad[0]), 1)
+
+def refuse_missing(txn):
+    for side in ("real", "balanced"):
+        if sum(p.side == side and p.amount is None and p.want is None for p in txn.postings) > 1:
+            raise Refused("error: line %d: two missing amounts" % txn.line, 1)
+    if any(p.amount is None and p.want for p in txn.postings) and any(name == "date" for p in txn.postings for name, _ in p.tags):
+        raise Refused("error: line %d: not allowed" % txn.line, 1)
+
+def in_places(txn):
+    """A transaction's postings as they count on a day: beside an amount that is assigned those that were missing come last."""
+    assigns = any(p.want and (p.amount is None or p.filled) for p in txn.postings)
+    return sorted(txn.postings, key=lambda p: assigns and p.want is None and (p.amount is None or p.filled))
+
+def held(counted, p):
+    """The amounts that an assertion's account holds, each symbol with the most decimals among its postings."""
+    below = p.want[2]
+    sums, places = {}, {}
+    for q in counted:
+        if q.account == p.account or (below and q.account.startswith(p.account + ":")):
+            symbol = q.amount.symbol
+            sums[symbol] = sums.get(symbol, 0) + q.amount.value
+            places[symbol] = max(places.get(symbol, 0), q.amount.places)
+    return sums, places
+
+def assign(txn, counted):
+    """Amounts that make assertions true at their places."""
+    before = list(counted)
+    for p in in_places(txn):
+        if p.amount is None and p.want:
+            amount = p.want[0]
+            sums, places = held(before, p)
+            value = amount.value - sums.get(amount.symbol, 0)
+            p.amount, p.filled = Amount(amount.symbol, value, max(amount.places, places.get(amount.symbol, 0)), FOUND), True
+        if p.amount is not None:
+            before.append(p)
+
+def refuse_assertion(p, counted):
+    amount, alone, _ = p.want
+    sums, places = held(counted, p)
+    wrong = [amount.symbol] if sums.get(amount.symbol, 0) != amount.value else []
+    if alone and not wrong:
+        wrong = sorted((s for s, v in sums.items() if s != amount.symbol and v != 0), key=str.encode)
+    if wrong:
+        plain = lambda value, n, symbol: print_number(value, n, ".", None, 3, 3) + " " + symbol
+        raise Refused("error: line %d: assertion: wanted %s, found %s" % (p.line, plain(amount.value, amount.places, amount.symbol),
+                      plain(sums.get(wrong[0], Fraction(0)), places.get(wrong[0], 0), wrong[0])), 1)
+
+def judge(txns):
+    """Finds what isn't written, and refuses the first fault: by day, on one day in the order of the transactions, of which each
+    balances on the first of its days, and then by the places of assertions."""
+    days = {t.number: sorted({p.day for p in t.postings} or {t.day}) for t in txns}
+    counted = []
+    for day, t in sorted(((d, t) for t in txns for d in days[t.number]), key=lambda group: (group[0], group[1].number)):
+        if day == days[t.number][0]:
+            refuse_missing(t)
+            assign(t, counted)
+            balance_txn(t)
+        for p in in_places(t):
+            if p.day == day:
+                counted.append(p)
+                if p.want:
+                    refuse_assertion(p, counted)
 
 def load(text):
-    journal, faults = Journal(), []
+    journal = Journal()
     for item in items_of(text):
         if item[0][1][0].isdigit():
             journal.txns.append(read_entry(item, journal, len(journal.txns)))
         else:
             read_directive(item, journal)
-    for txn in sorted(journal.txns, key=lambda t: (min([p.day for p in t.postings] or [t.day]), t.number)):
-        balance_txn(txn)
+    judge(journal.txns)
     return journal
 
 # ---------------------------------------------------------------- styles
@@ -831,6 +932,7 @@ for names, commands, takes in [
         ("-H --historical", ("balance", "register"), False), ("--cumulative", ("balance",), False), ("--change", ("balance",), False),
         ("-l --flat", COLUMNS, False), ("-t --tree", COLUMNS, False), ("-A --average", COLUMNS, False),
         ("-T --row-total", COLUMNS, False), ("-N --no-total", COLUMNS, False), ("-S --sort-amount", COLUMNS, False),
+        ("--auto", REPORTS, False), ("--forecast", REPORTS, None), ("--budget", ("balance",), False),
         ("-x --explicit", ("print",), False)]:
     for name in names.split():
         OPTIONS[name] = (names.split()[-1][2:], commands, takes)
@@ -838,7 +940,8 @@ for names, commands, takes in [
 INTERVALS = {"daily": "day", "weekly": "week", "monthly": "month", "quarterly": "quarter", "yearly": "year"}
 RIVALS = [set(INTERVALS), {"historical", "cumulative", "change"}, {"flat", "tree"}, {"market", "exchange", "value"}]
 EXCLUDED = {("row-total", "historical"), ("row-total", "cumulative"), ("row-total", "sheet"), ("average", "historical"),
-            ("average", "cumulative"), ("average", "sheet"), ("sort-amount", "tree")}
+            ("average", "cumulative"), ("average", "sheet"), ("sort-amount", "tree"), ("budget", "historical"),
+            ("budget", "cumulative"), ("budget", "tree")}
 
 def clash(a, b):
     return a != b and any(a in s and b in s for s in RIVALS) or (a, b) in EXCLUDED or (b, a) in EXCLUDED
@@ -848,7 +951,7 @@ def read_value(name, text, today):
     if name in ("begin", "end"):
         p = read_period(("since " if name == "begin" else "until ") + text, today)
         return p and (p[0] if name == "begin" else p[1],)
-    if name == "period":
+    if name in ("period", "forecast"):
         return read_period(text, today)
     if name == "depth":
         return int(text) if re.fullmatch(r"[1-9][0-9]*", text) else None
@@ -881,7 +984,9 @@ def read_options(command, words, today):
             raise Refused("error: usage: " + w, 2)
         long, _, takes = OPTIONS[name]
         holder, value = w, True
-        if takes:
+        if takes is None and not equals:
+            value = (None, None, None)
+        elif takes is not False:
             if not equals:
                 if at == len(words):
                     raise Refused("error: usage: " + w, 2)
@@ -930,6 +1035,7 @@ def read_options(command, words, today):
     o.mode = "historical" if has("historical") or command == "balancesheet" else "cumulative" if has("cumulative") else "change"
     o.empty, o.tree, o.average, o.row_total = has("empty"), has("tree"), has("average"), has("row-total")
     o.no_total, o.sort, o.explicit = has("no-total"), has("sort-amount"), has("explicit")
+    o.auto, o.budget, o.forecast = has("auto"), has("budget"), last("forecast")[2] if has("forecast") else None
     return o, query
 
 # ---------------------------------------------------------------- prices
@@ -992,25 +1098,39 @@ def valued(journal, symbol, value, target, day):
 
 # ---------------------------------------------------------------- span and takings
 
+def given_bounds(options, query):
+    dates = query.dates()
+    starts = [d for d in (options.start, dates[0]) if d is not None]
+    ends = [d for d in (options.end, dates[1]) if d is not None]
+    return max(starts, default=None), min(ends, default=None)
+
 class Job:
     def __init__(self, journal, options, query, today):
         self.journal, self.options, self.query, self.today = journal, options, query, today
         self.postings = [p for t in journal.txns for p in t.postings]
-        dates = query.dates()
-        starts = [d for d in (options.start, dates[0]) if d is not None]
-        ends = [d for d in (options.end, dates[1]) if d is not None]
-        self.given_start, self.given_end = max(starts, default=None), min(ends, default=None)
+        self.given_start, self.given_end = given_bounds(options, query)
         days = [p.day for p in self.postings if query.undated(p)]
         self.start = self.given_start if self.given_start is not None else min(days, default=today)
         self.end = self.given_end if self.given_end is not None else (max(days) + 1 if days else today)
         self.is_empty = self.end <= self.start
-        if options.interval and not self.is_empty:
-            self.columns = split(self.start, self.end, options.interval)
-            if len(self.columns) > 1200:
-                raise Refused("error: limit: %d of 1200" % len(self.columns), 7)
-        else:
-            self.columns = [(self.start, self.end)]
+        self.columns = split(self.start, self.end, options.interval) if options.interval and not self.is_empty else [(self.start, self.end)]
         self.first, self.stop = self.columns[0][0], self.columns[-1][1]
+        self.goals = None
+        if options.budget:
+            self.goals = self.of_goals(rules.goals_of(journal, (self.first, self.stop)))
+        if len(self.columns) > 1200:
+            raise Refused("error: limit: %d of 1200" % len(self.columns), 7)
+
+    def of_goals(self, made):
+        """The same over goals, with the days of the columns as bounds."""
+        goals = Job.__new__(Job)
+        goals.__dict__.update(self.__dict__)
+        goals.journal = Journal.__new__(Journal)
+        goals.journal.__dict__.update(self.journal.__dict__)
+        goals.journal.txns = made
+        goals.postings = [p for t in made for p in t.postings]
+        goals.given_start, goals.given_end = self.first, self.stop
+        return goals
 
     def last_day(self, column):
         return column[0] if column[1] <= column[0] else column[1] - 1
@@ -1169,6 +1289,8 @@ def cell_line(job, name, cells):
     return (name, [", ".join(amounts_text(job.journal, c)) for c in widened(job, cells)])
 
 def balance_report(job):
+    if job.options.budget:
+        return rules.budget_report(job)
     rows = job.cells()
     if job.options.interval is None:
         return list_text(job, rows)
@@ -1259,11 +1381,13 @@ def print_report(job):
             cost = ""
             if p.cost and (o.explicit or not p.costed):
                 cost = " %s %s" % (p.cost[0], print_own(j, p.cost[1], p.costed))
+            if p.want:
+                cost += " %s%s %s" % ("==" if p.want[1] else "=", "*" if p.want[2] else "", print_own(j, p.want[0], False))
             fields.append((account, amount, cost, p.comment))
         wa = max([width(f[0]) for f in fields], default=0)
         wn = max([width(f[1]) for f in fields if f[1] is not None], default=0)
         for account, amount, cost, c in fields:
-            line = account if amount is None else left(account, wa) + "  " + right(amount, wn) + cost
+            line = account if amount is None and not cost else left(account, wa) + "  " + right(amount or "", wn) + cost
             out.append("    " + line + comment(c))
         out.append("\n")
     return "".join(out)
@@ -1290,6 +1414,10 @@ def reckon(text, words, today):
         query = Query(query_words, today, journal, (options.marks, options.real, options.depth))
         if command == "check":
             return "", "", 0
+        if options.forecast is not None:
+            rules.with_forecast(journal, options.forecast, *given_bounds(options, query), today)
+        if options.auto:
+            rules.with_rules(journal, today)
         job = Job(journal, options, query, today)
         report = {"balance": balance_report, "register": register_report, "incomestatement": statement, "balancesheet": statement,
                   "print": print_report, "accounts": accounts_report}[command]
@@ -1310,5 +1438,8 @@ def main(args):
         sys.stderr.write(err + "\n")
     return status
 
+import rules          # stands last, since it reads names of this file
+
 if __name__ == "__main__":
-    sys.exit(main(sys.argv[1:]))
+    import reckon       # under its own name, which rules.py imports
+    sys.exit(reckon.main(sys.argv[1:]))
