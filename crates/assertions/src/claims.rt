@@ -10,7 +10,7 @@ ghost use Rattle.assertions.specs.Claims.{IsClaimed};
 
 use crate::balances::{Balances, add_posting};
 use crate::totals::Totals;
-use book::{Amount, Assertion, Cause, Fault, Posting};
+use book::{Amount, Assertion, Boxed, Cause, Fault, Posting};
 use entry_balance::{TallyFault, plain_amount};
 use hl_base::{Memory, Text};
 use hl_num::Dec;
@@ -114,8 +114,8 @@ pub fn failed(
 ) -> Result<Option<Fault>, Memory>
     ensures { IfOk result (λ fault. fault ≡ failure_at line wanted.now (Some (symbol.now, sum))) }
 {
-    let wanted = copied_amount(alloc, &wanted.amount)?;
-    let found = plain_amount(alloc, symbol, sum)?;
+    let wanted = Boxed::new(alloc, copied_amount(alloc, &wanted.amount)?)?;
+    let found = Boxed::new(alloc, plain_amount(alloc, symbol, sum)?)?;
     Ok(Some(Fault {
         line,
         cause: Cause::AssertionFailed { wanted, found },

@@ -193,11 +193,12 @@ fn copied_cause(alloc: Global, cause: &Cause) -> Result<Cause, Memory>
         Cause::NotAllowed => Ok(Cause::NotAllowed),
         Cause::Unbalanced { symbol, sum } => {
             let symbol = Text::copied(alloc, symbol.as_str())?;
-            Ok(Cause::Unbalanced { symbol, sum: *sum })
+            let sum = Boxed::new(alloc, *sum.get())?;
+            Ok(Cause::Unbalanced { symbol, sum })
         }
         Cause::AssertionFailed { wanted, found } => {
-            let wanted = copied_amount(alloc, wanted)?;
-            let found = copied_amount(alloc, found)?;
+            let wanted = Boxed::new(alloc, copied_amount(alloc, wanted.get())?)?;
+            let found = Boxed::new(alloc, copied_amount(alloc, found.get())?)?;
             Ok(Cause::AssertionFailed { wanted, found })
         }
         Cause::Range => Ok(Cause::Range),

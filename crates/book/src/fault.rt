@@ -1,5 +1,6 @@
 //! What may be wrong with a text, and in which line.
 use crate::amount::Amount;
+use crate::boxed::Boxed;
 use hl_base::Text;
 use hl_num::Dec;
 
@@ -29,9 +30,15 @@ pub enum Cause {
     /// An assigned amount in a transaction whose postings have days of their own.
     NotAllowed,
     /// A transaction whose amounts don't sum to zero, with the sum.
-    Unbalanced { symbol: Text, sum: Dec },
+    Unbalanced {
+        symbol: Text,
+        sum: Boxed<Dec>,
+    },
     /// An assertion that doesn't hold, with the amount that it wants and the one that is there.
-    AssertionFailed { wanted: Amount, found: Amount },
+    AssertionFailed {
+        wanted: Boxed<Amount>,
+        found: Boxed<Amount>,
+    },
     /// Amounts that are too large to sum or to multiply.
     Range,
 }

@@ -40,10 +40,14 @@ fn cause_words(alloc: Global, cause: &Cause) -> Result<String, Memory>
         Cause::NotAllowed => Ok(String::from_str(alloc, "not allowed")?),
         Cause::Unbalanced { symbol, sum } => {
             let mut text = String::from_str(alloc, "unbalanced ")?;
-            text.push_str(print_plain(alloc, symbol, *sum)?.as_str())?;
+            text.push_str(print_plain(alloc, symbol, *sum.get())?.as_str())?;
             Ok(text)
         }
-        Cause::AssertionFailed { wanted, found } => assertion_words(alloc, wanted, found),
+        Cause::AssertionFailed { wanted, found } => assertion_words(
+            alloc,
+            wanted.get(),
+            found.get(),
+        ),
         Cause::Range => Ok(String::from_str(alloc, "range")?),
     }
 }

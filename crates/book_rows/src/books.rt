@@ -2,7 +2,7 @@
 use book::amount::{Amount, Written};
 use book::item::Item;
 use book::{
-    Cause, Directive, Fault, Mark, Mixed, Posting, Price, Side, Style, Styles, Txn,
+    Boxed, Cause, Directive, Fault, Mark, Mixed, Posting, Price, Side, Style, Styles, Txn,
     compare_accounts, print_amount, print_fault, print_plain, with_symbol,
 };
 use hl_base::{List, Text};
@@ -170,11 +170,11 @@ fn tells_faults(rt: HostRuntime) -> Result<(), Fail> {
     let alloc = rt.alloc();
     let unbalanced = Cause::Unbalanced {
         symbol: Text::copied(alloc, "EUR")?,
-        sum: dec(&rt, 15, 3),
+        sum: Boxed::new(alloc, dec(&rt, 15, 3))?,
     };
     let failed = Cause::AssertionFailed {
-        wanted: amount(&rt, alloc, -100, 0)?,
-        found: amount(&rt, alloc, -700, 1)?,
+        wanted: Boxed::new(alloc, amount(&rt, alloc, -100, 0)?)?,
+        found: Boxed::new(alloc, amount(&rt, alloc, -700, 1)?)?,
     };
     let rows = vec![in alloc;
         (Cause::TwoMissing, "error: line 6: two missing amounts\n"),

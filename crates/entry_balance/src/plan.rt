@@ -224,5 +224,6 @@ fn unbalanced(alloc: Global, symbol: &str, sum: Dec) -> Result<Option<Boxed<Caus
     ensures { IfOk result (λ told. told ≡ Some (cause.Unbalanced symbol.now sum)) }
 {
     let symbol = Text::copied(alloc, symbol)?;
+    let sum = Boxed::new(alloc, sum)?;
     Ok(Some(Boxed::new(alloc, Cause::Unbalanced { symbol, sum })?))
 }
