@@ -1,3 +1,4 @@
+pub mod AnyYear
 pub mod Telling
 pub mod Never
 pub mod Plain

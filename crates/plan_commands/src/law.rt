@@ -1,5 +1,5 @@
 //! What reports without rules are, and what requests and the program's words have in common.
-ghost use Rattle.std.specs.Prelude.{◌≡◌, ℕ, List, false, Ok, IfOk};
+ghost use Rattle.std.specs.Prelude.{◌≡◌, ℕ, List, None, Option, Some, false, Ok, IfOk};
 ghost use Rattle.book.specs.declared.item.Book.{Book};
 ghost use Rattle.book.specs.declared.item.Placed.{Placed};
 ghost use Rattle.report_options.specs.Programs.{unnamed};
@@ -7,7 +7,7 @@ ghost use Rattle.report_commands.specs.Reports as plain;
 ghost use Rattle.report_commands.specs.declared.asked.Asked.{Asked};
 ghost use Rattle.plan_commands.specs.Commands.{asked_of, given_of};
 ghost use Rattle.plan_commands.specs.Faults.{widened};
-ghost use Rattle.plan_commands.specs.Reports.{answer_over, asks_rules};
+ghost use Rattle.plan_commands.specs.Reports.{answer_over, asks_rules, report_over};
 
 /// Where neither entries of rules nor a budget are asked for, a report is that of `report_commands`.
 #[tactic(auto, using(crate::proofs::Plain::plain_reports))]
@@ -22,4 +22,11 @@ pub fn plain_reports()
 pub fn request_runs()
     ensures { (day : ℕ) (words : List (List ℕ))
         → IfOk (asked_of day words) (λ asked. given_of day words ≡ Ok (unnamed, asked)) }
+{}
+
+/// A text that loads without a year before it has the same report with any, with entries of rules and budgets too.
+#[tactic(auto, using(crate::proofs::AnyYear::any_year))]
+pub fn any_year()
+    ensures { (asked : Asked) (day year : ℕ) (text : List ℕ)
+        → IfOk (report_over asked day None text) (λ report. report_over asked day (Some year) text ≡ Ok report) }
 {}

@@ -9,7 +9,8 @@ use hl_base::{Bytes, Steps, Text};
 use hl_time::Day;
 use journal_reader::read_journal;
 use plan_commands::{
-    PlanFault, asks_rules, plain_reports, read_program_report, read_report, report, request_runs,
+    PlanFault, any_year, asks_rules, plain_reports, read_program_report, read_report, report,
+    request_runs,
 };
 use query::{Maker, RegexMaker};
 use report_commands::{Asked, Loaded, WordsFault};
@@ -63,6 +64,7 @@ fn words_of_the_program_name_a_journal(rt: HostRuntime) -> Result<(), Fail> {
 
 #[test]
 fn has_laws(rt: HostRuntime) -> Result<(), Fail> {
+    any_year();
     plain_reports();
     request_runs();
     assert!(rt; true);

@@ -44,7 +44,7 @@ use Rattle.report_commands.specs.declared.asked.Asked.{Asked}
 use Rattle.report_commands.specs.Reports.{Report, report_over, report_read}
 
 -- what is answered without a year is answered with one
-abbrev Keeps : {A E : Type 0} → Result A E → Result A E → Type 0
+abbrev pub Keeps : {A E : Type 0} → Result A E → Result A E → Type 0
 Keeps {A} r s = (x : A) → r ≡ Ok x → s ≡ Ok x
 
 bind_keeps : {A B : Type 0} (r s : Result A Fault) (f g : A → Result B Fault) → Keeps r s → ((a : A) → Keeps (f a) (g a)) → Keeps (r >>= f) (s >>= g)
@@ -233,7 +233,7 @@ reading_kept : (c : Context) (y line : ℕ) (bytes : List ℕ) → Keeps (readin
 unfolding reading
 reading_kept c y line bytes = where_keeps (is_utf8 bytes) (fault_at (broken_line line bytes) cause.Encoding) _ _ (said_kept (kind_of (first_line bytes)) c y line bytes)
 
-from_kept : (y : ℕ) (before : List Item) (text : List ℕ) (pieces : List Piece) → Keeps (reading_from None before text pieces) (reading_from (Some y) before text pieces)
+pub from_kept : (y : ℕ) (before : List Item) (text : List ℕ) (pieces : List Piece) → Keeps (reading_from None before text pieces) (reading_from (Some y) before text pieces)
 unfolding reading_from
 from_kept y before text [] = λ x e. e
 from_kept y before text (p ∷ ps) =
