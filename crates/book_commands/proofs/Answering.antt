@@ -6,7 +6,7 @@ use Rattle.book.specs.declared.transaction.Txn.{Txn}
 use Rattle.entry_reader.specs.Lines.{contents_of}
 use Rattle.generated.specs.declared.fault.GenFault.{GenFault}
 use Rattle.generated.specs.declared.fault.GenFault.TheVariants as gen_fault
-use Rattle.plan_commands.specs.Faults.{widened}
+use Rattle.plan_commands.specs.Faults.{of_words, widened}
 use Rattle.plan_commands.specs.Reports.{Report, answer_over, asks_rules}
 use Rattle.plan_commands.specs.Telling.{Never, Tells as TellsPlanned}
 use Rattle.plan_commands.specs.declared.fault.PlanFault.{PlanFault}
@@ -201,14 +201,27 @@ module _ (day : ℕ) (words : List (List ℕ)) (OfRule : ℕ → Type 0) (t : Te
   abbrev pub TellsFault : PlanFault → Type 0
   TellsFault (plan_fault.Words fault) = Tells day words t told fault
   TellsFault (plan_fault.Generated fault) = TellsRules OfRule t told fault
+  TellsFault plan_fault.Memory = MakerStays t
 
   pub fault_found : (fault : PlanFault) (r : Refusal) → TellsFault fault → RefusesPlan r fault → Finds (Err r) (Ok told)
   fault_found (plan_fault.Words fault) r h k = words_found day words t told fault r h k
   fault_found (plan_fault.Generated fault) r h k = rules_found fault r h k
+  fault_found plan_fault.Memory r h k = memory_found r told k
 
   pub fault_maker : (fault : PlanFault) (r : Refusal) → TellsFault fault → RefusesPlan r fault → TellsMaker day words OfRule t (Err r)
   fault_maker (plan_fault.Words fault) r h k = words_maker day words t told OfRule fault r h k
   fault_maker (plan_fault.Generated fault) r h k = rules_maker fault r h k
+  fault_maker plan_fault.Memory r h k = stays_memory day words OfRule t r h k
+
+-- the refusal of a report is that of one with what rules make
+pub words_refused : (fault : WordsFault) (r : Refusal) → RefusesReport r fault → RefusesPlan r (of_words fault)
+words_refused (words_fault.NoCommand word) r k = k
+words_refused (words_fault.BadOption word) r k = k
+words_refused (words_fault.Conflict a b) r k = k
+words_refused (words_fault.BadTerm word) r k = k
+words_refused (words_fault.PatternRefused word) r k = k
+words_refused (words_fault.Report fault) r k = k
+words_refused words_fault.Memory r k = k
 
 -- ---- reports
 
@@ -233,12 +246,13 @@ module _ (asked : Asked) (day : ℕ) (items : List Placed) (book : Book) (t : Te
   report_tells (plan_fault.Words (words_fault.BadTerm word)) h = (is_made (Err (plan_fault.Words (words_fault.BadTerm word))) h.0, h.1)
   report_tells (plan_fault.Words (words_fault.PatternRefused word)) h = h
   report_tells (plan_fault.Words (words_fault.Report fault)) h = (is_made (Err (plan_fault.Words (words_fault.Report fault))) h.0, h.1)
-  report_tells (plan_fault.Words words_fault.Memory) h = h
+  report_tells (plan_fault.Words words_fault.Memory) h = absurd h
   report_tells (plan_fault.Generated (gen_fault.Journal fault)) h = (is_made (Err (plan_fault.Generated (gen_fault.Journal fault))) h.0, h.1)
   report_tells (plan_fault.Generated (gen_fault.BadTerm line)) h = (is_made (Err (plan_fault.Generated (gen_fault.BadTerm line))) h.0, h.1)
   report_tells (plan_fault.Generated (gen_fault.PatternRefused line)) h = h
   report_tells (plan_fault.Generated (gen_fault.TooMany count limit)) h = (is_made (Err (plan_fault.Generated (gen_fault.TooMany count limit))) h.0, h.1)
-  report_tells (plan_fault.Generated gen_fault.Memory) h = h
+  report_tells (plan_fault.Generated gen_fault.Memory) h = absurd h
+  report_tells plan_fault.Memory h = h
 
 -- a report that asks for no rules is told as one that may
 pub plain_says : (asked : Asked) (day : ℕ) (items : List Placed) (book : Book) (t : Telling) (r : plain.Report) → asks_rules asked.options ≡ false

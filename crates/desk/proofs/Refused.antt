@@ -191,6 +191,7 @@ module _ (revision day : ℕ) (year : Option ℕ) (text : List ℕ) (words : Lis
   replies (Err (plan_fault.Generated (gen_fault.PatternRefused line))) no_year h = refused_line_of line no_year h
   replies (Err (plan_fault.Generated (gen_fault.TooMany count limit))) no_year h = own (Err (plan_fault.Generated (gen_fault.TooMany count limit))) no_year h.0
   replies (Err (plan_fault.Generated gen_fault.Memory)) no_year h = inl refl
+  replies (Err plan_fault.Memory) no_year h = inl refl
 
   -- and the maker tells what the reply says
   pub tells : (q : Request) (made : Report) → Reports day year text words before now last_before last_now made
@@ -202,9 +203,10 @@ module _ (revision day : ℕ) (year : Option ℕ) (text : List ℕ) (words : Lis
   tells q (Err (plan_fault.Words (words_fault.BadTerm word))) h = h.1
   tells q (Err (plan_fault.Words (words_fault.PatternRefused word))) h = blames day words word before now last_now h
   tells q (Err (plan_fault.Words (words_fault.Report fault))) h = h.1
-  tells q (Err (plan_fault.Words words_fault.Memory)) h = h
+  tells q (Err (plan_fault.Words words_fault.Memory)) h = h.1
   tells q (Err (plan_fault.Generated (gen_fault.Journal fault))) h = h.1
   tells q (Err (plan_fault.Generated (gen_fault.BadTerm line))) h = h.1
   tells q (Err (plan_fault.Generated (gen_fault.PatternRefused line))) h = rose_by day year text words line before now last_now h
   tells q (Err (plan_fault.Generated (gen_fault.TooMany count limit))) h = h.1
-  tells q (Err (plan_fault.Generated gen_fault.Memory)) h = h
+  tells q (Err (plan_fault.Generated gen_fault.Memory)) h = h.1
+  tells q (Err plan_fault.Memory) h = h

@@ -17,6 +17,7 @@ use Rattle.report_commands.specs.declared.asked.Asked.{Asked}
 use Rattle.report_commands.specs.declared.fault.WordsFault.{WordsFault}
 use Rattle.report_commands.specs.declared.fault.WordsFault.TheVariants as words_fault
 use Rattle.plan_commands.specs.Commands.{asked_by, asked_from, asked_of}
+use Rattle.plan_commands.specs.Faults.{of_words}
 use Rattle.plan_commands.specs.Reports.{Report, answer_over, report_loaded, report_read}
 use Rattle.plan_commands.specs.Telling.{Answers}
 use Rattle.plan_commands.specs.declared.fault.PlanFault.TheVariants as plan_fault
@@ -39,7 +40,7 @@ never_refused day (x ∷ xs) word h = never_from x (command_named x) day xs word
 
 -- words that are faulty
 pub unread : (day : ℕ) (year : Option ℕ) (text : List ℕ) (words : List (List ℕ)) (count : ℕ) (last : Option (List ℕ)) (fault : WordsFault)
-    → IfSome (words_cause fault) (λ f. asked_of day words ≡ Err f) → Reports day year text words count count last last (Err (plan_fault.Words fault))
+    → IfSome (words_cause fault) (λ f. asked_of day words ≡ Err f) → Reports day year text words count count last last (Err (of_words fault))
 unread day year text words count last (words_fault.NoCommand word) h = (ap (asked_over day year text) h, record { count = refl; told = refl })
 unread day year text words count last (words_fault.BadOption word) h = (ap (asked_over day year text) h, record { count = refl; told = refl })
 unread day year text words count last (words_fault.Conflict a b) h = (ap (asked_over day year text) h, record { count = refl; told = refl })
@@ -69,10 +70,11 @@ module _ (asked : Asked) (day : ℕ) (year : Option ℕ) (text : List ℕ) (word
   reports before now last_before last_now (Err (plan_fault.Words (words_fault.BadTerm word))) h = (words_are ∙ h.0, h.1)
   reports before now last_before last_now (Err (plan_fault.Words (words_fault.PatternRefused word))) h = record { asked = asked; is = is; refused = h }
   reports before now last_before last_now (Err (plan_fault.Words (words_fault.Report fault))) h = (words_are ∙ h.0, h.1)
-  reports before now last_before last_now (Err (plan_fault.Words words_fault.Memory)) h = h
+  reports before now last_before last_now (Err (plan_fault.Words words_fault.Memory)) h = absurd h
   reports before now last_before last_now (Err (plan_fault.Generated (gen_fault.Journal fault))) h = (words_are ∙ h.0, h.1)
   reports before now last_before last_now (Err (plan_fault.Generated (gen_fault.BadTerm line))) h = (words_are ∙ h.0, h.1)
   reports before now last_before last_now (Err (plan_fault.Generated (gen_fault.PatternRefused line))) h =
       record { asked = asked; is = is; items = items; read = read; book = book; made = loaded; refused = h }
   reports before now last_before last_now (Err (plan_fault.Generated (gen_fault.TooMany count limit))) h = (words_are ∙ h.0, h.1)
-  reports before now last_before last_now (Err (plan_fault.Generated gen_fault.Memory)) h = h
+  reports before now last_before last_now (Err (plan_fault.Generated gen_fault.Memory)) h = absurd h
+  reports before now last_before last_now (Err plan_fault.Memory) h = h

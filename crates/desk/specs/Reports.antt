@@ -108,11 +108,8 @@ abbrev pub Reports : ℕ → Option ℕ → List ℕ → List (List ℕ) → ℕ
     → Report → Type 0
 Reports day year text words before now last_before last_now (Err (plan_fault.Words (words_fault.PatternRefused word))) =
     IsRefusedPattern day words word before now last_now
-Reports day year text words before now last_before last_now (Err (plan_fault.Words words_fault.Memory)) =
-    Stays before now last_before last_now
 Reports day year text words before now last_before last_now (Err (plan_fault.Generated (gen_fault.PatternRefused line))) =
     IsRefusedRule day year text words line before now last_now
-Reports day year text words before now last_before last_now (Err (plan_fault.Generated gen_fault.Memory)) =
-    Stays before now last_before last_now
+Reports day year text words before now last_before last_now (Err plan_fault.Memory) = Stays before now last_before last_now
 Reports day year text words before now last_before last_now report =
     (words_over day year text words ≡ report) × Stays before now last_before last_now

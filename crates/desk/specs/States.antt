@@ -205,6 +205,7 @@ generated_reply fault = reply.Words (plan_fault.Generated fault)
 abbrev pub plan_reply : PlanFault → Reply
 plan_reply (plan_fault.Words fault) = words_reply fault
 plan_reply (plan_fault.Generated fault) = generated_reply fault
+plan_reply plan_fault.Memory = reply.Memory
 
 abbrev pub made_reply : ℕ → Report → Reply
 made_reply revision (Ok bytes) = reply.Text revision bytes

@@ -81,6 +81,7 @@ TellsMade before now last_before last_now other = MakerStays before now last_bef
 abbrev pub TellsPlan : ℕ → ℕ → ℕ → Option (List ℕ) → Option (List ℕ) → PlanFault → Type 0
 TellsPlan day before now last_before last_now (plan_fault.Words fault) = TellsFault day before now last_before last_now fault
 TellsPlan day before now last_before last_now (plan_fault.Generated fault) = TellsMade before now last_before last_now fault
+TellsPlan day before now last_before last_now plan_fault.Memory = MakerStays before now last_before last_now
 
 -- What it tells stays, but where the reply is that a pattern of the request's words or rules, or of the text's rules, is
 -- refused.

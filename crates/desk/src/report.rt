@@ -35,7 +35,7 @@ pub fn report_text<M: Maker, L: Ledger>(
 {
     let asked = match read_report(alloc, words, day) {
         Ok(asked) => asked,
-        Err(fault) => return Err(PlanFault::Words(fault)),
+        Err(fault) => return Err(PlanFault::from(fault)),
     };
     let loaded = Loaded {
         items: live.items(),
@@ -73,6 +73,7 @@ fn plan_reply(fault: PlanFault) -> Reply
     match fault {
         PlanFault::Words(fault) => words_reply(fault),
         PlanFault::Generated(fault) => generated_reply(fault),
+        PlanFault::Memory => Reply::Memory,
     }
 }
 

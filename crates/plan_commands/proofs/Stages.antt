@@ -35,13 +35,13 @@ use Rattle.rule_entries.specs.Counted.{excess_of}
 use Rattle.rule_entries.specs.Making.{made_by_day, made_of}
 use Rattle.rule_entries.specs.declared.counting.Excess.{Excess}
 use Rattle.plan_commands.specs.Books.{planned_book, then_rules, with_forecast}
-use Rattle.plan_commands.specs.Faults.{plan_cause, widened}
+use Rattle.plan_commands.specs.Faults.{of_rules, of_words, plan_cause, widened}
 use Rattle.plan_commands.specs.Plans.{given_in, terms_in}
 use Rattle.plan_commands.specs.Reports.{Report, answer_by, answer_over, as_report, asks_rules, beside, budget_over, on_made, plain_over, report_on}
 use Rattle.plan_commands.specs.Telling.{Answers, Never, RefusesLast, RefusesLater, RefusesRule, Tells, TellsPlanned, TellsRuled}
 use Rattle.plan_commands.specs.declared.fault.PlanFault.TheVariants as plan_fault
 use Rattle.plan_commands.specs.declared.plan.Plan.{Plan}
-use Rattle.plan_commands.proofs.Never.{never_line, never_word}
+use Rattle.plan_commands.proofs.Never.{never_untold}
 use Rattle.plan_commands.proofs.Plain.{plain_reports, read_as}
 use Rattle.plan_commands.proofs.Telling.{defined_so, given_tells, refused_so, stays_back}
 
@@ -57,7 +57,7 @@ module _ (options : Options) (day : ℕ) (items : List Placed) (terms : List Ter
       defined_so day words count count last last (budget_over options day items terms book) (report_on options.budget options day items terms book) Never r
       (ap (λ (budget : Bool). report_on budget options day items terms book) (sym is))
       (given_tells day words count count last last (budget_over options day items terms book) Never r (record { count = refl; told = refl })
-      (never_word items m (columns_of m.asked)) (never_line items m (columns_of m.asked)) given)
+      (never_untold items m (columns_of m.asked)) given)
 
   pub plain_so : (before now : ℕ) (last_before last_now : Option (List ℕ)) (r : Report) → options.budget ≡ false
       → Tells day words before now last_before last_now (plain_over options day items terms book) Never r
@@ -86,7 +86,7 @@ module _ (plan : Plan) (book : Book) where
 
   pub rules_stop : (before now : ℕ) (last_before last_now : Option (List ℕ)) (fault : GenFault)
       → Autos plan.day.0 plan.items.now book.txns before now last_before last_now (Err fault)
-      → TellsRuled plan true book before now last_before last_now (Err (plan_fault.Generated fault))
+      → TellsRuled plan true book before now last_before last_now (Err (of_rules fault))
   rules_stop before now last_before last_now (gen_fault.Journal fault) told = (ap (λ (q : Result Book GenFault). on q) told.0, told.1)
   rules_stop before now last_before last_now (gen_fault.BadTerm line) told = (ap (λ (q : Result Book GenFault). on q) told.0, told.1)
   rules_stop before now last_before last_now (gen_fault.PatternRefused line) told = record { is_asked = refl; rule = told }
@@ -151,7 +151,7 @@ module _ (plan : Plan) (asked : Period) (window : Span) (book : Book) (count : �
 
   pub forecast_stops : (fault : GenFault) → window ≡ window_of asked (given_in plan) book.txns plan.day.0
       → IfSome (cause_of fault) (λ f. forecast_of plan.items.now book.txns window ≡ Err f)
-      → TellsPlanned plan (Some asked) book count count last last (Err (plan_fault.Generated fault))
+      → TellsPlanned plan (Some asked) book count count last last (Err (of_rules fault))
   forecast_stops (gen_fault.Journal fault) is told = (stopped (gen_fault.Journal fault) is told, record { count = refl; told = refl })
   forecast_stops (gen_fault.BadTerm line) is told = (stopped (gen_fault.BadTerm line) is told, record { count = refl; told = refl })
   forecast_stops (gen_fault.PatternRefused line) is told =
@@ -191,7 +191,7 @@ planned_answers plan book before now last_before last_now r read told =
 module _ (asked : Asked) (day : ℕ) (items : List Placed) (book : Book) (before now : ℕ) (last_before last_now : Option (List ℕ)) where
   -- words of which no query is made
   pub no_query : (fault : QueryFault) → Makes day asked.words before now last_before last_now (Err fault)
-      → Answers asked day items book before now last_before last_now (Err (plan_fault.Words (of_query fault)))
+      → Answers asked day items book before now last_before last_now (Err (of_words (of_query fault)))
   no_query (query_fault.BadTerm word) told = (read_as asked day items book (Err word) told.0, told.1)
   no_query (query_fault.PatternRefused word) told = told
   no_query query_fault.Memory told = told
@@ -210,7 +210,7 @@ module _ (asked : Asked) (day : ℕ) (items : List Placed) (book : Book) (before
 -- ---- budgets
 
 pub goals_stop : (m : Matter) (columns : List Span) (goals : Result Book GenFault) (fault : GenFault)
-    → IfSome (cause_of fault) (λ f. goals ≡ Err f) → IfSome (plan_cause (plan_fault.Generated fault)) (λ f. beside m columns goals ≡ Err f)
+    → IfSome (cause_of fault) (λ f. goals ≡ Err f) → IfSome (plan_cause (of_rules fault)) (λ f. beside m columns goals ≡ Err f)
 goals_stop m columns goals (gen_fault.Journal fault) told = ap (λ (q : Result Book GenFault). beside m columns q) told
 goals_stop m columns goals (gen_fault.BadTerm line) told = ap (λ (q : Result Book GenFault). beside m columns q) told
 goals_stop m columns goals (gen_fault.PatternRefused line) told = ap (λ (q : Result Book GenFault). beside m columns q) told
@@ -218,7 +218,7 @@ goals_stop m columns goals (gen_fault.TooMany count limit) told = ap (λ (q : Re
 goals_stop m columns goals gen_fault.Memory told = tt
 
 pub refused_budget : (fault : ReportFault) (made : Result (List ℕ) ReportFault) → IfSome (cause fault) (λ f. made ≡ Err f)
-    → IfSome (plan_cause (plan_fault.Words (of_report fault))) (λ f. as_report made ≡ Err f)
+    → IfSome (plan_cause (of_words (of_report fault))) (λ f. as_report made ≡ Err f)
 refused_budget (report_fault.Range symbol) made told = ap (λ (q : Result (List ℕ) ReportFault). as_report q) told
 refused_budget (report_fault.TooWide columns limit) made told = ap (λ (q : Result (List ℕ) ReportFault). as_report q) told
 refused_budget report_fault.Memory made told = tt

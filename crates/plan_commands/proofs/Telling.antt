@@ -11,7 +11,16 @@ use Rattle.book.specs.declared.item.Placed.{Placed}
 use Rattle.plan_commands.specs.Faults.{plan_cause, widened}
 use Rattle.plan_commands.specs.Reports.{Report}
 use Rattle.plan_commands.specs.Telling.{Tells}
+use Rattle.plan_commands.specs.declared.fault.PlanFault.{PlanFault}
 use Rattle.plan_commands.specs.declared.fault.PlanFault.TheVariants as plan_fault
+
+-- What no report is by its definition: a pattern that is refused, or want of memory as something else.
+abbrev pub IsUntold : PlanFault → Type 0
+IsUntold (plan_fault.Words (words_fault.PatternRefused word)) = Unit {0}
+IsUntold (plan_fault.Words words_fault.Memory) = Unit {0}
+IsUntold (plan_fault.Generated (gen_fault.PatternRefused line)) = Unit {0}
+IsUntold (plan_fault.Generated gen_fault.Memory) = Unit {0}
+IsUntold other = ⊥
 
 -- What a maker told before stays, so what is said since then holds since before.
 pub stays_back : (R : ℕ → Option (List ℕ) → Type 0) (before mid : ℕ) (last_before last_mid : Option (List ℕ))
@@ -30,6 +39,7 @@ module _ (day : ℕ) (words : List (List ℕ)) (before now : ℕ) (last_before l
   refused_so defined R S (Err (plan_fault.Generated (gen_fault.PatternRefused line))) so told = so line told
   refused_so defined R S (Err (plan_fault.Generated (gen_fault.TooMany count limit))) so told = told
   refused_so defined R S (Err (plan_fault.Generated gen_fault.Memory)) so told = told
+  refused_so defined R S (Err plan_fault.Memory) so told = told
 
   -- a report may be told as one that equals it
   pub defined_so : (a b : Report) (R : ℕ → Type 0) (r : Report) → a ≡ b
@@ -38,22 +48,22 @@ module _ (day : ℕ) (words : List (List ℕ)) (before now : ℕ) (last_before l
 
   -- what a definition gives is told, where no maker was asked
   pub given_tells : (defined : Report) (R : ℕ → Type 0) (r : Report) → Stays before now last_before last_now
-      → ((word : List ℕ) → defined ≡ Err (plan_fault.Words (words_fault.PatternRefused word)) → ⊥)
-      → ((line : ℕ) → defined ≡ Err (plan_fault.Generated (gen_fault.PatternRefused line)) → ⊥)
+      → ((fault : PlanFault) → IsUntold fault → defined ≡ Err fault → ⊥)
       → Gives (λ (text : List ℕ). text) plan_cause r defined → Tells day words before now last_before last_now defined R r
-  given_tells defined R (Ok text) stays word line given = (given, stays)
-  given_tells defined R (Err (plan_fault.Words (words_fault.NoCommand w))) stays word line given = (given, stays)
-  given_tells defined R (Err (plan_fault.Words (words_fault.BadOption w))) stays word line given = (given, stays)
-  given_tells defined R (Err (plan_fault.Words (words_fault.Conflict a b))) stays word line given = (given, stays)
-  given_tells defined R (Err (plan_fault.Words (words_fault.BadTerm w))) stays word line given = (given, stays)
-  given_tells defined R (Err (plan_fault.Words (words_fault.PatternRefused w))) stays word line given = absurd (word w given)
-  given_tells defined R (Err (plan_fault.Words (words_fault.Report fault))) stays word line given = (given, stays)
-  given_tells defined R (Err (plan_fault.Words words_fault.Memory)) stays word line given = stays
-  given_tells defined R (Err (plan_fault.Generated (gen_fault.Journal fault))) stays word line given = (given, stays)
-  given_tells defined R (Err (plan_fault.Generated (gen_fault.BadTerm l))) stays word line given = (given, stays)
-  given_tells defined R (Err (plan_fault.Generated (gen_fault.PatternRefused l))) stays word line given = absurd (line l given)
-  given_tells defined R (Err (plan_fault.Generated (gen_fault.TooMany count limit))) stays word line given = (given, stays)
-  given_tells defined R (Err (plan_fault.Generated gen_fault.Memory)) stays word line given = stays
+  given_tells defined R (Ok text) stays never given = (given, stays)
+  given_tells defined R (Err (plan_fault.Words (words_fault.NoCommand w))) stays never given = (given, stays)
+  given_tells defined R (Err (plan_fault.Words (words_fault.BadOption w))) stays never given = (given, stays)
+  given_tells defined R (Err (plan_fault.Words (words_fault.Conflict a b))) stays never given = (given, stays)
+  given_tells defined R (Err (plan_fault.Words (words_fault.BadTerm w))) stays never given = (given, stays)
+  given_tells defined R (Err (plan_fault.Words (words_fault.PatternRefused w))) stays never given = absurd (never (plan_fault.Words (words_fault.PatternRefused w)) tt given)
+  given_tells defined R (Err (plan_fault.Words (words_fault.Report fault))) stays never given = (given, stays)
+  given_tells defined R (Err (plan_fault.Words words_fault.Memory)) stays never given = absurd (never (plan_fault.Words words_fault.Memory) tt given)
+  given_tells defined R (Err (plan_fault.Generated (gen_fault.Journal fault))) stays never given = (given, stays)
+  given_tells defined R (Err (plan_fault.Generated (gen_fault.BadTerm l))) stays never given = (given, stays)
+  given_tells defined R (Err (plan_fault.Generated (gen_fault.PatternRefused l))) stays never given = absurd (never (plan_fault.Generated (gen_fault.PatternRefused l)) tt given)
+  given_tells defined R (Err (plan_fault.Generated (gen_fault.TooMany count limit))) stays never given = (given, stays)
+  given_tells defined R (Err (plan_fault.Generated gen_fault.Memory)) stays never given = absurd (never (plan_fault.Generated gen_fault.Memory) tt given)
+  given_tells defined R (Err plan_fault.Memory) stays never given = stays
 
 -- what is answered without rules is told so
 pub plain_tells : (asked : Asked) (day : ℕ) (items : List Placed) (book : Book) (before now : ℕ) (last_before last_now : Option (List ℕ))

@@ -23,22 +23,23 @@ use Rattle.plan_commands.specs.declared.plan.Plan.{Plan}
 
 -- What is told of some words on a day, where the report is this one, and what the maker told before and tells now. A pattern
 -- of a word may be refused, or that of a rule, where that is said; the maker's count rises then, and rises for nothing else;
--- want of memory says nothing.
+-- want of memory says nothing, and is told by itself.
 module _ (day : ℕ) (words : List (List ℕ)) (before now : ℕ) (last_before last_now : Option (List ℕ)) (defined : Report) where
   abbrev pub TellsWords : WordsFault → Type 0
   TellsWords (words_fault.PatternRefused word) = IsPatternRefused day words word before now last_now
-  TellsWords words_fault.Memory = Stays before now last_before last_now
+  TellsWords words_fault.Memory = ⊥
   TellsWords fault = (defined ≡ Err (plan_fault.Words fault)) × Stays before now last_before last_now
 
   abbrev pub TellsRules : (ℕ → Type 0) → GenFault → Type 0
   TellsRules Refused (gen_fault.PatternRefused line) = Refused line
-  TellsRules Refused gen_fault.Memory = Stays before now last_before last_now
+  TellsRules Refused gen_fault.Memory = ⊥
   TellsRules Refused fault = (defined ≡ Err (plan_fault.Generated fault)) × Stays before now last_before last_now
 
   abbrev pub Tells : (ℕ → Type 0) → Report → Type 0
   Tells Refused (Ok text) = (defined ≡ Ok text) × Stays before now last_before last_now
   Tells Refused (Err (plan_fault.Words fault)) = TellsWords fault
   Tells Refused (Err (plan_fault.Generated fault)) = TellsRules Refused fault
+  Tells Refused (Err plan_fault.Memory) = Stays before now last_before last_now
 
 -- no pattern of a rule is refused
 abbrev pub Never : ℕ → Type 0

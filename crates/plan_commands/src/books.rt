@@ -76,7 +76,7 @@ pub(crate) fn without_rules<M: Maker>(
 {
     match report_of(alloc, asked, material, maker) {
         Ok(text) => Ok(text),
-        Err(fault) => Err(PlanFault::Words(fault)),
+        Err(fault) => Err(PlanFault::from(fault)),
     }
 }
 
@@ -138,7 +138,7 @@ fn with_rules<M: Maker>(
 {
     match with_auto(alloc, plan.items, book, plan.day, maker) {
         Ok(made) => report_over(alloc, plan, &made, maker),
-        Err(fault) => Err(PlanFault::Generated(fault)),
+        Err(fault) => Err(PlanFault::from(fault)),
     }
 }
 
@@ -192,7 +192,7 @@ fn with_forecast<M: Maker>(
     let window = window_in(plan, asked, book);
     match forecast(alloc, plan.items, book, window) {
         Ok(made) => after_forecast(alloc, plan, &made, maker),
-        Err(fault) => Err(PlanFault::Generated(fault)),
+        Err(fault) => Err(PlanFault::from(fault)),
     }
 }
 

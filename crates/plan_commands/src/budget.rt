@@ -19,7 +19,6 @@ use generated::goals;
 use hl_base::{Bytes, List, Memory};
 use hl_time::Span;
 use report_cells::{Cells, ReportFault};
-use report_commands::WordsFault;
 use report_sums::{Job, sums};
 use std::alloc::Global;
 
@@ -31,7 +30,7 @@ pub(crate) fn budget(alloc: Global, items: &Items, job: &Job) -> Result<Bytes, P
 {
     match all_columns(alloc, &job.scope) {
         Ok(columns) => budget_by(alloc, items, job, columns),
-        Err(Memory) => Err(PlanFault::Words(WordsFault::Memory)),
+        Err(Memory) => Err(PlanFault::Memory),
     }
 }
 
@@ -48,7 +47,7 @@ fn budget_by(
     let span = goal_span(columns.as_slice());
     match goals(alloc, items, span) {
         Ok(goals) => beside(alloc, job, columns, &goals),
-        Err(fault) => Err(PlanFault::Generated(fault)),
+        Err(fault) => Err(PlanFault::from(fault)),
     }
 }
 

@@ -122,7 +122,9 @@ rules_status _ = 1
 abbrev pub plan_line : PlanFault → List ℕ
 plan_line (plan_fault.Words fault) = words_line fault
 plan_line (plan_fault.Generated fault) = rules_line fault
+plan_line plan_fault.Memory = memory_line
 
 abbrev pub plan_status : PlanFault → ℕ
 plan_status (plan_fault.Words fault) = words_status fault
 plan_status (plan_fault.Generated fault) = rules_status fault
+plan_status plan_fault.Memory = 1

@@ -48,6 +48,7 @@ RefusesRules r fault = Refuses r (rules_status fault) (rules_line fault)
 abbrev pub RefusesPlan : Refusal → PlanFault → Type 0
 RefusesPlan r (plan_fault.Words fault) = RefusesReport r fault
 RefusesPlan r (plan_fault.Generated fault) = RefusesRules r fault
+RefusesPlan r plan_fault.Memory = r ≡ refusal.Memory
 
 -- the refusal of a text that is there has a status of its kind
 abbrev pub IsOfText : Refusal → Type 0

@@ -138,5 +138,6 @@ pub fn refuse_plan(alloc: Global, fault: PlanFault) -> Refusal
     match fault {
         PlanFault::Words(fault) => refuse_report(alloc, fault),
         PlanFault::Generated(fault) => refuse_rules(alloc, fault),
+        PlanFault::Memory => Refusal::Memory,
     }
 }

@@ -116,6 +116,7 @@ gen_status gen_fault.Memory = 500
 abbrev pub plan_status : PlanFault → ℕ
 plan_status (plan_fault.Words fault) = words_status fault
 plan_status (plan_fault.Generated fault) = gen_status fault
+plan_status plan_fault.Memory = 500
 
 abbrev pub rules_status : RulesFault → ℕ
 rules_status (rules_fault.BadRule line) = 422

@@ -68,6 +68,7 @@ gen_line gen_fault.Memory = ended (codes "error: memory")
 abbrev pub plan_line : PlanFault → List ℕ
 plan_line (plan_fault.Words fault) = words_line fault
 plan_line (plan_fault.Generated fault) = gen_line fault
+plan_line plan_fault.Memory = ended (codes "error: memory")
 
 -- why a text is no file of rules, and why a file becomes no entries
 abbrev pub rules_line : RulesFault → List ℕ

@@ -213,6 +213,7 @@ fn plan_code(fault: &PlanFault) -> StatusCode
     match fault {
         PlanFault::Words(fault) => words_code(fault),
         PlanFault::Generated(fault) => gen_code(fault),
+        PlanFault::Memory => StatusCode::INTERNAL_SERVER_ERROR,
     }
 }
 

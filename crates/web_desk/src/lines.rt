@@ -166,6 +166,7 @@ pub fn plan_fault_line(alloc: Global, fault: &PlanFault) -> Result<Bytes, Memory
     match fault {
         PlanFault::Words(fault) => Ok(bytes_of(words_fault_line(alloc, fault)?)),
         PlanFault::Generated(fault) => gen_fault_line(alloc, fault),
+        PlanFault::Memory => Ok(bytes_of(String::from_str(alloc, "error: memory\n")?)),
     }
 }
 

@@ -1,4 +1,6 @@
-use Rattle.std.proofs.Common.{Some, Ok}
+use Rattle.std.proofs.Common.{Some, Ok, Err, sym, subst}
+use Rattle.plan_commands.specs.Telling.{TellsPlanned}
+use Rattle.plan_commands.specs.declared.fault.PlanFault.{PlanFault}
 use Rattle.plan_commands.proofs.Stages.{forecast_stops, forecast_tells, window_forecast}
 use Rattle.plan_commands.proofs.books.with_forecast.Goals as goal
 
@@ -13,5 +15,9 @@ returns-in-Ok g c =
 
 pub returns-in-Err : goal.returns-in-Err
 returns-in-Err g c =
-    forecast_stops c.args.plan.now c.args.asked c.window_in-window.result c.args.book.now
-    (g.M.Maker.refusals c.args.maker.now) (g.M.Maker.last_refused c.args.maker.now) c.in-Err.fault c.window_in-window.ensures.window c.in-Err.ensures
+    let plan = c.args.plan.now in
+    let book = c.args.book.now in
+    let count = g.M.Maker.refusals c.args.maker.now in
+    let last = g.M.Maker.last_refused c.args.maker.now in
+    subst (λ (e : PlanFault). TellsPlanned plan (Some c.args.asked) book count count last last (Err e)) (sym c.from.ensures)
+    (forecast_stops plan c.args.asked c.window_in-window.result book count last c.in-Err.fault c.window_in-window.ensures.window c.in-Err.ensures)

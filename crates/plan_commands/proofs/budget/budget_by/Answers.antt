@@ -9,7 +9,8 @@ use Rattle.generated.specs.declared.fault.GenFault.{GenFault}
 use Rattle.report_sums.specs.Matters.{matter_of}
 use Rattle.plan_commands.specs.Columns.{goal_span}
 use Rattle.plan_commands.specs.Faults.{plan_cause}
-use Rattle.plan_commands.specs.Reports.{beside}
+use Rattle.plan_commands.specs.Reports.{beside, budget_by}
+use Rattle.plan_commands.specs.declared.fault.PlanFault.{PlanFault}
 use Rattle.plan_commands.proofs.Stages.{goals_stop}
 use Rattle.plan_commands.proofs.budget.budget_by.Goals as goal
 
@@ -25,5 +26,6 @@ pub returns-in-Err : goal.returns-in-Err
 returns-in-Err c =
     let m = matter_of c.args.job.now in
     let span = c.goal_span-span.ensures.span ∙ ap goal_span c.as_slice.ensures in
-    goals_stop m c.args.columns (goals_of c.args.items.now (goal_span c.args.columns)) c.in-Err.fault
-    (subst (λ (s : Span). IfSome (cause_of c.in-Err.fault) (λ f. goals_of c.args.items.now s ≡ Err f)) span c.in-Err.ensures)
+    subst (λ (e : PlanFault). IfSome (plan_cause e) (λ f. budget_by c.args.items.now m c.args.columns ≡ Err f)) (sym c.from.ensures)
+    (goals_stop m c.args.columns (goals_of c.args.items.now (goal_span c.args.columns)) c.in-Err.fault
+    (subst (λ (s : Span). IfSome (cause_of c.in-Err.fault) (λ f. goals_of c.args.items.now s ≡ Err f)) span c.in-Err.ensures))
