@@ -1,5 +1,5 @@
 -- What opening a journal and a store says of a machine.
-use Rattle.std.proofs.Common.{◌≡◌, ℕ, ◌+◌, ◌%◌, ◌==◌, Bool, true, false, ◌&&◌, ltb, if◌then◌else◌, List, [], ◌∷◌, ◌++◌, length, Option, Some, None, IfSome, Ok, Err, refl, sym, ap, subst, ◌∙◌, arith, length-append}
+use Rattle.std.proofs.Common.{◌≡◌, ℕ, ◌+◌, ◌%◌, ◌==◌, Bool, true, false, ◌&&◌, ltb, if◌then◌else◌, List, [], ◌∷◌, ◌++◌, length, Option, Some, None, IfSome, Result, Ok, Err, refl, sym, ap, subst, ◌∙◌, arith, length-append}
 use Rattle.std.proofs.lemmas.Bool.Decides.{nat_tests}
 use Rattle.hl_base.specs.declared.change.Latest.{Latest}
 use Rattle.hl_base.specs.declared.disk.Disk.{Ghosts}
@@ -13,12 +13,12 @@ use Rattle.text_store.specs.declared.image.Image.{Image}
 use Rattle.text_store.specs.declared.store.Store.{Store}
 use Rattle.text_store.specs.Edits.{whole_size}
 use Rattle.text_store.specs.Files.{HaveShortNames, IsWritable, WhileOpened, fresh, opened_limit}
-use Rattle.text_store.specs.Image.{Half, have_own_names, image, live}
+use Rattle.text_store.specs.Image.{Half, NoImage, have_own_names, image, live}
 use Rattle.text_store.specs.Refusals.{CreateRefused, OpenRefused, ReadTheSame}
 use Rattle.text_store.specs.Stores.{Holds, IsChosen, Keeps, Leads, Tell, Throughout, disks, image_beside, limit_of, placed, size_of}
 use Rattle.text_store.proofs.Holding.{led}
 use Rattle.desk.specs.Keeping.{are_writable, have_short_names}
-use Rattle.desk.specs.Openings.{ImageStays, MakingRefused, OpeningRefused, file_in_use, load_refusal, store_refusal, uses_second}
+use Rattle.desk.specs.Openings.{ImageStays, MakingRefused, OpeningRefused, TellImage, file_in_use, load_refusal, store_refusal, uses_second}
 
 -- a journal that was opened is the one that was asked for
 opened_by : (j : Journal) (o : Option OpenFault) (live : Journal) → or_fault j o ≡ Ok live → live ≡ j
@@ -61,12 +61,6 @@ writes image h =
     let more = both_of (have_short_names image.latest) (have_own_names image.latest) few.1 in
     record { few = (let first = few.0 in grind (arith, nat_tests)); short = names_short image.latest more.0; own = more.1 }
 
--- the text of two files makes no journal, where that of their image doesn't
-pub unloaded : (e : OpenFault) (shown other : Image) (first second : List ℕ) → image first second ≡ Ok shown → image first second ≡ Ok other → Tells e (fault_of None other.text) → Tells e (fault_of None shown.text)
-unloaded e shown other first second a b h =
-    let same : other ≡ shown = cc in
-    subst (λ (i : Image). Tells e (fault_of None i.text)) same h
-
 pub moved : {D : Type 0} (g : Ghosts D) (old mid new : D × D) (first second : List ℕ) → mid ≡ new → (Tell g old → Throughout g old mid (WhileOpened g old first second)) → Tell g old → Throughout g old new (WhileOpened g old first second)
 moved {D} g old mid new first second e h tell =
     subst (λ (d : D × D). Throughout g old d (WhileOpened g old first second)) e (h tell)
@@ -105,10 +99,7 @@ some_same a b h = cc
 
 -- disks that read as they did show what they did
 pub read_stays : {D : Type 0} (g : Ghosts D) (old new : D × D) → ReadTheSame g old new → ImageStays g old new
-read_stays g old new same = λ f s a b f_now s_now a_now b_now.
-    let first = some_same f_now f (sym a_now ∙ same.0 ∙ a) in
-    let second = some_same s_now s (sym b_now ∙ same.1 ∙ b) in
-    (λ i. image (first i) (second i))
+read_stays g old new same = λ f s a b. (f, s, same.0 ∙ a, same.1 ∙ b, refl)
 
 -- a store that isn't opened is no machine
 pub unread : {D : Type 0} (g : Ghosts D) (old new : D × D) (fault : StoreFault) → OpenRefused g old new fault → OpeningRefused g old new (store_refusal fault)
@@ -128,24 +119,27 @@ module _ {D : Type 0} (g : Ghosts D) where
   files_are true live spare file beside f s x y a b = (some_same f beside (sym a ∙ y), some_same s file (sym b ∙ x))
   files_are false live spare file beside f s x y a b = (some_same f file (sym a ∙ x), some_same s beside (sym b ∙ y))
 
-  image_of_both : (b : Bool) (file beside : List ℕ) (shown : Image) → image_beside b file beside ≡ Ok shown → image (placed b file beside).0 (placed b file beside).1 ≡ Ok shown
-  image_of_both true file beside shown h = h
-  image_of_both false file beside shown h = h
+  -- two disks in their places tell the file in use and the one beside it
+  both_told : (b : Bool) (live spare : D) (file beside : List ℕ) (shown : Image) → g.seen live ≡ Some file → g.seen spare ≡ Some beside
+      → image_beside b file beside ≡ Ok shown → TellImage g (placed b live spare) (Ok shown)
+  both_told true live spare file beside shown x y is = (beside, file, y, x, is)
+  both_told false live spare file beside shown x y is = (file, beside, x, y, is)
 
-  -- a store at rest reads as files of its image
-  pub held_image : (store : Store D g) (shown : Image) → Holds store shown → (f s : List ℕ) → g.seen (disks store).0 ≡ Some f → g.seen (disks store).1 ≡ Some s → image f s ≡ Ok shown
-  held_image store shown holds f s a b =
+  -- the disks of a store at rest tell files of its image
+  pub held_image : (store : Store D g) (shown : Image) → Holds store shown → TellImage g (disks store) (Ok shown)
+  held_image store shown holds =
       let file = holds.front ++ 0 ∷ [] in
-      let files = files_are store.in_second store.live.device store.spare file holds.beside f s holds.settled.rests.told holds.rests.told a b in
-      (λ i. image (files.0 i) (files.1 i)) ∙ image_of_both store.in_second file holds.beside shown (led store.in_second store.generation file holds.beside shown holds.leads)
+      both_told store.in_second store.live.device store.spare file holds.beside shown holds.settled.rests.told holds.rests.told
+      (led store.in_second store.generation file holds.beside shown holds.leads)
 
   -- an image that was opened stays
   pub opened_stays : (old new : D × D) (store : Store D g) (shown : Image)
       → ((f s : List ℕ) → g.seen old.0 ≡ Some f → g.seen old.1 ≡ Some s → (image f s ≡ Ok shown) × Holds store shown × (limit_of store ≡ opened_limit f s))
       → new ≡ disks store → ImageStays g old new
-  opened_stays old new store shown opened is = λ f s a b f_now s_now a_now b_now.
+  opened_stays old new store shown opened is = λ f s a b.
       let m = opened f s a b in
-      held_image store shown m.1 f_now s_now (sym (ap (λ (d : D × D). g.seen d.0) is) ∙ a_now) (sym (ap (λ (d : D × D). g.seen d.1) is) ∙ b_now) ∙ sym m.0
+      let held = subst (λ (found : Result Image NoImage). TellImage g (disks store) found) (sym m.0) (held_image store shown m.1) in
+      subst (λ (d : D × D). TellImage g d (image f s)) (sym is) held
 
   second_used : (o : Option Half) (half : Half) (generation : ℕ) → IsChosen true generation o → half.generation ≡ generation → uses_second o (Some half) ≡ true
   second_used None half generation chosen is = refl
@@ -179,6 +173,6 @@ pub unloaded_store : {D : Type 0} (g : Ghosts D) (old new : D × D) (store : Sto
     → new ≡ disks store → Tells fault (fault_of None shown.text) → OpeningRefused g old new (load_refusal fault)
 unloaded_store g old new store shown unopened.Memory opened is told = opened_stays g old new store shown opened is
 unloaded_store g old new store shown (unopened.Load fault) opened is told =
-    (λ f s a b other shows. unloaded (unopened.Load fault) other shown f s shows (opened f s a b).0 told, opened_stays g old new store shown opened is)
+    (λ f s a b. (shown, (opened f s a b).0, told), opened_stays g old new store shown opened is)
 unloaded_store g old new store shown (unopened.TooLarge limit size) opened is told =
-    (λ f s a b other shows. unloaded (unopened.TooLarge limit size) other shown f s shows (opened f s a b).0 told, opened_stays g old new store shown opened is)
+    (λ f s a b. (shown, (opened f s a b).0, told), opened_stays g old new store shown opened is)

@@ -9,7 +9,7 @@ use Rattle.text_store.specs.declared.fault.StoreFault.TheVariants as store_fault
 use Rattle.text_store.specs.declared.image.Image.{Image}
 use Rattle.text_store.specs.Edits.{whole_size}
 use Rattle.text_store.specs.Files.{fresh}
-use Rattle.text_store.specs.Image.{Half, image, live}
+use Rattle.text_store.specs.Image.{Half, NoImage, image, live}
 use Rattle.text_store.specs.Refusals.{CreateRefused, OpenRefused, Told}
 use Rattle.desk.specs.declared.desk.Desk.{Desk}
 use Rattle.desk.specs.declared.fault.DeskFault.{DeskFault}
@@ -38,13 +38,20 @@ MakingRefused g old new text limit (desk_fault.Store store_fault.Memory) = ⊥
 MakingRefused g old new text limit (desk_fault.Store fault) = (fault_of None text ≡ None) × CreateRefused g old new (whole_size (fresh text)) limit fault
 MakingRefused g old new text limit desk_fault.Memory = new ≡ old
 
--- the text of two files makes no journal
+-- two files have an image, and its text makes no journal
 abbrev pub Unloaded : OpenFault → List ℕ → List ℕ → Type 0
-Unloaded fault first second = (shown : Image) → image first second ≡ Ok shown → Tells fault (fault_of None shown.text)
+Unloaded fault first second =
+    (shown : Image) × (image first second ≡ Ok shown) × Tells fault (fault_of None shown.text)
 
--- the files have the image, or the want of one, that they had
+-- two disks tell their files, which have this image, or the want of one
+abbrev pub TellImage : {D : Type 0} → Ghosts D → D × D → Result Image NoImage → Type 0
+TellImage g pair found =
+    (first : List ℕ) × (second : List ℕ)
+    × (g.seen pair.0 ≡ Some first) × (g.seen pair.1 ≡ Some second) × (image first second ≡ found)
+
+-- disks that told their files still do, and these have the image, or the want of one, that they had
 abbrev pub ImageStays : {D : Type 0} → Ghosts D → D × D → D × D → Type 0
-ImageStays g old new = Told g old (λ f s. Told g new (λ f_now s_now. image f_now s_now ≡ image f s))
+ImageStays g old new = Told g old (λ f s. TellImage g new (image f s))
 
 -- Why two files aren't opened as a machine: the store is judged first, and then its text. Where the store was opened its image
 -- stays, as where memory ran out, and that is told as such.

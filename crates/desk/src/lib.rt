@@ -6,6 +6,7 @@ pub mod deed;
 mod desk;
 mod fault;
 mod importing;
+mod judging;
 mod keep;
 mod laws;
 mod opening;

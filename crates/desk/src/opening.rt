@@ -37,13 +37,13 @@ fn store_refusal(fault: StoreFault) -> DeskFault
 }
 
 impl<D: Disk> Desk<D> {
-    ghost use Rattle.std.specs.Prelude.{◌≡◌, [], None, Ok, IfOk, IfErr, OnOk, max, length};
-    ghost use Rattle.text_store.specs.Files.{fresh, WhileMade, WhileOpened, opened_limit};
+    ghost use Rattle.std.specs.Prelude.{◌≡◌, ◌≤◌, [], None, Ok, IfOk, IfErr, OnOk, max, length};
+    ghost use Rattle.text_store.specs.Files.{fresh, WhileMade, WhileOpened, opened_limit, opened_size};
     ghost use Rattle.text_store.specs.Image.{image};
     ghost use Rattle.text_store.specs.Edits.{whole_size};
     ghost use Rattle.text_store.specs.Refusals.{Told};
-    ghost use Rattle.text_store.specs.Stores.{disks, Keeps, Tell, Throughout, bounds, fault_count};
-    ghost use Rattle.desk.specs.Desks.{counts_of, shown_by, state_of};
+    ghost use Rattle.text_store.specs.Stores.{disks, Keeps, Tell, Throughout, bounds, fault_count, limit_of};
+    ghost use Rattle.desk.specs.Desks.{counts_of, faults_of, shown_by, state_of};
     ghost use Rattle.desk.specs.Openings.{MakingRefused, OpeningRefused, disks_of, file_in_use};
     ghost use Rattle.desk.specs.Stands.{Stands};
     ghost use Rattle.desk.specs.States.{State};
@@ -59,15 +59,27 @@ impl<D: Disk> Desk<D> {
         allow: Allow,
         steps: &mut Steps<L>,
     ) -> Result<Desk<D>, (D, D, DeskFault)>
-        ensures state { IfOk result (λ desk. state_of desk ≡ record { text = text.now; latest = []; revision = 0; allowed = allow; size = whole_size (fresh text.now); limit = limit }) }
-        ensures made { IfOk result (λ desk. Told D.Disk (first, second) (λ f s. (f ≡ []) × (s ≡ []) × Stands desk.store (shown_by desk) None)) }
+        ensures state { IfOk result (λ desk. state_of desk ≡ record {
+          text = text.now;
+          latest = [];
+          revision = 0;
+          allowed = allow;
+          size = whole_size (fresh text.now);
+          limit = limit;
+        }) }
+        ensures made { IfOk result (λ desk. Told D.Disk (first, second) (λ f s.
+            (f ≡ []) × (s ≡ []) × Stands desk.store (shown_by desk) None)) }
         ensures counts { IfOk result (λ desk. counts_of desk ≡ (0, 0)) }
-        ensures cause { IfErr result (λ e. MakingRefused D.Disk (first, second) (e.0, e.1) text.now limit e.2) }
+        ensures cause { IfErr result (λ e.
+            MakingRefused D.Disk (first, second) (e.0, e.1) text.now limit e.2) }
 
         // A crash at any moment leaves files that it might have left before, files without an image, or the store.
         ensures any_moment { Told D.Disk (first, second) (λ _ _. Tell D.Disk (first, second)
-            → Throughout D.Disk (first, second) (disks_of (λ desk. disks desk.store) result) (WhileMade D.Disk (first, second) (fresh text.now))) }
-        ensures keeps { Keeps D.Disk (first, second) (disks_of (λ desk. disks desk.store) result) (limit, limit) }
+            → Throughout D.Disk (first, second) (disks_of (λ desk. disks desk.store) result)
+            (WhileMade D.Disk (first, second) (fresh text.now))) }
+        ensures keeps { Keeps D.Disk (first, second) (disks_of (λ desk. disks desk.store) result)
+            (limit, limit) }
+        ensures no_fault { IfOk result (λ desk. faults_of desk ≡ fault_count D.Disk (first, second)) }
     {
         let live = match Live::open(alloc, text, None, 0, steps) {
             Ok(live) => live,
@@ -95,12 +107,16 @@ impl<D: Disk> Desk<D> {
         allow: Allow,
         steps: &mut Steps<L>,
     ) -> Result<Desk<D>, (D, D, DeskFault)>
-        ensures opened { IfOk result (λ desk. Told D.Disk (first, second) (λ f s. (image f s ≡ Ok (shown_by desk)) × Stands desk.store (shown_by desk) None
+        ensures opened { IfOk result (λ desk. Told D.Disk (first, second) (λ f s.
+            (image f s ≡ Ok (shown_by desk)) × Stands desk.store (shown_by desk) None
             × ((state_of desk).limit ≡ opened_limit f s))) }
         ensures allowed { IfOk result (λ desk. (state_of desk).allowed ≡ allow) }
 
-        // Its size is the length that the half in use has then.
-        ensures size { IfOk result (λ desk. Told D.Disk (first, second) (λ _ _. Told D.Disk (disks desk.store) (λ f s.
+        // Its size is that of the half that the files showed, and the length that the half in use has then.
+        ensures half { IfOk result (λ desk. Told D.Disk (first, second) (λ f s.
+            (state_of desk).size ≡ opened_size f s)) }
+        ensures size { IfOk result (λ desk. Told D.Disk (first, second) (λ _ _.
+            Told D.Disk (disks desk.store) (λ f s.
             (state_of desk).size ≡ length (file_in_use f s)))) }
         ensures counts { IfOk result (λ desk. counts_of desk ≡ (0, 0)) }
         ensures cause { IfErr result (λ e. OpeningRefused D.Disk (first, second) (e.0, e.1) e.2) }
@@ -108,9 +124,17 @@ impl<D: Disk> Desk<D> {
         // A crash at any moment leaves files that it might have left before, or files with the image, or the want of one,
         // of those that the disks read as.
         ensures any_moment { Told D.Disk (first, second) (λ f s. Tell D.Disk (first, second)
-            → Throughout D.Disk (first, second) (disks_of (λ desk. disks desk.store) result) (WhileOpened D.Disk (first, second) f s)) }
-        ensures keeps { Told D.Disk (first, second) (λ f s. Keeps D.Disk (first, second) (disks_of (λ desk. disks desk.store) result)
+            → Throughout D.Disk (first, second) (disks_of (λ desk. disks desk.store) result)
+            (WhileOpened D.Disk (first, second) f s)) }
+        ensures keeps { Told D.Disk (first, second) (λ f s.
+            Keeps D.Disk (first, second) (disks_of (λ desk. disks desk.store) result)
             (max (opened_limit f s) (length f), max (opened_limit f s) (length s))) }
+
+        // No call since reaches further than the limit, or than the length that the file had.
+        ensures bounds { IfOk result (λ desk. Told D.Disk (first, second) (λ f s.
+            ((bounds desk.store).0 ≤ max (limit_of desk.store) (length f))
+            × ((bounds desk.store).1 ≤ max (limit_of desk.store) (length s)))) }
+        ensures no_fault { IfOk result (λ desk. faults_of desk ≡ fault_count D.Disk (first, second)) }
     {
         let (store, image) = match Store::open(alloc, first, second) {
             Ok(opened) => opened,

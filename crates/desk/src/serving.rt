@@ -1,13 +1,12 @@
 //! How a machine answers requests.
-ghost use Rattle.std.specs.Prelude.{◌≡◌, ◌+◌, ◌∷◌, [], IfOk, nat_lt};
-ghost use Rattle.live_journal.specs.Loading.{first_of};
+ghost use Rattle.std.specs.Prelude.{◌≡◌, IfOk};
 ghost use Rattle.live_journal.specs.declared.edit.Edit.TheVariants as live_edits;
 ghost use Rattle.desk.specs.States as state;
-ghost use Rattle.desk.specs.Steps as spec;
 
 use crate::deed::Deed;
 use crate::desk::Desk;
 use crate::importing::{entries_of, import_deed};
+use crate::judging::{at_an_end, counted, covers, is_past, refusal};
 use crate::keep::{Unkept, is_due, keep};
 use crate::reply::Reply;
 use crate::report::{report_reply, report_text};
@@ -17,7 +16,7 @@ use crate::states::states_with;
 use book::Txn;
 use hl_base::{Bytes, Disk, Latest, List, Memory, Steps, Text};
 use hl_time::Day;
-use live_journal::{Edit, EditFault, Plan};
+use live_journal::{Edit, Plan};
 use query::Maker;
 use std::alloc::Global;
 use std::sync::ledger::Ledger;
@@ -57,10 +56,16 @@ impl<D: Disk> Desk<D> {
         requires { IsDay day.0 }
         ensures maker { TellsReply request.now day.0 (M.refusals maker.old) (M.refusals maker.new)
             (M.last_refused maker.old) (M.last_refused maker.new) result }
-        ensures served { IsServed self.old (record { request = request.now; day = day; reply = result; revision = self.new.live.revision }) self.new }
+        ensures served { IsServed self.old (record {
+          request = request.now;
+          day = day;
+          reply = result;
+          revision = self.new.live.revision;
+        }) self.new }
 
         // Where no call of a disk failed and no pattern was refused, the reply is the step's own, or memory ran out.
-        ensures complete { Completes (state.answer_to (state_of self.old) day.0 request.now) (faults_of self.old) (faults_of self.new)
+        ensures complete { Completes (state.answer_to (state_of self.old) day.0 request.now)
+            (faults_of self.old) (faults_of self.new)
             (M.refusals maker.old) (M.refusals maker.new) result }
     {
         let reply = self.answer(alloc, request, day, maker, steps);
@@ -93,7 +98,8 @@ impl<D: Disk> Desk<D> {
         requires { IsDay day.0 }
         ensures maker { TellsReply request.now day.0 (M.refusals maker.old) (M.refusals maker.new)
             (M.last_refused maker.old) (M.last_refused maker.new) result }
-        ensures served { Serves (state.answer_to (state_of self.old) day.0 request.now) (state.deed_in (state_of self.old) request.now) self.old result self.new }
+        ensures served { Serves (state.answer_to (state_of self.old) day.0 request.now)
+            (state.deed_in (state_of self.old) request.now) self.old result self.new }
         ensures counts { counts_of self.new ≡ counts_of self.old }
     {
         match request {
@@ -132,7 +138,8 @@ impl<D: Disk> Desk<D> {
         steps: &mut Steps<L>,
     ) -> Reply
         requires { IsDay day.0 }
-        ensures maker { (q : Asked) → TellsReply q day.0 (M.refusals maker.old) (M.refusals maker.new)
+        ensures maker { (q : Asked) → TellsReply q day.0
+            (M.refusals maker.old) (M.refusals maker.new)
             (M.last_refused maker.old) (M.last_refused maker.new) result }
         ensures reply { Replies self.now.live.revision day.0 self.now.live.text words.now result }
     {
@@ -142,7 +149,8 @@ impl<D: Disk> Desk<D> {
 
     /// The reply to a download.
     fn download(&self, alloc: Global) -> Reply
-        ensures { (result ≡ Reply.Memory) ⊎ (result ≡ Reply.Text self.now.live.revision self.now.live.text) }
+        ensures { (result ≡ Reply.Memory)
+            ⊎ (result ≡ Reply.Text self.now.live.revision self.now.live.text) }
     {
         match Bytes::copied(alloc, self.live.text()) {
             Ok(bytes) => Reply::Text {
@@ -163,10 +171,12 @@ impl<D: Disk> Desk<D> {
         maker: &mut M,
         steps: &mut Steps<L>,
     ) -> Reply
-        ensures maker { (day : ℕ) → TellsReply (Request.Import name.now rules.now csv.now) day (M.refusals maker.old) (M.refusals maker.new)
+        ensures maker { (day : ℕ) → TellsReply (Request.Import name.now rules.now csv.now) day
+            (M.refusals maker.old) (M.refusals maker.new)
             (M.last_refused maker.old) (M.last_refused maker.new) result }
         ensures served { Serves (state.import_answer (state_of self.old) name.now rules.now csv.now)
-            (state.deed_of_file (state_of self.old) name.now (entries_told rules.now csv.now)) self.old result self.new }
+            (state.deed_of_file (state_of self.old) name.now (entries_told rules.now csv.now))
+            self.old result self.new }
         ensures counts { counts_of self.new ≡ counts_of self.old }
     {
         if !covers(self.allow, Allow::Add) {
@@ -192,7 +202,8 @@ impl<D: Disk> Desk<D> {
     ) -> Reply
         requires { is_ordered txns ≡ true }
         ensures served { let s = state_of self.old in
-            Serves (state.deed_answer s (new_deed s.text s.latest name.now txns)) (new_deed s.text s.latest name.now txns) self.old result self.new }
+            Serves (state.deed_answer s (new_deed s.text s.latest name.now txns))
+            (new_deed s.text s.latest name.now txns) self.old result self.new }
         ensures counts { counts_of self.new ≡ counts_of self.old }
     {
         if txns.len() as u64 >= 1 << 32 {
@@ -211,7 +222,8 @@ impl<D: Disk> Desk<D> {
         deed: Option<Deed>,
         steps: &mut Steps<L>,
     ) -> Reply
-        ensures served { Serves (state.deed_answer (state_of self.old) deed) deed self.old result self.new }
+        ensures served { Serves (state.deed_answer (state_of self.old) deed) deed
+            self.old result self.new }
         ensures counts { counts_of self.new ≡ counts_of self.old }
     {
         match deed {
@@ -232,7 +244,8 @@ impl<D: Disk> Desk<D> {
         steps: &mut Steps<L>,
     ) -> Reply
         ensures served { (e : LiveEdit) → IfOk edit (λ given. given ≡ e)
-            → Serves (state.edit_answer (state_of self.old) need (state.plain e)) (Some (state.plain e)) self.old result self.new }
+            → Serves (state.edit_answer (state_of self.old) need (state.plain e))
+            (Some (state.plain e)) self.old result self.new }
         ensures counts { counts_of self.new ≡ counts_of self.old }
     {
         match edit {
@@ -252,7 +265,8 @@ impl<D: Disk> Desk<D> {
         deed: &Deed,
         steps: &mut Steps<L>,
     ) -> Reply
-        ensures served { Serves (state.edit_answer (state_of self.old) need deed.now) (Some deed.now) self.old result self.new }
+        ensures served { Serves (state.edit_answer (state_of self.old) need deed.now)
+            (Some deed.now) self.old result self.new }
         ensures counts { counts_of self.new ≡ counts_of self.old }
     {
         if !covers(self.allow, need) {
@@ -270,7 +284,8 @@ impl<D: Disk> Desk<D> {
         requires plan { plan ≡ planned self.old.live deed.now.edit }
         requires inside { plan.splice.at + plan.splice.removed ≤ length self.old.live.text }
         ensures served { let s = state_of self.old in
-            Serves (state.or_done s deed.now (first_of (state.cases_left s deed.now))) (Some deed.now) self.old result self.new }
+            Serves (state.or_done s deed.now (first_of (state.cases_left s deed.now)))
+            (Some deed.now) self.old result self.new }
         ensures counts { counts_of self.new ≡ counts_of self.old }
     {
         let _limit = self.store.limit();
@@ -297,7 +312,8 @@ impl<D: Disk> Desk<D> {
     /// end.
     fn full(&self, size: u64, mark: &Option<Latest>, states: &Option<List<Latest>>) -> Option<Reply>
         requires { 0 < size }
-        ensures { result ≡ first_of (state.full_cases (state_of self.now) mark.now states.now size) }
+        ensures { result
+            ≡ first_of (state.full_cases (state_of self.now) mark.now states.now size) }
     {
         match self.no_room(size) {
             Some(reply) => Some(reply),
@@ -337,8 +353,10 @@ impl<D: Disk> Desk<D> {
         requires inside { plan.splice.at + plan.splice.removed ≤ length self.old.live.text }
         requires change { change.now ≡ state.change_of self.old.live.text deed.now }
         requires states { states ≡ state.states_with deed.now.mark self.old.latest }
-        requires room { first_of (state.full_cases (state_of self.old) deed.now.mark states (min (state.record_size change.now) (2 ^ 64 - 1))) ≡ None }
-        ensures served { Serves (state.or_done (state_of self.old) deed.now None) (Some deed.now) self.old result self.new }
+        requires room { first_of (state.full_cases (state_of self.old) deed.now.mark states
+            (min (state.record_size change.now) (2 ^ 64 - 1))) ≡ None }
+        ensures served { Serves (state.or_done (state_of self.old) deed.now None)
+            (Some deed.now) self.old result self.new }
         ensures counts { counts_of self.new ≡ counts_of self.old }
     {
         let _ = deed;
@@ -382,59 +400,6 @@ impl<D: Disk> Desk<D> {
     }
 }
 
-/// The refusal of a number that is past its end.
-fn past_end(n: u64) -> Option<Reply>
-    ensures { result ≡ state.past_end n }
-{
-    if n < 1 << 32 {
-        return None;
-    }
-    Some(Reply::Full {
-        size: n,
-        limit: (1 << 32) - 1,
-    })
-}
-
-/// The refusal of an import whose name is too long.
-fn long_name(mark: &Option<Latest>) -> Option<Reply>
-    ensures { result ≡ state.long_name mark.now }
-{
-    match mark {
-        None => None,
-        Some(mark) => past_end(mark.name.as_bytes().len() as u64),
-    }
-}
-
-/// The refusal of an import that would make too many states.
-fn many_states(states: &Option<List<Latest>>) -> Option<Reply>
-    ensures { result ≡ state.many_states states.now }
-{
-    match states {
-        None => None,
-        Some(states) => past_end(states.len() as u64),
-    }
-}
-
-/// The refusal of an import of which a number has come to its end.
-fn past_ends(mark: &Option<Latest>, states: &Option<List<Latest>>) -> Option<Reply>
-    ensures { result ≡ first_of (state.long_name mark.now ∷ state.many_states states.now ∷ []) }
-{
-    match long_name(mark) {
-        Some(reply) => Some(reply),
-        None => many_states(states),
-    }
-}
-
-/// The refusal of an edit at a revision, of which a number has come to its end.
-fn at_an_end(revision: u64, mark: &Option<Latest>, states: &Option<List<Latest>>) -> Option<Reply>
-    ensures { result ≡ first_of (state.last_revision revision ∷ state.long_name mark.now ∷ state.many_states states.now ∷ []) }
-{
-    match last_revision(revision) {
-        Some(reply) => Some(reply),
-        None => past_ends(mark, states),
-    }
-}
-
 /// The addition of an entry.
 fn add(alloc: Global, entry: &Bytes) -> Result<Edit, Memory>
     ensures { IfOk result (λ edit. edit ≡ live_edits.Add entry.now) }
@@ -457,72 +422,4 @@ fn replace(alloc: Global, base: u64, text: &Bytes) -> Result<Edit, Memory>
 {
     let text = Bytes::copied(alloc, text.as_slice())?;
     Ok(Edit::Replace { base, text })
-}
-
-/// Whether what is allowed includes what is needed.
-fn covers(have: Allow, need: Allow) -> bool
-    ensures { result ≡ state.covers have need }
-{
-    match (have, need) {
-        (_, Allow::View) | (Allow::Edit, _) | (Allow::Add, Allow::Add) => true,
-        (Allow::View, Allow::Add) | (Allow::View | Allow::Add, Allow::Edit) => false,
-    }
-}
-
-/// The refusal of an edit by the journal, as a reply.
-fn refusal(fault: EditFault) -> Reply
-    ensures { result ≡ state.as_reply fault }
-{
-    match fault {
-        EditFault::BadBase { base, current } => Reply::BadBase { base, current },
-        EditFault::Stale { base, current } => Reply::Stale { base, current },
-        EditFault::NoSuchItem { n, count } => Reply::NoSuchItem { n, count },
-        EditFault::NotTransactions { line } => Reply::NotTransactions { line },
-        EditFault::TooLarge { limit, size } => Reply::TooLarge { limit, size },
-        EditFault::Load(fault) => Reply::Load(fault),
-        EditFault::Memory => Reply::Memory,
-    }
-}
-
-/// Whether a new store with one more record passes its limit.
-fn is_past(limit: u64, whole: u64, size: u64) -> bool
-    ensures { result ≡ nat_lt limit (whole + size) }
-{
-    size > limit || whole > limit - size
-}
-
-/// The revision past which no edit is taken.
-const LAST_REVISION: u64 = 1 << 62;
-
-/// The refusal of an edit at a revision that has come to its end.
-fn last_revision(revision: u64) -> Option<Reply>
-    ensures { result ≡ state.last_revision revision }
-{
-    if revision < LAST_REVISION {
-        return None;
-    }
-    let limit = LAST_REVISION;
-    let size = revision.saturating_add(1);
-    Some(Reply::Full { size, limit })
-}
-
-/// The requests and the refused ones after one more reply. A count stays at its last value.
-fn counted(requests: u64, refused: u64, reply: &Reply) -> (u64, u64)
-    ensures { result ≡ spec.counted (requests, refused) reply.now }
-{
-    if is_granted(reply) {
-        (requests.saturating_add(1), refused)
-    } else {
-        (requests.saturating_add(1), refused.saturating_add(1))
-    }
-}
-
-/// Whether a reply is no refusal.
-fn is_granted(reply: &Reply) -> bool
-    ensures { result ≡ spec.is_granted reply.now }
-{
-    matches!(
-        reply,
-        Reply::Done { .. } | Reply::Same { .. } | Reply::Text { .. }
-    )
 }

@@ -24,7 +24,8 @@ fn copy_splice(alloc: Global, splice: &Splice) -> Result<Splice, Memory>
 
 /// The change of the store that an edit of a text is, whose change of the text is `splice`.
 fn plain_change(alloc: Global, edit: &Edit, splice: &Splice) -> Result<Change, Memory>
-    ensures { (text : List ℕ) → splice.now ≡ splice_of text edit.now → IfOk result (λ change. change ≡ spec.plain_change text edit.now) }
+    ensures { (text : List ℕ) → splice.now ≡ splice_of text edit.now
+        → IfOk result (λ change. change ≡ spec.plain_change text edit.now) }
 {
     match edit {
         Edit::Add { entry: _ } => Ok(Change::Splice(copy_splice(alloc, splice)?)),
@@ -46,7 +47,8 @@ fn import_change(alloc: Global, mark: &Latest, splice: &Splice) -> Result<Change
 
 /// The change of the store that an edit is, whose change of the text is `splice`.
 pub(crate) fn change_of(alloc: Global, deed: &Deed, splice: &Splice) -> Result<Change, Memory>
-    ensures { (text : List ℕ) → splice.now ≡ splice_of text deed.now.edit → IfOk result (λ change. change ≡ spec.change_of text deed.now) }
+    ensures { (text : List ℕ) → splice.now ≡ splice_of text deed.now.edit
+        → IfOk result (λ change. change ≡ spec.change_of text deed.now) }
 {
     match &deed.mark {
         None => plain_change(alloc, &deed.edit, splice),
@@ -69,7 +71,9 @@ pub(crate) fn record_size(change: &Change) -> u64
 
 /// The length of a store's file that holds a text and the states of imports alone, at most 2^64 - 1.
 pub(crate) fn whole_size(text: &[u8], latest: &[Latest]) -> u64
-    ensures { (revision : ℕ) → result ≡ min (kept.whole_size (record { text = text.now; latest = latest.now; revision = revision })) (2 ^ 64 - 1) }
+    ensures { (revision : ℕ) → result ≡ min
+        (kept.whole_size (record { text = text.now; latest = latest.now; revision = revision }))
+        (2 ^ 64 - 1) }
 {
     let mut size = (text.len() as u64).saturating_add(47);
     for state in latest {
@@ -104,7 +108,11 @@ pub(crate) fn copy_states(alloc: Global, states: &[Latest]) -> Result<List<Lates
 
 /// The image that a store keeps of a journal.
 pub(crate) fn image_of(alloc: Global, live: &Live, latest: &List<Latest>) -> Result<Image, Memory>
-    ensures { IfOk result (λ image. image ≡ record { text = live.now.text; latest = latest.now; revision = live.now.revision }) }
+    ensures { IfOk result (λ image. image ≡ record {
+      text = live.now.text;
+      latest = latest.now;
+      revision = live.now.revision;
+    }) }
 {
     Ok(Image {
         text: Bytes::copied(alloc, live.text())?,

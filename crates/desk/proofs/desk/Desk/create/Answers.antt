@@ -20,6 +20,7 @@ returns-in-Err g c =
           (unmade g.D.Disk (c.args.first, c.args.second) c.args.text.now c.args.limit c.in-Err.fault (tells_of c.in-Err.fault j c.in-Err.ensures));
       any_moment = λ f s a b tell. stays g.D.Disk (c.args.first, c.args.second) _ (λ x y left_x left_y. inl (left_x, left_y));
       keeps = kept g.D.Disk (c.args.first, c.args.second) (c.args.limit, c.args.limit);
+      no_fault = tt;
     }
 
 pub returns-in-Err-create-clause-cause : goal.returns-in-Err-create-clause-cause
@@ -27,6 +28,9 @@ returns-in-Err-create-clause-cause g c =
     let j : Journal = record { text = c.args.text.now; year = None; revision = 0 } in
     subst (λ (e : DeskFault). MakingRefused g.D.Disk (c.args.first, c.args.second) (c.in-Err-create.first, c.in-Err-create.second) c.args.text.now c.args.limit e) (sym c.store_refusal.ensures)
     (unstored g.D.Disk (c.args.first, c.args.second) (c.in-Err-create.first, c.in-Err-create.second) c.args.text.now c.args.limit c.in-Err-create.fault (loads j c.in-Ok.live c.in-Ok.ensures) c.in-Err-create.ensures.cause)
+
+pub returns-in-Ok-create-clause-no_fault : goal.returns-in-Ok-create-clause-no_fault
+returns-in-Ok-create-clause-no_fault g c = c.in-Ok-create.ensures.no_fault
 
 pub returns-in-Ok-create-clause-made : goal.returns-in-Ok-create-clause-made
 returns-in-Ok-create-clause-made g c = λ f s a b.

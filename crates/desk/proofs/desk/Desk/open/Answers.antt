@@ -28,9 +28,18 @@ returns-in-Ok-open-clause-opened g c = λ f s a b.
     let H : Image → Type 0 = λ i. Holds c.in-Ok.opened.0 i in
     (m.0 ∙ ap Ok same, inl (c.in-Ok.ensures.ready, subst H same m.1), m.2)
 
+pub returns-in-Ok-open-clause-half : goal.returns-in-Ok-open-clause-half
+returns-in-Ok-open-clause-half g c = c.in-Ok.ensures.size
+
 pub returns-in-Ok-open-clause-size : goal.returns-in-Ok-open-clause-size
 returns-in-Ok-open-clause-size g c = λ f s a b f_now s_now a_now b_now.
     held_size g.D.Disk c.in-Ok.opened.0 c.in-Ok.opened.1 (c.in-Ok.ensures.opened f s a b).1 f_now s_now a_now b_now
+
+pub returns-in-Ok-open-clause-bounds : goal.returns-in-Ok-open-clause-bounds
+returns-in-Ok-open-clause-bounds g c = c.in-Ok.ensures.bounds
+
+pub returns-in-Ok-open-clause-no_fault : goal.returns-in-Ok-open-clause-no_fault
+returns-in-Ok-open-clause-no_fault g c = c.in-Ok.ensures.no_fault
 
 pub returns-in-Err-clause-cause : goal.returns-in-Err-clause-cause
 returns-in-Err-clause-cause g c =
@@ -44,10 +53,13 @@ returns-in-Err-open g c =
     record {
       opened = tt;
       allowed = tt;
+      half = tt;
       size = tt;
       counts = tt;
       cause = subst (λ (e : DeskFault). OpeningRefused g.D.Disk (c.args.first, c.args.second) c.close-first.result e) (sym c.load_refusal.ensures)
           (unloaded_store g.D.Disk (c.args.first, c.args.second) c.close-first.result c.in-Ok.opened.0 c.in-Ok.opened.1 c.in-Err-open.fault c.in-Ok.ensures.opened c.close-first.ensures told);
       any_moment = λ f s a b. moved g.D.Disk (c.args.first, c.args.second) _ _ f s (sym c.close-first.ensures) (c.in-Ok.ensures.any_moment f s a b);
       keeps = λ f s a b. kept_moved g.D.Disk (c.args.first, c.args.second) _ _ _ (sym c.close-first.ensures) (c.in-Ok.ensures.keeps f s a b);
+      bounds = tt;
+      no_fault = tt;
     }
