@@ -15,7 +15,7 @@ use Rattle.store_text.specs.Shelved.{image_in, image_under, or_empty, second_nam
 use Rattle.store_text.specs.declared.refusal.StoreRefusal.{StoreRefusal}
 use Rattle.store_text.specs.declared.refusal.StoreRefusal.TheVariants as refusal
 use Rattle.store_text.proofs.LendingLaws.{apart, absent_there, back_faults, back_first, back_others, back_second, back_sound, back_tells, both_tell, clean_back, first_reads, first_rests, later_faults, left_first, left_second, never_absent, one_failed, out_faults, out_file, out_sound, out_tells, rose_back, second_reads, second_rests, there_reads, told_on}
-use Rattle.store_text.proofs.OpeningLaws.{ends, refused}
+use Rattle.store_text.proofs.OpeningLaws.{ends, refused, told_text}
 
 abbrev image_is : Option (Result Image NoImage) → Result (List ℕ) StoreRefusal → Type 0
 image_is found result = Gives (λ bytes. bytes) cause_of result (text_in found)
@@ -73,6 +73,26 @@ refused_is a b e = ap of e
     of (Ok text) = a
     of (Err r) = r
 
+never_refused : (text : List ℕ) (r : StoreRefusal) → told_text text ≡ refused r → ⊥
+never_refused text r e = cc
+
+-- what a store's files say of their text, and that no call failed, leaves want of memory alone
+only_memory : (r : StoreRefusal) (found : Option (Result Image NoImage)) (shown : Image) → image_is found (refused r)
+    → (refused r ≡ Err refusal.ReadFault → ⊥) → (refused r ≡ Err refusal.DiskFault → ⊥) → found ≡ Some (Ok shown) → r ≡ refusal.Memory
+only_memory refusal.Absent found shown is no_read no_disk e = absurd (never_refused shown.text refusal.Absent (sym (ap text_in e) ∙ is))
+only_memory (refusal.NotAStore at) found shown is no_read no_disk e = absurd (never_refused shown.text (refusal.NotAStore at) (sym (ap text_in e) ∙ is))
+only_memory (refusal.Newer version) found shown is no_read no_disk e = absurd (never_refused shown.text (refusal.Newer version) (sym (ap text_in e) ∙ is))
+only_memory (refusal.Exists len) found shown is no_read no_disk e = absurd (never_refused shown.text (refusal.Exists len) (sym (ap text_in e) ∙ is))
+only_memory (refusal.Full size limit) found shown is no_read no_disk e = absurd (never_refused shown.text (refusal.Full size limit) (sym (ap text_in e) ∙ is))
+only_memory refusal.ReadFault found shown is no_read no_disk e = absurd (no_read refl)
+only_memory refusal.DiskFault found shown is no_read no_disk e = absurd (no_disk refl)
+only_memory refusal.Memory found shown is no_read no_disk e = refl
+
+completes : (result : Result (List ℕ) StoreRefusal) (found : Option (Result Image NoImage)) (shown : Image) → image_is found result
+    → (result ≡ Err refusal.ReadFault → ⊥) → (result ≡ Err refusal.DiskFault → ⊥) → found ≡ Some (Ok shown) → IfErr result (λ r. r ≡ refusal.Memory)
+completes (Ok text) found shown is no_read no_disk e = tt
+completes (Err r) found shown is no_read no_disk e = only_memory r found shown is no_read no_disk e
+
 none_failed : (a b : ℕ) → min (a + b) (2 ^ 64 - 1) ≡ 0 → (a ≡ 0) × (b ≡ 0)
 none_failed a b e = (omega (arith, e), omega (arith, e))
 
@@ -91,6 +111,7 @@ module _ {S D : Type 0} (s : Shelves S D) (g : Disks D) (name : List ℕ) (old :
   pub uncalled : ReadsStore s g name old old (refused refusal.Memory)
   uncalled = record {
     text = λ told. tt;
+    complete = λ told shown is none. refl;
     stays = λ told unlike. refl;
     crash = λ told telling were. absurd were;
     others = λ other first second. refl;
@@ -108,8 +129,10 @@ module _ {S D : Type 0} (s : Shelves S D) (g : Disks D) (name : List ℕ) (old :
   module _ (new : S) (r : StoreRefusal) where
     first_untaken : IsUntaken s g false name old new r → ReadsStore s g name old new (refused r)
     first_untaken unlike = record {
-      text = λ told. taking_gives r (image_under (s.file old) name) unlike.kind
-          (λ e. ap (λ (o : Option (List ℕ)). image_in o (s.file old beside)) (absent_there (s.file old name) (unlike.absent told e)));
+      text = text_is;
+      complete = λ told shown is none. only_memory r (image_under (s.file old) name) shown (text_is told)
+          (λ e. none.0 (unlike.rose (refused_is r refusal.ReadFault e)).0)
+          (λ e. no_disk r unlike.kind (refused_is r refusal.DiskFault e)) is;
       stays = λ told _.
           ap (λ (o : Option (List ℕ)). image_in o (s.file new beside)) (unlike.keeps.files name tt)
           ∙ ap (λ (o : Option (List ℕ)). image_in (s.file old name) o) (unlike.keeps.files beside tt);
@@ -125,6 +148,10 @@ module _ {S D : Type 0} (s : Shelves S D) (g : Disks D) (name : List ℕ) (old :
       tells = unlike.tells;
       way = inr (inr (record { way = inl unlike }));
     }
+      where
+        text_is : IsTrue ((s.tells old).files) → image_is (image_under (s.file old) name) (refused r)
+        text_is told = taking_gives r (image_under (s.file old) name) unlike.kind
+            (λ e. ap (λ (o : Option (List ℕ)). image_in o (s.file old beside)) (absent_there (s.file old name) (unlike.absent told e)))
 
     second_untaken : (mid : S) (first : D) → IsTaken s g false name old mid first → ComesBack s g name beside first mid new r → ReadsStore s g name old new (refused r)
     second_untaken mid first first_taken comes =
@@ -132,9 +159,16 @@ module _ {S D : Type 0} (s : Shelves S D) (g : Disks D) (name : List ℕ) (old :
         let back = comes.back in
         let same_file : (other : List ℕ) → s.file comes.mid other ≡ s.file old other = λ other. unlike.keeps.files other tt ∙ first_taken.keeps.files other tt in
         let same_tells : s.tells comes.mid ≡ s.tells old = unlike.tells ∙ first_taken.tells in
+        let text_is : IsTrue ((s.tells old).files) → image_is (image_under (s.file old) name) (refused r) = λ told.
+        taking_gives r (image_under (s.file old) name) unlike.kind
+        (λ e. absurd (never_absent (s.file mid beside) (unlike.absent (told_on (s.tells old) (s.tells mid) first_taken.tells told) e))) in
+        let rose_so : r ≡ refusal.ReadFault → Rose (s.faults old) (s.faults new) = λ e.
+        subst (λ (n : ℕ). Rose n (s.faults new)) first_taken.faults (subst (λ (n : ℕ). Rose (s.faults mid) n) (sym back.faults) (unlike.rose e).0) in
         record {
-          text = λ told. taking_gives r (image_under (s.file old) name) unlike.kind
-              (λ e. absurd (never_absent (s.file mid beside) (unlike.absent (told_on (s.tells old) (s.tells mid) first_taken.tells told) e)));
+          text = text_is;
+          complete = λ told shown is none. only_memory r (image_under (s.file old) name) shown (text_is told)
+              (λ e. none.0 (rose_so (refused_is r refusal.ReadFault e)))
+              (λ e. no_disk r unlike.kind (refused_is r refusal.DiskFault e)) is;
           stays = λ told _.
               let there = there_reads (s.file old name) (g.seen first) (first_taken.reads told) in
               let of_first : s.file new name ≡ s.file old name =
@@ -146,10 +180,8 @@ module _ {S D : Type 0} (s : Shelves S D) (g : Disks D) (name : List ℕ) (old :
           others = λ other not_first not_second. back.keeps.files other not_first ∙ same_file other;
           kind = taking_reads r unlike.kind;
           read_fault = λ e.
-              let rose = unlike.rose (refused_is r refusal.ReadFault e) in (
-                subst (λ (n : ℕ). Rose n (s.faults new)) first_taken.faults (subst (λ (n : ℕ). Rose (s.faults mid) n) (sym back.faults) rose.0),
-                inr (back.last_failed ∙ rose.1),
-              );
+              let same = refused_is r refusal.ReadFault e in
+              (rose_so same, inr (back.last_failed ∙ (unlike.rose same).1));
           disk_fault = λ e. absurd (no_disk r unlike.kind (refused_is r refusal.DiskFault e));
           no_read_fault = λ not.
               let same = unlike.same (λ e. not (ap refused e)) in
@@ -207,6 +239,10 @@ module _ {S D : Type 0} (s : Shelves S D) (g : Disks D) (name : List ℕ) (old :
         by_case f t only_first only_second (inl same) = left_so a b f t (image f t) refl (only_first a same.0) (only_second b same.1)
         by_case f t only_first only_second (inr same) = same.1
 
+    text_so : IsTrue ((s.tells old).files) → image_is (image_under (s.file old) name) result
+    text_so told = subst (λ (o : Option (Result Image NoImage)). image_is o result) (sym (image_old told))
+        (reads.text (there told).0 (or_empty (s.file old beside)) (there told).2 (reads_second told))
+
     pub through : ReadsStore s g name old new result
     through =
         let faults = out_faults s g false name beside old out lent takes in
@@ -214,9 +250,13 @@ module _ {S D : Type 0} (s : Shelves S D) (g : Disks D) (name : List ℕ) (old :
         let tells_so : s.tells new ≡ s.tells old = back_tells s g name beside out new back returns (apart name) ∙ out_tells s g false name beside old out lent takes in
         let zero : fault_count g lent ≡ 0 = omega (arith, takes.first.no_faults, takes.second.no_faults) in
         let not_read : result ≢ Err refusal.ReadFault = λ e. subst (λ (x : Result (List ℕ) StoreRefusal). IfErr x IsOfOpening) e reads.kind in
+        let disks_rose : result ≡ Err refusal.DiskFault → Rose (s.disk_faults old) (s.disk_faults new) = λ e.
+        subst (λ (n : ℕ). Rose n (s.disk_faults new)) faults.2
+        (rose_back s g name beside out new back returns (apart name)
+        (one_failed (g.failures back.0) (g.failures back.1) (subst (λ (n : ℕ). Rose n (fault_count g back)) zero (reads.rose e)))) in
         record {
-          text = λ told. subst (λ (o : Option (Result Image NoImage)). image_is o result) (sym (image_old told))
-              (reads.text (there told).0 (or_empty (s.file old beside)) (there told).2 (reads_second told));
+          text = text_so;
+          complete = λ told shown is none. completes result (image_under (s.file old) name) shown (text_so told) not_read (λ e. none.1 (disks_rose e)) is;
           stays = stays_so;
           crash = λ told telling were a b first second.
               ap (λ (x : Result Image NoImage). Some x)
@@ -226,10 +266,7 @@ module _ {S D : Type 0} (s : Shelves S D) (g : Disks D) (name : List ℕ) (old :
               back_others s g name beside out new back returns (apart name) other not_first not_second ∙ out_file s g false name beside old out lent takes other;
           kind = opening_reads result reads.kind;
           read_fault = λ e. absurd (not_read e);
-          disk_fault = λ e.
-              subst (λ (n : ℕ). Rose n (s.disk_faults new)) faults.2
-              (rose_back s g name beside out new back returns (apart name)
-              (one_failed (g.failures back.0) (g.failures back.1) (subst (λ (n : ℕ). Rose n (fault_count g back)) zero (reads.rose e))));
+          disk_fault = disks_rose;
           no_read_fault = λ unlike. (back_same.0 ∙ faults.0, back_same.1 ∙ faults.1);
           no_disk_fault = on_ok_with result
               (λ same. let none = none_failed (g.failures back.0) (g.failures back.1) (same ∙ zero) in

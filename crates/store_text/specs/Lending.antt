@@ -10,6 +10,11 @@ use Rattle.store_text.specs.Refusals.{IsOfTaking}
 use Rattle.store_text.specs.declared.refusal.StoreRefusal.{StoreRefusal}
 use Rattle.store_text.specs.declared.refusal.StoreRefusal.TheVariants as refusal
 
+-- No call of a shelf failed, nor one of a disk that it has back: neither count rose.
+abbrev pub NoneFailed : {S D : Type 0} → Shelves S D → S → S → Type 0
+NoneFailed s old new =
+    (Rose (s.faults old) (s.faults new) → ⊥) × (Rose (s.disk_faults old) (s.disk_faults new) → ⊥)
+
 module _ {S D : Type 0} (s : Shelves S D) (g : Disks D) where
   -- what a shelf tells of these names stays
   abbrev pub KeepsNames : S → S → (List ℕ → Type 0) → Type 0

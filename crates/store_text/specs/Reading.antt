@@ -4,11 +4,12 @@ use Rattle.hl_base.specs.Causes.{Rose}
 use Rattle.hl_base.specs.Gives.{Gives}
 use Rattle.hl_base.specs.declared.disk.Disk.{Ghosts as Disks}
 use Rattle.hl_base.specs.declared.shelf.Shelf.{Ghosts as Shelves}
+use Rattle.text_store.specs.declared.image.Image.{Image}
 use Rattle.text_store.specs.Files.{WhileOpened, opened_limit}
 use Rattle.text_store.specs.Image.{image}
 use Rattle.text_store.specs.Refusals.{Told}
 use Rattle.text_store.specs.Stores.{Keeps, Tell, Throughout, fault_count}
-use Rattle.store_text.specs.Lending.{AreUntaken, Lends}
+use Rattle.store_text.specs.Lending.{AreUntaken, Lends, NoneFailed}
 use Rattle.store_text.specs.Refusals.{IsOfOpening, IsOfReading, cause_of, text_in, text_of}
 use Rattle.store_text.specs.Shelved.{image_under, second_name}
 use Rattle.store_text.specs.declared.refusal.StoreRefusal.{StoreRefusal}
@@ -48,6 +49,9 @@ Untaken s g name old new (Err r) = ((old ≡ new) × (r ≡ refusal.Memory)) ⊎
 pub record ReadsStore {S D : Type 0} (s : Shelves S D) (g : Disks D) (name : List ℕ) (old new : S) (result : Result (List ℕ) StoreRefusal) : Type 0 where
   -- what its files say, where they are told
   pub text : IsTrue ((s.tells old).files) → Gives (λ bytes. bytes) cause_of result (text_in (image_under (s.file old) name))
+  -- where they have an image and no call failed the text is given, but for want of memory
+  pub complete : IsTrue ((s.tells old).files) → (shown : Image) → image_under (s.file old) name ≡ Some (Ok shown)
+      → NoneFailed s old new → IfErr result (λ r. r ≡ refusal.Memory)
   -- its image, or the want of one, stays; what its files read as after a disk fault isn't told
   pub stays : IsTrue ((s.tells old).files) → result ≢ Err refusal.DiskFault → image_under (s.file new) name ≡ image_under (s.file old) name
   -- and so each crash leaves it, also after a disk fault
