@@ -1,0 +1,3 @@
+pub mod Genuine
+pub mod Tallies
+pub mod Walks
