@@ -1,0 +1,2 @@
+pub mod FedDisks
+pub mod FedStores
