@@ -1,0 +1,6 @@
+pub mod Following
+pub mod Led
+pub mod Lengths
+pub mod Lines
+pub mod Refusals
+pub mod Replicas
