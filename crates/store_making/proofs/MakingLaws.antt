@@ -4,19 +4,20 @@ use Rattle.hl_base.specs.Causes.{Rose}
 use Rattle.hl_base.specs.declared.disk.Disk.{Ghosts as Disks}
 use Rattle.hl_base.specs.declared.shelf.Shelf.{Ghosts as Shelves}
 use Rattle.live_journal.specs.declared.fault.OpenFault.{OpenFault}
+use Rattle.live_journal.specs.declared.fault.OpenFault.TheVariants as unopened
 use Rattle.live_journal.specs.Journals.{Journal}
 use Rattle.live_journal.specs.Loading.{fault_of, or_fault}
 use Rattle.text_store.specs.Files.{WhileMade, fresh}
 use Rattle.text_store.specs.Stores.{fault_count}
-use Rattle.store_text.specs.Lending.{AreTaken, AreUntaken, CameBack, ComesBack, IsTaken, IsUntaken}
+use Rattle.store_text.specs.Lending.{AreTaken, AreUntaken, CameBack, ComesBack, IsTaken, IsUntaken, NoneFailed}
 use Rattle.store_text.specs.Refusals.{IsOfTaking}
 use Rattle.store_text.specs.Shelved.{or_empty, second_name}
 use Rattle.store_text.specs.declared.refusal.StoreRefusal.{StoreRefusal}
 use Rattle.store_text.specs.declared.refusal.StoreRefusal.TheVariants as refusal
 use Rattle.store_text.proofs.LendingLaws.{apart, back_faults, back_first, back_others, back_second, back_sound, back_tells, both_tell, clean_back, first_reads, first_rests, later_faults, left_first, left_second, made_reads, never_absent, one_failed, out_faults, out_file, out_sound, out_tells, rose_back, second_reads, second_rests, told_on}
 use Rattle.store_text.proofs.OpeningLaws.{ends}
-use Rattle.store_making.specs.Making.{Answers, IsLeft, IsOfDisks, IsOfMaking, MakesDisks, MakesFiles, MakesStore, WereTaken, first_file}
-use Rattle.store_making.specs.Refusals.{IsOfText, of_store}
+use Rattle.store_making.specs.Making.{Answers, IsLeft, IsOfDisks, IsOfMaking, MakesDisks, JudgesAndMakes, MakesFiles, WereTaken, first_file}
+use Rattle.store_making.specs.Refusals.{IsOfText, files_refusal, of_store}
 use Rattle.store_making.specs.declared.refusal.JournalRefusal.{JournalRefusal}
 use Rattle.store_making.specs.declared.refusal.JournalRefusal.TheVariants as making
 
@@ -256,7 +257,7 @@ module _ {S D U : Type 0} (s : Shelves S D) (g : Disks D) (name text : List ℕ)
 module _ {S D : Type 0} (U : Type 0) (s : Shelves S D) (g : Disks D) (name text : List ℕ) (limit : ℕ) (old : S) where
   -- what the files of a text that loads come to is what the store does
   pub of_files : (new : S) (r : StoreRefusal) → fault_of None text ≡ None → MakesFiles {U = U} s g name text limit old new (Err r)
-      → MakesStore {U = U} s g name text limit old new (Err (of_store r))
+      → JudgesAndMakes {U = U} s g name text limit old new (Err (of_store r))
   of_files new refusal.Memory good made = inr (good, made)
   of_files new refusal.Absent good made = (good, (λ e. cc), made)
   of_files new (refusal.NotAStore at) good made = (good, (λ e. cc), made)
@@ -267,11 +268,44 @@ module _ {S D : Type 0} (U : Type 0) (s : Shelves S D) (g : Disks D) (name text 
   of_files new refusal.DiskFault good made = (good, (λ e. cc), made)
 
   -- and a text that is refused
-  pub of_judged : (new : S) (e : JournalRefusal) → IsOfText e (fault_of None text) → new ≡ old → MakesStore {U = U} s g name text limit old new (Err e)
+  pub of_judged : (new : S) (e : JournalRefusal) → IsOfText e (fault_of None text) → new ≡ old → JudgesAndMakes {U = U} s g name text limit old new (Err e)
   of_judged new (making.Store r) is same = absurd is
   of_judged new (making.Load fault) is same = (is, same)
   of_judged new (making.TooLarge most size) is same = (is, same)
   of_judged new making.Memory is same = inl same
+
+  -- ---- a good text and good files
+
+  unlike_some : (r : StoreRefusal) (told : Option StoreRefusal) → told ≡ Some r → told ≡ None → ⊥
+  unlike_some r told some none = cc
+
+  unlike_fault : (fault : OpenFault) (told : Option OpenFault) → told ≡ Some fault → told ≡ None → ⊥
+  unlike_fault fault told some none = cc
+
+  abbrev told_files : Option StoreRefusal
+  told_files = files_refusal text limit (or_empty (s.file old name)) (or_empty (s.file old (second_name name)))
+
+  -- files that could be made are refused for a call that failed, or memory ran out
+  files_complete : (new : S) (r : StoreRefusal) → r ≢ refusal.Memory → MakesFiles {U = U} s g name text limit old new (Err r)
+      → IsTrue ((s.tells old).files) → told_files ≡ None → NoneFailed s old new → ⊥
+  files_complete new refusal.Absent unlike made told good none = unlike_some refusal.Absent told_files (made.answer told) good
+  files_complete new (refusal.NotAStore at) unlike made told good none = unlike_some (refusal.NotAStore at) told_files (made.answer told) good
+  files_complete new (refusal.Newer version) unlike made told good none = unlike_some (refusal.Newer version) told_files (made.answer told) good
+  files_complete new (refusal.Exists len) unlike made told good none = unlike_some (refusal.Exists len) told_files (made.answer told) good
+  files_complete new (refusal.Full size most) unlike made told good none = unlike_some (refusal.Full size most) told_files (made.answer told) good
+  files_complete new refusal.ReadFault unlike made told good none = none.0 (made.read_fault refl).0
+  files_complete new refusal.DiskFault unlike made told good none = none.1 (made.disk_fault refl)
+  files_complete new refusal.Memory unlike made told good none = unlike refl
+
+  pub completes : (new : S) (result : Result U JournalRefusal) → JudgesAndMakes s g name text limit old new result
+      → IsTrue ((s.tells old).files) → fault_of None text ≡ None → told_files ≡ None → NoneFailed s old new → IfErr result (λ e. e ≡ making.Memory)
+  completes new (Ok done) made told loads good none = tt
+  completes new (Err (making.Store r)) made told loads good none = absurd (files_complete new r made.1 made.2 told good none)
+  completes new (Err (making.Load fault)) made told loads good none =
+      absurd (unlike_fault (unopened.Load fault) (fault_of None text) made.0 loads)
+  completes new (Err (making.TooLarge most size)) made told loads good none =
+      absurd (unlike_fault (unopened.TooLarge most size) (fault_of None text) made.0 loads)
+  completes new (Err making.Memory) made told loads good none = refl
 
 -- a text of which a journal was opened has no fault
 pub has_none : (j : Journal) (o : Option OpenFault) (live : Journal) → or_fault j o ≡ Ok live → o ≡ None

@@ -8,7 +8,7 @@ use Rattle.text_store.specs.Files.{WhileMade, fresh, new_front}
 use Rattle.text_store.specs.Image.{image}
 use Rattle.text_store.specs.Refusals.{ReadTheSame, Told}
 use Rattle.text_store.specs.Stores.{Keeps, Leaves, Shows, Tell, Throughout, fault_count}
-use Rattle.store_text.specs.Lending.{AreUntaken, Lends}
+use Rattle.store_text.specs.Lending.{AreUntaken, Lends, NoneFailed}
 use Rattle.store_text.specs.Refusals.{cause_of}
 use Rattle.store_text.specs.Shelved.{or_empty, second_name}
 use Rattle.store_text.specs.declared.refusal.StoreRefusal.{StoreRefusal}
@@ -101,13 +101,20 @@ pub record MakesFiles {S D U : Type 0} (s : Shelves S D) (g : Disks D) (name tex
   pub way : ((lent : D × D) × (back : D × D) × Lends s g true name (second_name name) old new lent back × MakesDisks g lent back text limit result)
       ⊎ Untaken s g name old new result
 
--- Making the store of a text: the text is judged first, and where it makes no journal, or memory ran out, the shelf stays; else its
--- files are made, or refused.
-abbrev pub MakesStore : {S D U : Type 0} → Shelves S D → Disks D → List ℕ → List ℕ → ℕ → S → S → Result U JournalRefusal → Type 0
-MakesStore s g name text limit old new (Ok done) = (fault_of None text ≡ None) × MakesFiles s g name text limit old new (Ok done)
-MakesStore {S} {D} {U} s g name text limit old new (Err (making.Store r)) =
+-- The text is judged first, and where it makes no journal, or memory ran out, the shelf stays; else its files are made, or refused.
+abbrev pub JudgesAndMakes : {S D U : Type 0} → Shelves S D → Disks D → List ℕ → List ℕ → ℕ → S → S → Result U JournalRefusal → Type 0
+JudgesAndMakes s g name text limit old new (Ok done) = (fault_of None text ≡ None) × MakesFiles s g name text limit old new (Ok done)
+JudgesAndMakes {S} {D} {U} s g name text limit old new (Err (making.Store r)) =
     (fault_of None text ≡ None) × (r ≢ refusal.Memory) × MakesFiles {U = U} s g name text limit old new (Err r)
-MakesStore s g name text limit old new (Err (making.Load fault)) = IsOfText (making.Load fault) (fault_of None text) × (new ≡ old)
-MakesStore s g name text limit old new (Err (making.TooLarge most size)) = IsOfText (making.TooLarge most size) (fault_of None text) × (new ≡ old)
-MakesStore {S} {D} {U} s g name text limit old new (Err making.Memory) =
+JudgesAndMakes s g name text limit old new (Err (making.Load fault)) = IsOfText (making.Load fault) (fault_of None text) × (new ≡ old)
+JudgesAndMakes s g name text limit old new (Err (making.TooLarge most size)) = IsOfText (making.TooLarge most size) (fault_of None text) × (new ≡ old)
+JudgesAndMakes {S} {D} {U} s g name text limit old new (Err making.Memory) =
     (new ≡ old) ⊎ ((fault_of None text ≡ None) × MakesFiles {U = U} s g name text limit old new (Err refusal.Memory))
+
+-- Making the store of a text. Where the text loads, a store of it has the room, its files are empty or absent, and no call
+-- failed, it is made, but for want of memory.
+pub record MakesStore {S D U : Type 0} (s : Shelves S D) (g : Disks D) (name text : List ℕ) (limit : ℕ) (old new : S) (result : Result U JournalRefusal) : Type 0 where
+  pub outcome : JudgesAndMakes s g name text limit old new result
+  pub complete : IsTrue ((s.tells old).files) → fault_of None text ≡ None
+      → files_refusal text limit (or_empty (s.file old name)) (or_empty (s.file old (second_name name))) ≡ None
+      → NoneFailed s old new → IfErr result (λ e. e ≡ making.Memory)

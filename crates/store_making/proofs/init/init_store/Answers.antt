@@ -1,13 +1,10 @@
-use Rattle.std.proofs.Common.{refl}
-use Rattle.store_making.proofs.MakingLaws.{of_files, of_judged}
+use Rattle.store_making.proofs.MakingLaws.{completes}
 use Rattle.store_making.proofs.init.init_store.Goals as goal
-
-pub returns-in-Err : goal.returns-in-Err
-returns-in-Err g c =
-    of_judged _ g.S.Shelf g.S.Disk.Disk c.args.name.now c.args.text.now c.args.limit c.args.shelf.now c.args.shelf.now c.in-Err.refusal c.in-Err.ensures.cause refl
 
 pub returns : goal.returns
 returns g c =
-    rw c.of_store.ensures
-    (of_files _ g.S.Shelf g.S.Disk.Disk c.args.name.now c.args.text.now c.args.limit c.args.shelf.now c.make_files.new.shelf c.in-Err-make_files.refusal
-    c.in_default.ensures.good c.in-Err-make_files.ensures)
+    let made = c.judge_and_make in
+    record {
+      outcome = made.ensures;
+      complete = completes _ g.S.Shelf g.S.Disk.Disk c.args.name.now c.args.text.now c.args.limit c.args.shelf.now made.new.shelf made.result made.ensures;
+    }
