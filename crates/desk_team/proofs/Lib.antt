@@ -1,0 +1,4 @@
+pub mod Joining
+pub mod MemKits
+pub mod Refusals
+pub mod Takings

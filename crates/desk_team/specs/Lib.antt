@@ -1,0 +1,3 @@
+pub mod Hostings
+pub mod Houses
+pub mod Teams
