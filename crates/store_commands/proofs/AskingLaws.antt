@@ -1,9 +1,11 @@
 -- What two disks come to that were opened as a machine and asked once, and two that weren't opened.
-use Rattle.std.proofs.Common.{◌≡◌, ◌≢◌, inl, inr, ℕ, true, List, Option, None, Some, Result, Ok, sym, ◌∙◌, ap, subst, arith}
+use Rattle.std.proofs.Common.{◌≡◌, ◌≢◌, inl, inr, ℕ, true, List, Option, None, Some, Result, Ok, refl, sym, ◌∙◌, ap, subst, arith}
 use Rattle.hl_base.specs.Causes.{Rose}
 use Rattle.hl_base.specs.declared.disk.Disk.{Ghosts as Disks}
 use Rattle.hl_time.specs.declared.day.Day.{Day}
+use Rattle.live_journal.specs.declared.fault.OpenFault.{OpenFault}
 use Rattle.live_journal.specs.declared.fault.OpenFault.TheVariants as unopened_text
+use Rattle.live_journal.specs.Loading.{fault_of}
 use Rattle.text_store.specs.declared.fault.StoreFault.TheVariants as store_fault
 use Rattle.text_store.specs.declared.image.Image.{Image}
 use Rattle.text_store.specs.Image.{NoImage, image}
@@ -16,7 +18,7 @@ use Rattle.desk.specs.declared.reply.Reply.{Reply}
 use Rattle.desk.specs.declared.request.Allow.TheVariants as allow
 use Rattle.desk.specs.declared.request.Request.{Request}
 use Rattle.desk.specs.Desks.{faults_of, shown_by, state_of}
-use Rattle.desk.specs.Openings.{OpeningRefused}
+use Rattle.desk.specs.Openings.{ImageStays, OpeningRefused}
 use Rattle.desk.specs.States.{State, answer_to, deed_in, image_of}
 use Rattle.desk.specs.Steps.{Completes, Step, is_fault, next_of}
 use Rattle.store_text.specs.Reading.{ReadAs}
@@ -24,23 +26,17 @@ use Rattle.store_text.specs.Refusals.{text_of}
 use Rattle.store_text.specs.declared.refusal.StoreRefusal.TheVariants as refusal
 use Rattle.store_making.specs.declared.refusal.JournalRefusal.{JournalRefusal}
 use Rattle.store_making.specs.declared.refusal.JournalRefusal.TheVariants as journal
-use Rattle.store_commands.specs.Asking.{IsAsked, IsOfFiles, IsOfOpening, IsRefusedBy, IsStep, IsUnopened, OpensAs, Patterns, ShowsAfter, of_opening, opened_state}
+use Rattle.store_commands.specs.Asking.{HasFault, IsAsked, IsOfOpening, IsRefusedBy, IsStep, IsUnopened, OpensAs, Patterns, ShowsAfter, of_opening, opened_state}
 use Rattle.store_commands.specs.Replies.{IsEdit, IsEditReply}
 use Rattle.store_commands.proofs.ReplyLaws.{answer_plain, gives_edit, gives_rose}
-use Rattle.store_commands.proofs.StandingLaws.{after_reads, stands_reads}
+use Rattle.store_commands.proofs.StandingLaws.{after_reads}
 
 -- the state that was opened is that of its image, which may be edited
-state_so : (st : State) (limit : ℕ) → st.allowed ≡ allow.Edit → st.limit ≡ limit → st ≡ opened_state (image_of st) st.size limit
-state_so st limit allowed is =
+pub state_so : (st : State) (size limit : ℕ) → st.allowed ≡ allow.Edit → st.size ≡ size → st.limit ≡ limit → st ≡ opened_state (image_of st) size limit
+state_so st size limit allowed is_size is =
     ap (λ a. record { text = st.text; latest = st.latest; revision = st.revision; allowed = a; size = st.size; limit = st.limit }) allowed
-    ∙ ap (λ (l : ℕ). opened_state (image_of st) st.size l) is
-
-shown_is : (found : Result Image NoImage) (shown : Image) → Some found ≡ Some (Ok shown) → found ≡ Ok shown
-shown_is found shown e = ap of e
-  where
-    of : Option (Result Image NoImage) → Result Image NoImage
-    of None = found
-    of (Some x) = x
+    ∙ ap (λ (n : ℕ). opened_state (image_of st) n st.limit) is_size
+    ∙ ap (λ (l : ℕ). opened_state (image_of st) size l) is
 
 module _ {D : Type 0} (g : Disks D) (old : D × D) where
   -- ---- asked
@@ -78,16 +74,13 @@ module _ {D : Type 0} (g : Disks D) (old : D × D) where
           subst (λ (d : D × D). ReadAs g d (λ a b. ShowsAfter (next st) r (state_of asked.now) (Some (image a b)))) (sym asked.returned)
           (after_reads g asked.now.store (state_of asked.now) r (next st) stands.0 stands.1 stands.2)
 
-      -- the step, of files that had this limit
-      pub is_step : (limit : ℕ) → (state_of desk).limit ≡ limit → (found : Option (Result Image NoImage)) → ShowsAfter (next st) r (state_of asked.now) found
+      -- the step, of files that had this size and limit
+      pub is_step : (size limit : ℕ) → (state_of desk).size ≡ size → (state_of desk).limit ≡ limit → (found : Option (Result Image NoImage)) → ShowsAfter (next st) r (state_of asked.now) found
           → (IsLeft : List ℕ → List ℕ → Type 0) → ((a b : List ℕ) → IsLeft a b → ShowsAfter (next st) r (state_of asked.now) (Some (image a b)))
-          → IsStep (shown_by desk) limit request day.0 p r found IsLeft
-      is_step limit same found shows IsLeft safe =
-          let shown = opens.shown f s is_first is_second in
-          let e : st ≡ opened_state (image_of st) st.size limit = state_so st limit opens.allowed same in
-          let opened = stands_reads g desk.store (shown_by desk) shown.1 in
+          → IsStep (opened_state (shown_by desk) size limit) request day.0 p r found IsLeft
+      is_step size limit is_size same found shows IsLeft safe =
+          let e : st ≡ opened_state (image_of st) size limit = state_so st size limit opens.allowed is_size same in
           record {
-            size = st.size;
             faults = faults_of desk;
             faults_now = faults_of asked.now;
             state = state_of asked.now;
@@ -95,10 +88,13 @@ module _ {D : Type 0} (g : Disks D) (old : D × D) where
             shows = subst (λ (x : State). ShowsAfter (next x) r (state_of asked.now) found) e shows;
             safe = λ a b left. subst (λ (x : State). ShowsAfter (next x) r (state_of asked.now) (Some (image a b))) e (safe a b left);
             complete = subst (λ (x : State). Completes (answer_to x day.0 request) (faults_of desk) (faults_of asked.now) p.before p.now r) e asked.complete;
-            half = (opened.0, opened.1, opened.4, opens.size f s is_first is_second opened.0 opened.1 opened.2 opened.3);
           }
 
   -- ---- not opened
+
+  -- the fault of a text in its files
+  fault_in : (f s : List ℕ) (fault : OpenFault) → (shown : Image) × (image f s ≡ Ok shown) × (fault_of None shown.text ≡ Some fault) → HasFault (Some (image f s)) fault
+  fault_in f s fault is = (is.0, ap (λ (x : Result Image NoImage). Some x) is.1, is.2)
 
   refused_opening : (f s : List ℕ) → g.seen old.0 ≡ Some f → g.seen old.1 ≡ Some s → (new : D × D) (fault : DeskFault) → OpeningRefused g old new fault
       → IsRefusedBy (Some (image f s)) (of_opening fault)
@@ -109,22 +105,26 @@ module _ {D : Type 0} (g : Disks D) (old : D × D) where
   refused_opening f s is_first is_second new (desk_fault.Store (store_fault.Exists len)) cause = absurd cause
   refused_opening f s is_first is_second new (desk_fault.Store store_fault.Memory) cause = absurd cause
   refused_opening f s is_first is_second new (desk_fault.Load unopened_text.Memory) cause = absurd cause
-  refused_opening f s is_first is_second new (desk_fault.Load (unopened_text.Load fault)) cause = λ shown found. cause.0 f s is_first is_second shown (shown_is (image f s) shown found)
+  refused_opening f s is_first is_second new (desk_fault.Load (unopened_text.Load fault)) cause = fault_in f s (unopened_text.Load fault) (cause.0 f s is_first is_second)
   refused_opening f s is_first is_second new (desk_fault.Load (unopened_text.TooLarge limit size)) cause =
-      λ shown found. cause.0 f s is_first is_second shown (shown_is (image f s) shown found)
+      fault_in f s (unopened_text.TooLarge limit size) (cause.0 f s is_first is_second)
   refused_opening f s is_first is_second new desk_fault.Memory cause = tt
 
-  stays_opening : (new : D × D) (fault : DeskFault) → OpeningRefused g old new fault → IsOfFiles (of_opening fault) → ReadTheSame g old new
-  stays_opening new (desk_fault.Store store_fault.DiskFault) cause of = absurd of
-  stays_opening new (desk_fault.Store (store_fault.NotAStore at)) cause of = cause.1
-  stays_opening new (desk_fault.Store (store_fault.Newer version)) cause of = cause.1
-  stays_opening new (desk_fault.Store (store_fault.Full size limit)) cause of = absurd cause
-  stays_opening new (desk_fault.Store (store_fault.Exists len)) cause of = absurd cause
-  stays_opening new (desk_fault.Store store_fault.Memory) cause of = absurd cause
-  stays_opening new (desk_fault.Load unopened_text.Memory) cause of = absurd cause
-  stays_opening new (desk_fault.Load (unopened_text.Load fault)) cause of = absurd of
-  stays_opening new (desk_fault.Load (unopened_text.TooLarge limit size)) cause of = absurd of
-  stays_opening new desk_fault.Memory cause of = absurd of
+  -- disks that read as they did have the image that they had
+  read_stays : (new : D × D) → ReadTheSame g old new → ImageStays g old new
+  read_stays new same = λ f s a b. (f, s, same.0 ∙ a, same.1 ∙ b, refl)
+
+  stays_opening : (new : D × D) (fault : DeskFault) → OpeningRefused g old new fault → of_opening fault ≢ journal.Store refusal.DiskFault → ImageStays g old new
+  stays_opening new (desk_fault.Store store_fault.DiskFault) cause unlike = absurd (unlike refl)
+  stays_opening new (desk_fault.Store (store_fault.NotAStore at)) cause unlike = read_stays new cause.1
+  stays_opening new (desk_fault.Store (store_fault.Newer version)) cause unlike = read_stays new cause.1
+  stays_opening new (desk_fault.Store (store_fault.Full size limit)) cause unlike = absurd cause
+  stays_opening new (desk_fault.Store (store_fault.Exists len)) cause unlike = absurd cause
+  stays_opening new (desk_fault.Store store_fault.Memory) cause unlike = absurd cause
+  stays_opening new (desk_fault.Load unopened_text.Memory) cause unlike = absurd cause
+  stays_opening new (desk_fault.Load (unopened_text.Load fault)) cause unlike = cause.1
+  stays_opening new (desk_fault.Load (unopened_text.TooLarge limit size)) cause unlike = cause.1
+  stays_opening new desk_fault.Memory cause unlike = cause
 
   kind_opening : (new : D × D) (fault : DeskFault) → OpeningRefused g old new fault → IsOfOpening (of_opening fault) × (of_opening fault ≢ journal.Store refusal.ReadFault)
   kind_opening new (desk_fault.Store store_fault.DiskFault) cause = (tt, λ e. cc)
@@ -156,8 +156,8 @@ module _ {D : Type 0} (g : Disks D) (old : D × D) where
     refused_by f s is_first is_second =
         subst (λ (x : JournalRefusal). IsRefusedBy (Some (image f s)) x) (sym unopened.is) (refused_opening f s is_first is_second new unopened.fault unopened.cause)
 
-    pub reads_same : IsOfFiles e → ReadTheSame g old new
-    reads_same of = stays_opening new unopened.fault unopened.cause (subst (λ (x : JournalRefusal). IsOfFiles x) unopened.is of)
+    pub image_kept : e ≢ journal.Store refusal.DiskFault → ImageStays g old new
+    image_kept unlike = stays_opening new unopened.fault unopened.cause (λ same. unlike (unopened.is ∙ same))
 
     pub kind_is : IsOfOpening e
     kind_is = subst (λ (x : JournalRefusal). IsOfOpening x) (sym unopened.is) (kind_opening new unopened.fault unopened.cause).0

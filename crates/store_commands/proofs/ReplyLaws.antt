@@ -156,3 +156,14 @@ gives_rose answer d old before r new after all (inl h) e = no_fault r (ap is_fau
 gives_rose answer d old before r new after all (inr (inl h)) e = no_fault r (ap is_fault h.0) e before after
 gives_rose answer d old before r new after all (inr (inr (inl h))) e = h.2
 gives_rose answer d old before r new after all (inr (inr (inr h))) e = no_fault r (all.others r h.0).1 e before after
+
+true_false : true ≡ false → ⊥
+true_false e = cc
+
+-- with any other reply it stays
+pub gives_same : (answer : Answer) (d : Option Deed) (old : State) (before : ℕ) (r : Reply) (new : State) (after : ℕ)
+    → Gives answer d old before r new after → is_fault r ≡ false → after ≡ before
+gives_same answer d old before r new after (inl h) e = h.2
+gives_same answer d old before r new after (inr (inl h)) e = h.2
+gives_same answer d old before r new after (inr (inr (inl h))) e = absurd (true_false (sym (ap is_fault h.0) ∙ e))
+gives_same answer d old before r new after (inr (inr (inr h))) e = h.2

@@ -1,5 +1,5 @@
 -- What one request of a store comes to.
-use Rattle.std.specs.Prelude.{◌≡◌, ◌≢◌, ◌⊎◌, ℕ, ◌≤◌, max, true, false, List, length, Option, Some, None, IfSome, IsSomeAnd, Result, Ok, Err, IsTrue}
+use Rattle.std.specs.Prelude.{◌≡◌, ◌≢◌, ◌⊎◌, ℕ, ◌≤◌, max, true, false, List, length, Option, Some, None, IfSome, IsSomeAnd, Result, Ok, Err, IfOk, IsTrue}
 use Rattle.hl_base.specs.Causes.{Rose}
 use Rattle.hl_base.specs.declared.disk.Disk.{Ghosts as Disks}
 use Rattle.hl_base.specs.declared.shelf.Shelf.{Ghosts as Shelves}
@@ -7,24 +7,26 @@ use Rattle.hl_time.specs.declared.day.Day.{Day}
 use Rattle.query_terms.specs.Making.{Stays}
 use Rattle.query_terms.specs.declared.making.Maker.{Ghosts as Makers}
 use Rattle.live_journal.specs.Loading.{fault_of}
+use Rattle.live_journal.specs.declared.fault.OpenFault.{OpenFault}
 use Rattle.live_journal.specs.declared.fault.OpenFault.TheVariants as unopened_text
 use Rattle.text_store.specs.declared.image.Image.{Image}
-use Rattle.text_store.specs.Files.{WhileOpened, opened_limit}
+use Rattle.text_store.specs.Files.{WhileOpened, opened_limit, opened_size}
 use Rattle.text_store.specs.Image.{NoImage, image}
 use Rattle.text_store.specs.Refusals.{Told}
-use Rattle.text_store.specs.Stores.{Keeps, Tell, Throughout, disks}
+use Rattle.text_store.specs.Stores.{Keeps, Tell, Throughout, disks, fault_count}
 use Rattle.desk.specs.declared.desk.Desk.{Desk}
 use Rattle.desk.specs.declared.fault.DeskFault.{DeskFault}
 use Rattle.desk.specs.declared.fault.DeskFault.TheVariants as desk_fault
 use Rattle.desk.specs.declared.reply.Reply.{Reply}
+use Rattle.desk.specs.declared.reply.Reply.TheVariants as reply
 use Rattle.desk.specs.declared.request.Allow.TheVariants as allow
 use Rattle.desk.specs.declared.request.Request.{Request}
 use Rattle.desk.specs.Desks.{IsServed, faults_of, shown_by, state_of}
-use Rattle.desk.specs.Openings.{OpeningRefused, file_in_use}
+use Rattle.desk.specs.Openings.{OpeningRefused}
 use Rattle.desk.specs.Stands.{Stands}
 use Rattle.desk.specs.States.{State, answer_to, image_of}
 use Rattle.desk.specs.Steps.{Completes, Step, TellsReply, is_fault, next_of}
-use Rattle.store_text.specs.Lending.{AreUntaken, Lends}
+use Rattle.store_text.specs.Lending.{AreUntaken, Lends, NoneFailed}
 use Rattle.store_text.specs.Refusals.{cause_of, text_in, unopened}
 use Rattle.store_text.specs.Shelved.{image_under, or_empty, second_name}
 use Rattle.store_text.specs.declared.refusal.StoreRefusal.{StoreRefusal}
@@ -57,11 +59,12 @@ PatternsStay p = Stays p.before p.now p.last_before p.last_now
 pub record OpensAs {D : Type 0} (g : Disks D) (old : D × D) (desk : Desk D g) : Type 0 where
   pub shown : Told g old (λ f s. (image f s ≡ Ok (shown_by desk)) × Stands desk.store (shown_by desk) None × ((state_of desk).limit ≡ opened_limit f s))
   pub allowed : (state_of desk).allowed ≡ allow.Edit
-  -- its size is the length that the half in use has then
-  pub size : Told g old (λ _ _. Told g (disks desk.store) (λ f s. (state_of desk).size ≡ length (file_in_use f s)))
+  -- its size is that of the half that they showed
+  pub size : Told g old (λ f s. (state_of desk).size ≡ opened_size f s)
   -- a crash at any moment leaves files that it might have left before, or files with the image, or the want of one, of these
   pub any_moment : Told g old (λ f s. Tell g old → Throughout g old (disks desk.store) (WhileOpened g old f s))
   pub keeps : Told g old (λ f s. Keeps g old (disks desk.store) (max (opened_limit f s) (length f), max (opened_limit f s) (length s)))
+  pub no_fault : faults_of desk ≡ fault_count g old
 
 -- Two disks weren't opened, for this.
 pub record IsUnopened {D : Type 0} (g : Disks D) (old new : D × D) (e : JournalRefusal) : Type 0 where
@@ -84,47 +87,49 @@ abbrev pub AsksDisks : {D : Type 0} → Disks D → D × D → D × D → Reques
 AsksDisks {D} g old new request day p (Ok r) = (desk : Desk D g) × OpensAs g old desk × IsAsked desk request day p r new
 AsksDisks g old new request day p (Err e) = IsUnopened g old new e × PatternsStay p
 
--- the limit of the store of a name, among the files of a shelf
+-- the limit of the store of a name, and the length of its half in use, among the files of a shelf
 abbrev pub limit_under : (List ℕ → Option (List ℕ)) → List ℕ → ℕ
 limit_under file name = opened_limit (or_empty (file name)) (or_empty (file (second_name name)))
+
+abbrev pub size_under : (List ℕ → Option (List ℕ)) → List ℕ → ℕ
+size_under file name = opened_size (or_empty (file name)) (or_empty (file (second_name name)))
 
 -- the state of a machine that may be edited and was opened on an image
 abbrev pub opened_state : Image → ℕ → ℕ → State
 opened_state shown size limit = record { text = shown.text; latest = shown.latest; revision = shown.revision; allowed = allow.Edit; size = size; limit = limit }
+
+-- that of the store of a name whose files have this image
+abbrev pub state_under : (List ℕ → Option (List ℕ)) → List ℕ → Image → State
+state_under file name shown = opened_state shown (size_under file name) (limit_under file name)
 
 -- the image of a state, or after a disk fault that of the edit that was refused for it
 abbrev pub ShowsAfter : Option Image → Reply → State → Option (Result Image NoImage) → Type 0
 ShowsAfter next r state found =
     (found ≡ Some (Ok (image_of state))) ⊎ ((is_fault r ≡ true) × IsSomeAnd next (λ other. found ≡ Some (Ok other)))
 
--- One step of the machine from an image of files that had this limit, and what the files have, and a crash leaves, then.
-pub record IsStep (shown : Image) (limit : ℕ) (request : Request) (day : ℕ) (p : Patterns) (r : Reply) (found : Option (Result Image NoImage))
+-- One step of the machine from the state in which it was opened, and what the files have, and a crash leaves, then.
+pub record IsStep (opened : State) (request : Request) (day : ℕ) (p : Patterns) (r : Reply) (found : Option (Result Image NoImage))
     (IsLeft : List ℕ → List ℕ → Type 0) : Type 0 where
-  pub size : ℕ
   pub faults : ℕ
   pub faults_now : ℕ
   pub state : State
-  pub step : Step (opened_state shown size limit) faults day request r state faults_now
-  pub shows : ShowsAfter (next_of (answer_to (opened_state shown size limit) day request)) r state found
-  pub safe : (f t : List ℕ) → IsLeft f t → ShowsAfter (next_of (answer_to (opened_state shown size limit) day request)) r state (Some (image f t))
+  pub step : Step opened faults day request r state faults_now
+  pub shows : ShowsAfter (next_of (answer_to opened day request)) r state found
+  pub safe : (f t : List ℕ) → IsLeft f t → ShowsAfter (next_of (answer_to opened day request)) r state (Some (image f t))
   -- where no call of the disks failed and no pattern was refused, the reply is the step's own, or memory ran out
-  pub complete : Completes (answer_to (opened_state shown size limit) day request) faults faults_now p.before p.now r
-  -- the size is the length of the half in use, of files that had the image
-  pub half : (f : List ℕ) × (t : List ℕ) × (image f t ≡ Ok shown) × (size ≡ length (file_in_use f t))
+  pub complete : Completes (answer_to opened day request) faults faults_now p.before p.now r
 
--- the image, or the want of one, of a store's files, or their text, is why it wasn't opened
+-- files have an image, whose text makes no journal, for this
+abbrev pub HasFault : Option (Result Image NoImage) → OpenFault → Type 0
+HasFault found fault =
+    (shown : Image) × (found ≡ Some (Ok shown)) × (fault_of None shown.text ≡ Some fault)
+
+-- the want of an image of a store's files, or their text, is why it wasn't opened
 abbrev pub IsRefusedBy : Option (Result Image NoImage) → JournalRefusal → Type 0
 IsRefusedBy found (journal.Store r) = IfSome (cause_of r) (λ cause. text_in found ≡ Err cause)
-IsRefusedBy found (journal.Load fault) = (shown : Image) → found ≡ Some (Ok shown) → fault_of None shown.text ≡ Some (unopened_text.Load fault)
-IsRefusedBy found (journal.TooLarge limit size) =
-    (shown : Image) → found ≡ Some (Ok shown) → fault_of None shown.text ≡ Some (unopened_text.TooLarge limit size)
+IsRefusedBy found (journal.Load fault) = HasFault found (unopened_text.Load fault)
+IsRefusedBy found (journal.TooLarge limit size) = HasFault found (unopened_text.TooLarge limit size)
 IsRefusedBy found journal.Memory = Unit {0}
-
--- it was refused by its files, or by the shelf
-abbrev pub IsOfFiles : JournalRefusal → Type 0
-IsOfFiles (journal.Store refusal.DiskFault) = ⊥
-IsOfFiles (journal.Store r) = Unit {0}
-IsOfFiles _ = ⊥
 
 -- its disks were taken, as the refusal says
 abbrev pub WereTaken : JournalRefusal → Type 0
@@ -151,7 +156,7 @@ IsUntaken s g name old new e =
 -- want of one, that they had, and each crash leaves it.
 pub record IsUnasked {S D : Type 0} (s : Shelves S D) (g : Disks D) (name : List ℕ) (old new : S) (e : JournalRefusal) : Type 0 where
   pub cause : IsTrue ((s.tells old).files) → IsRefusedBy (image_under (s.file old) name) e
-  pub stays : IsTrue ((s.tells old).files) → IsOfFiles e → image_under (s.file new) name ≡ image_under (s.file old) name
+  pub stays : IsTrue ((s.tells old).files) → e ≢ journal.Store refusal.DiskFault → image_under (s.file new) name ≡ image_under (s.file old) name
   pub crash : IsTrue ((s.tells old).files) → IsTrue ((s.tells old).crashes) → WereTaken e → (f t : List ℕ)
       → s.may_leave new name f → s.may_leave new (second_name name) t → Some (image f t) ≡ image_under (s.file old) name
   pub kind : IsOfOpening e
@@ -161,7 +166,7 @@ pub record IsUnasked {S D : Type 0} (s : Shelves S D) (g : Disks D) (name : List
 -- A store was asked once: its image made one step, where its files are told.
 pub record IsAnswered {S D : Type 0} (s : Shelves S D) (g : Disks D) (name : List ℕ) (request : Request) (day : Day) (p : Patterns) (old new : S) (r : Reply) : Type 0 where
   pub step : IsTrue ((s.tells old).files) → (shown : Image) × (image_under (s.file old) name ≡ Some (Ok shown))
-      × IsStep shown (limit_under (s.file old) name) request day.0 p r (image_under (s.file new) name)
+      × IsStep (state_under (s.file old) name shown) request day.0 p r (image_under (s.file new) name)
       (λ f t. IsTrue ((s.tells old).crashes) × s.may_leave new name f × s.may_leave new (second_name name) t)
   pub kind : IsEditReply r
   pub maker : TellsReply request day.0 p.before p.now p.last_before p.last_now r
@@ -172,16 +177,27 @@ abbrev pub Outcome : {S D : Type 0} → Shelves S D → Disks D → List ℕ →
 Outcome s g name request day p old new (Ok r) = IsAnswered s g name request day p old new r
 Outcome s g name request day p old new (Err e) = IsUnasked s g name old new e × PatternsStay p
 
+-- the reply is this one, or memory ran out
+abbrev pub IsReplied : Result Reply JournalRefusal → Reply → Type 0
+IsReplied (Ok r) good = (r ≡ reply.Memory) ⊎ (r ≡ good)
+IsReplied (Err e) good = e ≡ journal.Memory
+
 -- A store was asked for an edit, or wasn't opened.
 pub record EditsStore {S D : Type 0} (s : Shelves S D) (g : Disks D) (name : List ℕ) (request : Request) (day : Day) (p : Patterns) (old new : S)
     (result : Result Reply JournalRefusal) : Type 0 where
   pub outcome : Outcome s g name request day p old new result
+  -- where its files have an image whose text loads, no call failed and no pattern was refused, the reply is the answer to the
+  -- request, or memory ran out
+  pub complete : IsTrue ((s.tells old).files) → (shown : Image) → image_under (s.file old) name ≡ Some (Ok shown)
+      → fault_of None shown.text ≡ None → NoneFailed s old new → (Rose p.before p.now → ⊥)
+      → IsReplied result (answer_to (state_under (s.file old) name shown) day.0 request).reply
   -- each name but those of the store's files keeps what stands under it
   pub others : (other : List ℕ) → other ≢ name → other ≢ second_name name → s.file new other ≡ s.file old other
   -- a call failed only where the count rose: of the shelf's takes, with the name of the file, or of the disks that came back
   pub read_fault : result ≡ Err (journal.Store refusal.ReadFault) → Rose (s.faults old) (s.faults new)
       × ((s.last_failed new ≡ Some name) ⊎ (s.last_failed new ≡ Some (second_name name)))
   pub disk_fault : result ≡ Err (journal.Store refusal.DiskFault) → Rose (s.disk_faults old) (s.disk_faults new)
+  pub no_disk_fault : IfOk result (λ r. is_fault r ≡ false → s.disk_faults new ≡ s.disk_faults old)
   pub no_read_fault : result ≢ Err (journal.Store refusal.ReadFault) → (s.faults new ≡ s.faults old) × (s.last_failed new ≡ s.last_failed old)
   pub later : (s.faults old ≤ s.faults new) × (s.disk_faults old ≤ s.disk_faults new)
   pub sound : s.IsSound old → (result ≢ Err (journal.Store refusal.ReadFault)) × s.IsSound new
