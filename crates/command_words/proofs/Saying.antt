@@ -5,7 +5,7 @@ use Rattle.report_options.specs.Items.{is_end, is_option, piece_of, words}
 use Rattle.command_words.specs.Said.{all_said, item_of, items_in, left_of, named_item, next_of, onto, option_name, pieces, plain_item, plain_items, put_first, takes_next, with_item}
 use Rattle.command_words.specs.Usage.{usage_cause}
 use Rattle.command_words.specs.declared.chores.Chore.{Chore}
-use Rattle.command_words.specs.declared.said.Item.{Item}
+use Rattle.command_words.specs.declared.items.Item.{Item}
 use Rattle.command_words.specs.declared.said.Said.{Said}
 use Rattle.command_words.specs.declared.usage.UsageFault.{UsageFault}
 

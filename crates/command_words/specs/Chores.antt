@@ -3,6 +3,8 @@ use Rattle.std.specs.Prelude.{ℕ, Bool, true, false, List, codes, Option, Some,
 use Rattle.std.specs.Str.{bytes_eq}
 use Rattle.book_care.specs.declared.faults.Check.{Check}
 use Rattle.book_care.specs.declared.faults.Check.TheVariants as checks
+use Rattle.desk.specs.declared.request.Allow.{Allow}
+use Rattle.desk.specs.declared.request.Allow.TheVariants as allow
 use Rattle.command_words.specs.declared.chores.Chore.{Chore}
 use Rattle.command_words.specs.declared.chores.Chore.TheVariants as chores
 use Rattle.command_words.specs.declared.chores.Name.{Name}
@@ -17,6 +19,11 @@ chore_named word =
     else if bytes_eq word (codes "init") then Some chores.Init
     else if bytes_eq word (codes "add") then Some chores.Add
     else if bytes_eq word (codes "import") then Some chores.Import
+    else if bytes_eq word (codes "talk") then Some chores.Talk
+    else if bytes_eq word (codes "sample") then Some chores.Sample
+    else if bytes_eq word (codes "export") then Some chores.Export
+    else if bytes_eq word (codes "feed") then Some chores.Feed
+    else if bytes_eq word (codes "follow") then Some chores.Follow
     else None
 
 -- the check that a word names
@@ -29,6 +36,14 @@ check_named word =
     else if bytes_eq word (codes "ordereddates") then Some checks.OrderedDates
     else None
 
+-- what requests may do, as a word says it
+unfoldable pub allow_named : List ℕ → Option Allow
+allow_named word =
+    if bytes_eq word (codes "view") then Some allow.View
+    else if bytes_eq word (codes "add") then Some allow.Add
+    else if bytes_eq word (codes "edit") then Some allow.Edit
+    else None
+
 -- the option that a word names, without a value behind `=`
 unfoldable pub name_of : List ℕ → Option Name
 name_of word =
@@ -39,6 +54,7 @@ name_of word =
     else if bytes_eq word (codes "--into") then Some names.Into
     else if bytes_eq word (codes "--limit") then Some names.Limit
     else if bytes_eq word (codes "--rules") then Some names.Rules
+    else if bytes_eq word (codes "--allow") then Some names.Allow
     else None
 
 -- a value has to be written
@@ -53,6 +69,7 @@ is_hours _ = false
 abbrev pub is_of_journals : Chore → Bool
 is_of_journals chores.Strict = true
 is_of_journals chores.Close = true
+is_of_journals chores.Talk = true
 is_of_journals _ = false
 
 abbrev pub is_close : Chore → Bool
@@ -61,17 +78,26 @@ is_close _ = false
 
 -- a file may be the source of its text
 abbrev pub is_of_texts : Chore → Bool
-is_of_texts chores.Add = false
-is_of_texts chores.Import = false
-is_of_texts _ = true
+is_of_texts chores.Hours = true
+is_of_texts chores.Strict = true
+is_of_texts chores.Close = true
+is_of_texts chores.Init = true
+is_of_texts chores.Talk = true
+is_of_texts _ = false
 
-abbrev pub is_init : Chore → Bool
-is_init chores.Init = true
-is_init _ = false
+-- it makes a store
+abbrev pub is_of_new_stores : Chore → Bool
+is_of_new_stores chores.Init = true
+is_of_new_stores chores.Follow = true
+is_of_new_stores _ = false
 
 abbrev pub is_import : Chore → Bool
 is_import chores.Import = true
 is_import _ = false
+
+abbrev pub is_talk : Chore → Bool
+is_talk chores.Talk = true
+is_talk _ = false
 
 -- a command has an option
 abbrev pub has_option : Chore → Name → Bool
@@ -80,5 +106,6 @@ has_option chore names.Dot = is_hours chore
 has_option chore names.Store = is_of_journals chore
 has_option chore names.On = is_close chore
 has_option chore names.Into = is_close chore
-has_option chore names.Limit = is_init chore
+has_option chore names.Limit = is_of_new_stores chore
 has_option chore names.Rules = is_import chore
+has_option chore names.Allow = is_talk chore

@@ -1,5 +1,5 @@
 -- What the words of the program ask for.
-use Rattle.std.specs.Prelude.{ℕ, Bool, true, false, List, [], ◌∷◌, Option, Some, None, Result, Ok, Err, if◌then◌else◌, codes}
+use Rattle.std.specs.Prelude.{ℕ, ◌≤◌, Bool, true, false, List, [], ◌∷◌, Option, Some, None, Result, Ok, Err, if◌then◌else◌, codes}
 use Rattle.std.specs.Str.{bytes_eq}
 use Rattle.book_care.specs.declared.faults.Check.{Check}
 use Rattle.refusals.specs.Errors.{usage_line, words_line}
@@ -14,9 +14,11 @@ use Rattle.report_commands.specs.declared.fault.WordsFault.{WordsFault}
 use Rattle.report_commands.specs.declared.fault.WordsFault.TheVariants as words_fault
 use Rattle.plan_commands.specs.Commands.{given_of}
 use Rattle.command_words.specs.Chores.{chore_named}
+use Rattle.command_words.specs.Limits.{most_entries}
 use Rattle.command_words.specs.Said.{said_by}
-use Rattle.command_words.specs.StoreWords.{add_task, export_task, import_task, init_task}
-use Rattle.command_words.specs.Usage.{misplaced, missing}
+use Rattle.command_words.specs.StoreWords.{add_task, export_task, feed_task, follow_task, import_task, init_task}
+use Rattle.command_words.specs.TalkWords.{sample_task, talk_task, task_alone}
+use Rattle.command_words.specs.Usage.{missing}
 use Rattle.command_words.specs.declared.chores.Chore.{Chore}
 use Rattle.command_words.specs.declared.chores.Chore.TheVariants as chores
 use Rattle.command_words.specs.declared.said.Named.{Named}
@@ -32,15 +34,9 @@ use Rattle.command_words.specs.declared.usage.UsageFault.TheVariants as usages
 -- what a word asks for that isn't asked of a text
 abbrev pub task_named : List ℕ → Option Task
 task_named word =
-    if bytes_eq word (codes "talk") then Some task.Talk
-    else if bytes_eq word (codes "--help") then Some task.Help
+    if bytes_eq word (codes "--help") then Some task.Help
     else if bytes_eq word (codes "--version") then Some task.Version
     else None
-
--- no word after it has a place yet
-abbrev pub task_alone : Task → List (List ℕ) → Result Task UsageFault
-task_alone what [] = Ok what
-task_alone what (word ∷ words) = misplaced word
 
 -- a name, and `-` for the input
 abbrev pub name_of_journal : List ℕ → Option (List ℕ)
@@ -124,6 +120,11 @@ task_over chores.Close said origin = close_task origin said.on (into_or_default 
 task_over chores.Init said origin = init_task origin said.limit said.words
 task_over chores.Add said origin = add_task said.words
 task_over chores.Import said origin = import_task said.rules said.words
+task_over chores.Talk said origin = Ok (talk_task origin said.allow)
+task_over chores.Sample said origin = sample_task said.words
+task_over chores.Export said origin = export_task said.words
+task_over chores.Feed said origin = feed_task said.words
+task_over chores.Follow said origin = follow_task said.limit said.words
 
 abbrev pub task_from : Chore → Said → Result Origin UsageFault → Result Task UsageFault
 task_from chore said (Ok origin) = task_over chore said origin
@@ -146,22 +147,19 @@ abbrev pub chore_or_report : Option Chore → ℕ → List ℕ → List (List �
 chore_or_report (Some chore) day word words = chore_task chore words
 chore_or_report None day word words = report_task (given_of day (word ∷ words))
 
-abbrev pub store_or_text : Bool → ℕ → List ℕ → List (List ℕ) → Result Task UsageFault
-store_or_text true day word words = export_task words
-store_or_text false day word words = chore_or_report (chore_named word) day word words
-
 abbrev pub task_or_text : Option Task → ℕ → List ℕ → List (List ℕ) → Result Task UsageFault
 task_or_text (Some what) day word words = task_alone what words
-task_or_text None day word words = store_or_text (bytes_eq word (codes "export")) day word words
+task_or_text None day word words = chore_or_report (chore_named word) day word words
 
 -- what the words ask for on a day, or what is wrong with them
 abbrev pub task_of : ℕ → List (List ℕ) → Result Task UsageFault
 task_of day [] = Err (usages.Words (words_fault.NoCommand []))
 task_of day (word ∷ words) = task_or_text (task_named word) day word words
 
--- the options of a report are valid
+-- the options of a report are valid, and a sample has few enough entries
 abbrev pub IsReadable : Task → Type 0
 IsReadable (task.Over given) = IsWorkable given.work
+IsReadable (task.Sample count) = count ≤ most_entries
 IsReadable other = Unit {0}
 
 -- the error line of words that have no reading

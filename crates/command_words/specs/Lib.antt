@@ -3,4 +3,5 @@ pub mod Commands
 pub mod Limits
 pub mod Said
 pub mod StoreWords
+pub mod TalkWords
 pub mod Usage

@@ -1,4 +1,4 @@
--- The limit of a store, as a word writes it.
+-- Numbers as words write them, and the limit of a store.
 use Rattle.std.specs.Prelude.{ℕ, ◌-◌, ◌^◌, min, ◌&&◌, nat_le, List, Option, Some, None, if◌then◌else◌}
 use Rattle.std.specs.List.{list_all}
 use Rattle.std.specs.Str.Parse.{digits_value}
@@ -8,13 +8,21 @@ use Rattle.hl_num.specs.Reading.{is_digit}
 abbrev pub most : ℕ
 most = 2 ^ 64 - 1
 
+abbrev pub number_within : ℕ → ℕ → Option ℕ
+number_within greatest number = if nat_le 1 number && nat_le number greatest then Some number else None
+
+-- the number that a text writes: digits, from 1 to a greatest one
+abbrev pub number_in : ℕ → List ℕ → Option ℕ
+number_in greatest text = if list_all is_digit text then number_within greatest (min (digits_value 10 text) most) else None
+
 -- the greatest limit of a store, which is its limit where none is written: 2^40 bytes
 abbrev pub most_limit : ℕ
 most_limit = 1099511627776
 
-abbrev pub limit_within : ℕ → Option ℕ
-limit_within number = if nat_le 1 number && nat_le number most_limit then Some number else None
-
--- the limit that a text writes: digits, from 1 to the greatest
+-- the limit that a text writes
 abbrev pub limit_in : List ℕ → Option ℕ
-limit_in text = if list_all is_digit text then limit_within (min (digits_value 10 text) most) else None
+limit_in text = number_in most_limit text
+
+-- the most entries of a sample
+abbrev pub most_entries : ℕ
+most_entries = 100000

@@ -12,15 +12,16 @@ use Rattle.hl_time.specs.Date.{date_of, day_answer}
 use Rattle.hl_time.specs.declared.day.Day.{Day}
 use Rattle.hl_time.specs.declared.fault.TimeFault.{TimeFault}
 use Rattle.report_options.specs.Items.{Piece, after_equals, before_equals, has_value, is_end, is_long, option, piece_of, words}
-use Rattle.command_words.specs.Chores.{check_named, has_option, name_of, takes_value}
+use Rattle.desk.specs.declared.request.Allow.{Allow}
+use Rattle.command_words.specs.Chores.{allow_named, check_named, has_option, name_of, takes_value}
 use Rattle.command_words.specs.Limits.{limit_in}
 use Rattle.command_words.specs.Usage.{misplaced}
 use Rattle.command_words.specs.declared.chores.Chore.{Chore}
 use Rattle.command_words.specs.declared.chores.Chore.TheVariants as chores
 use Rattle.command_words.specs.declared.chores.Name.{Name}
 use Rattle.command_words.specs.declared.chores.Name.TheVariants as names
-use Rattle.command_words.specs.declared.said.Item.{Item}
-use Rattle.command_words.specs.declared.said.Item.TheVariants as items
+use Rattle.command_words.specs.declared.items.Item.{Item}
+use Rattle.command_words.specs.declared.items.Item.TheVariants as items
 use Rattle.command_words.specs.declared.said.Named.{Named}
 use Rattle.command_words.specs.declared.said.Named.TheVariants as named
 use Rattle.command_words.specs.declared.said.Said.{Said}
@@ -77,6 +78,11 @@ abbrev pub limit_item : Option ℕ → Option Item
 limit_item (Some limit) = Some (items.Limit limit)
 limit_item None = None
 
+-- what requests may do
+abbrev pub allow_item : Option Allow → Option Item
+allow_item (Some allow) = Some (items.Allow allow)
+allow_item None = None
+
 abbrev pub store_item : List ℕ → List ℕ → Option Item
 store_item word name = Some (items.Store word name)
 
@@ -89,6 +95,7 @@ valued names.On word value = day_item value
 valued names.Into word value = account_item value
 valued names.Limit word value = limit_item (limit_in value)
 valued names.Rules word value = Some (items.Rules value)
+valued names.Allow word value = allow_item (allow_named value)
 
 abbrev pub bare : Name → Option Item
 bare names.Dot = Some items.Dot
@@ -120,6 +127,7 @@ checked word None = misplaced_item word
 -- another one is a check, a word of the query or a name
 abbrev pub plain_item : Chore → List ℕ → Result Item UsageFault
 plain_item chores.Hours word = misplaced_item word
+plain_item chores.Talk word = misplaced_item word
 plain_item chores.Strict word = checked word (check_named word)
 plain_item _ word = Ok (items.Word word)
 
@@ -158,7 +166,7 @@ plain_items chore those = all_said (map (plain_item chore) those)
 -- ---- all of it
 
 abbrev pub unsaid : Said
-unsaid = record { dot = false; journal = named.Unnamed; on = None; into = None; limit = None; rules = None; checks = []; words = [] }
+unsaid = record { dot = false; journal = named.Unnamed; on = None; into = None; limit = None; rules = None; allow = None; checks = []; words = [] }
 
 -- the journal that is named where a file is named too, or a store: the first two words that exclude each other stay
 abbrev pub with_file : Named → List ℕ → Named
@@ -182,6 +190,7 @@ with_item said (items.On day) = record said { on = Some day }
 with_item said (items.Into account) = record said { into = Some account }
 with_item said (items.Limit limit) = record said { limit = Some limit }
 with_item said (items.Rules name) = record said { rules = Some name }
+with_item said (items.Allow allow) = record said { allow = Some allow }
 with_item said (items.Check check) = record said { checks = said.checks ++ check ∷ [] }
 with_item said (items.Word word) = record said { words = said.words ++ word ∷ [] }
 

@@ -1,7 +1,6 @@
--- What the words of commands over a store ask for.
-use Rattle.std.specs.Prelude.{ℕ, List, [], ◌∷◌, ◌++◌, codes, Option, Some, None, Result, Ok, Err, if◌then◌else◌}
+-- What the words of commands over a store ask for: those that are no options name it.
+use Rattle.std.specs.Prelude.{ℕ, List, [], ◌∷◌, ◌++◌, codes, Option, Some, None, Result, Ok, Err}
 use Rattle.book_commands.specs.declared.work.Work.TheVariants as works
-use Rattle.report_options.specs.Items.{is_end, is_option}
 use Rattle.command_words.specs.Limits.{most_limit}
 use Rattle.command_words.specs.Usage.{misplaced, missing}
 use Rattle.command_words.specs.declared.task.Origin.{Origin}
@@ -22,26 +21,10 @@ abbrev pub name_alone : List ℕ → List (List ℕ) → Result (List ℕ) Usage
 name_alone name [] = Ok name
 name_alone name (next ∷ rest) = misplaced_name next
 
--- or none but one that ends the options
-abbrev pub name_before : List ℕ → List (List ℕ) → Result (List ℕ) UsageFault
-name_before name [] = Ok name
-name_before name (next ∷ rest) = if is_end next then name_alone name rest else misplaced_name next
-
--- one name that is read as no option
+-- the one name that some words are
 abbrev pub plain_name : List (List ℕ) → Result (List ℕ) UsageFault
 plain_name [] = missing_name
 plain_name (name ∷ rest) = name_alone name rest
-
-abbrev pub name_from : List ℕ → List (List ℕ) → Result (List ℕ) UsageFault
-name_from word rest =
-    if is_end word then plain_name rest
-    else if is_option word then misplaced_name word
-    else name_before word rest
-
--- The one name that some words are; behind `--` no word is an option. The first word that has no place is told.
-abbrev pub one_name : List (List ℕ) → Result (List ℕ) UsageFault
-one_name [] = missing_name
-one_name (word ∷ rest) = name_from word rest
 
 -- the text of the store of a name
 abbrev pub export : List ℕ → Task
@@ -52,9 +35,9 @@ export_of (Ok name) = Ok (export name)
 export_of (Err fault) = Err fault
 
 abbrev pub export_task : List (List ℕ) → Result Task UsageFault
-export_task words = export_of (one_name words)
+export_task words = export_of (plain_name words)
 
--- ---- stores that are made or edited: the words that are no options name them
+-- ---- stores that are made or edited
 
 -- the limit of a store where none is given
 abbrev pub limit_or_default : Option ℕ → ℕ
@@ -102,3 +85,27 @@ import_of store rules (Err fault) = Err fault
 abbrev pub import_task : Option (List ℕ) → List (List ℕ) → Result Task UsageFault
 import_task rules [] = missing
 import_task rules (store ∷ words) = import_of store rules (plain_name words)
+
+-- ---- frames
+
+-- the frames of a store
+abbrev pub feeding : List ℕ → Task
+feeding store = task.Stored (stored.Feed store)
+
+abbrev pub feeding_of : Result (List ℕ) UsageFault → Result Task UsageFault
+feeding_of (Ok store) = Ok (feeding store)
+feeding_of (Err fault) = Err fault
+
+abbrev pub feed_task : List (List ℕ) → Result Task UsageFault
+feed_task words = feeding_of (plain_name words)
+
+-- a replica that follows
+abbrev pub following : Option ℕ → List ℕ → Task
+following limit replica = task.Stored (stored.Follow (record { replica = replica; limit = limit_or_default limit }))
+
+abbrev pub following_of : Option ℕ → Result (List ℕ) UsageFault → Result Task UsageFault
+following_of limit (Ok replica) = Ok (following limit replica)
+following_of limit (Err fault) = Err fault
+
+abbrev pub follow_task : Option ℕ → List (List ℕ) → Result Task UsageFault
+follow_task limit words = following_of limit (plain_name words)

@@ -4,6 +4,7 @@ ghost use Rattle.std.specs.Str.{bytes_eq};
 ghost use Rattle.command_words.specs.Chores as spec;
 
 use book_care::Check;
+use desk::Allow;
 
 /// A command over a text or a store that is no report.
 #[derive(Clone, Copy)]
@@ -20,6 +21,16 @@ pub(crate) enum Chore {
     Add,
     /// A file of a bank into a store.
     Import,
+    /// A connection over the input and the output.
+    Talk,
+    /// A sample.
+    Sample,
+    /// The text of a store.
+    Export,
+    /// The frames of a store.
+    Feed,
+    /// A replica that follows frames.
+    Follow,
 }
 
 /// An option of these commands.
@@ -32,6 +43,7 @@ pub(crate) enum Name {
     Into,
     Limit,
     Rules,
+    Allow,
 }
 
 fn is_same(a: &[u8], b: &[u8]) -> bool
@@ -57,6 +69,16 @@ pub(crate) fn chore_named(word: &[u8]) -> Option<Chore>
         Some(Chore::Add)
     } else if is_same(word, b"import") {
         Some(Chore::Import)
+    } else if is_same(word, b"talk") {
+        Some(Chore::Talk)
+    } else if is_same(word, b"sample") {
+        Some(Chore::Sample)
+    } else if is_same(word, b"export") {
+        Some(Chore::Export)
+    } else if is_same(word, b"feed") {
+        Some(Chore::Feed)
+    } else if is_same(word, b"follow") {
+        Some(Chore::Follow)
     } else {
         None
     }
@@ -82,6 +104,22 @@ pub(crate) fn check_named(word: &[u8]) -> Option<Check>
     }
 }
 
+/// What requests may do, as a word says it.
+#[tactic(auto, unfolding(crate::specs::Chores::allow_named))]
+pub(crate) fn allow_named(word: &[u8]) -> Option<Allow>
+    ensures { result ≡ spec.allow_named word.now }
+{
+    if is_same(word, b"view") {
+        Some(Allow::View)
+    } else if is_same(word, b"add") {
+        Some(Allow::Add)
+    } else if is_same(word, b"edit") {
+        Some(Allow::Edit)
+    } else {
+        None
+    }
+}
+
 /// The option that a word names, without a value behind `=`.
 #[tactic(auto, unfolding(crate::specs::Chores::name_of))]
 pub(crate) fn name_of(word: &[u8]) -> Option<Name>
@@ -101,6 +139,8 @@ pub(crate) fn name_of(word: &[u8]) -> Option<Name>
         Some(Name::Limit)
     } else if is_same(word, b"--rules") {
         Some(Name::Rules)
+    } else if is_same(word, b"--allow") {
+        Some(Name::Allow)
     } else {
         None
     }
@@ -112,7 +152,13 @@ pub(crate) fn takes_value(name: Name) -> bool
 {
     match name {
         Name::Dot => false,
-        Name::File | Name::Store | Name::On | Name::Into | Name::Limit | Name::Rules => true,
+        Name::File
+        | Name::Store
+        | Name::On
+        | Name::Into
+        | Name::Limit
+        | Name::Rules
+        | Name::Allow => true,
     }
 }
 
@@ -121,11 +167,15 @@ pub(crate) fn has_option(chore: Chore, name: Name) -> bool
     ensures { result ≡ spec.has_option chore name }
 {
     match name {
-        Name::File => !matches!(chore, Chore::Add | Chore::Import),
+        Name::File => matches!(
+            chore,
+            Chore::Hours | Chore::Strict | Chore::Close | Chore::Init | Chore::Talk
+        ),
         Name::Dot => matches!(chore, Chore::Hours),
-        Name::Store => matches!(chore, Chore::Strict | Chore::Close),
+        Name::Store => matches!(chore, Chore::Strict | Chore::Close | Chore::Talk),
         Name::On | Name::Into => matches!(chore, Chore::Close),
-        Name::Limit => matches!(chore, Chore::Init),
+        Name::Limit => matches!(chore, Chore::Init | Chore::Follow),
         Name::Rules => matches!(chore, Chore::Import),
+        Name::Allow => matches!(chore, Chore::Talk),
     }
 }

@@ -3,13 +3,15 @@
 
 mod chore_tasks;
 mod chores;
+mod items;
 mod limit;
 mod said;
 mod store_words;
+mod talk_words;
 mod task;
 mod usage;
 mod words;
 
-pub use task::{Importing, Making, Origin, StoreTask, Task, TextTask};
+pub use task::{Following, Importing, Making, Origin, StoreTask, Talking, Task, TextTask};
 pub use usage::UsageFault;
 pub use words::{read_words, refuse_words};

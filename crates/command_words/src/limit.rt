@@ -1,5 +1,5 @@
-//! The limit of a store, as a word writes it.
-ghost use Rattle.std.specs.Prelude.{◌≡◌, true, min};
+//! Numbers as words write them, and the limit of a store.
+ghost use Rattle.std.specs.Prelude.{◌≡◌, ◌≤◌, true, min, IfSome};
 ghost use Rattle.std.specs.List.{list_all};
 ghost use Rattle.std.specs.Str.Parse.{digits_value};
 ghost use Rattle.hl_num.specs.Reading.{is_digit};
@@ -34,12 +34,25 @@ fn digits_number(text: &[u8]) -> u64
     value
 }
 
-/// A number that a limit may be.
-fn limit_within(number: u64) -> Option<u64>
-    ensures { result ≡ spec.limit_within number }
+/// A number from 1 to a greatest one.
+fn number_within(greatest: u64, number: u64) -> Option<u64>
+    ensures value { result ≡ spec.number_within greatest number }
+    ensures bound { IfSome result (λ n. n ≤ greatest) }
 {
-    if 1 <= number && number <= MOST_LIMIT {
+    if 1 <= number && number <= greatest {
         Some(number)
+    } else {
+        None
+    }
+}
+
+/// The number that a text writes: digits, from 1 to a greatest one.
+pub(crate) fn number_of(greatest: u64, text: &[u8]) -> Option<u64>
+    ensures value { result ≡ spec.number_in greatest text.now }
+    ensures bound { IfSome result (λ n. n ≤ greatest) }
+{
+    if are_digits(text) {
+        number_within(greatest, digits_number(text))
     } else {
         None
     }
@@ -49,9 +62,5 @@ fn limit_within(number: u64) -> Option<u64>
 pub(crate) fn limit_of(text: &[u8]) -> Option<u64>
     ensures { result ≡ spec.limit_in text.now }
 {
-    if are_digits(text) {
-        limit_within(digits_number(text))
-    } else {
-        None
-    }
+    number_of(MOST_LIMIT, text)
 }

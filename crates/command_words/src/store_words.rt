@@ -1,26 +1,17 @@
 //! The words of commands over a store.
-ghost use Rattle.std.specs.Prelude.{◌≡◌, IfOk, codes};
-ghost use Rattle.std.specs.Str.{bytes_eq};
+ghost use Rattle.std.specs.Prelude.{◌≡◌, IfOk};
 ghost use Rattle.hl_base.specs.Gives.{Gives};
 ghost use Rattle.command_words.specs.Commands.{IsReadable};
 ghost use Rattle.command_words.specs.StoreWords as spec;
 ghost use Rattle.command_words.specs.Usage.{usage_cause};
 
 use crate::limit::MOST_LIMIT;
-use crate::said::{is_end, is_option};
-use crate::task::{Importing, Making, Origin, StoreTask, Task, TextTask};
+use crate::task::{Following, Importing, Making, Origin, StoreTask, Task, TextTask};
 use crate::usage::UsageFault;
 use book_commands::Work;
 use hl_base::{Memory, Text};
 use report_commands::WordsFault;
 use std::alloc::Global;
-
-/// Whether a word asks for the text of a store.
-pub(crate) fn is_export(word: &Text) -> bool
-    ensures { result ≡ bytes_eq word.now (codes "export") }
-{
-    word.as_bytes() == b"export".as_slice()
-}
 
 /// The fault of a word that has no place.
 fn misplaced(alloc: Global, word: &Text) -> Result<Text, UsageFault>
@@ -40,52 +31,13 @@ fn name_alone(alloc: Global, name: &Text, rest: &[Text]) -> Result<Text, UsageFa
     }
 }
 
-/// A name with no word behind it but one that ends the options.
-fn name_before(alloc: Global, name: &Text, rest: &[Text]) -> Result<Text, UsageFault>
-    ensures { Gives (λ name. name) usage_cause result (spec.name_before name.now rest.now) }
-{
-    match rest {
-        [] => Ok(Text::copied(alloc, name.as_str())?),
-        [next, later @ ..] => {
-            if is_end(next) {
-                name_alone(alloc, name, later)
-            } else {
-                misplaced(alloc, next)
-            }
-        }
-    }
-}
-
-/// The one name that some words are, none of which is an option.
+/// The one name that some words are.
 fn plain_name(alloc: Global, words: &[Text]) -> Result<Text, UsageFault>
     ensures { Gives (λ name. name) usage_cause result (spec.plain_name words.now) }
 {
     match words {
         [] => Err(UsageFault::Missing),
         [name, rest @ ..] => name_alone(alloc, name, rest),
-    }
-}
-
-/// The one name that a word and those behind it are.
-fn name_from(alloc: Global, word: &Text, rest: &[Text]) -> Result<Text, UsageFault>
-    ensures { Gives (λ name. name) usage_cause result (spec.name_from word.now rest.now) }
-{
-    if is_end(word) {
-        plain_name(alloc, rest)
-    } else if is_option(word) {
-        misplaced(alloc, word)
-    } else {
-        name_before(alloc, word, rest)
-    }
-}
-
-/// The one name that some words are.
-fn one_name(alloc: Global, words: &[Text]) -> Result<Text, UsageFault>
-    ensures { Gives (λ name. name) usage_cause result (spec.one_name words.now) }
-{
-    match words {
-        [] => Err(UsageFault::Missing),
-        [word, rest @ ..] => name_from(alloc, word, rest),
     }
 }
 
@@ -104,7 +56,7 @@ pub(crate) fn export_task(alloc: Global, words: &[Text]) -> Result<Task, UsageFa
     ensures answer { Gives (λ task. task) usage_cause result (spec.export_task words.now) }
     ensures valid { IfOk result IsReadable }
 {
-    let name = one_name(alloc, words)?;
+    let name = plain_name(alloc, words)?;
     Ok(export(name))
 }
 
@@ -219,4 +171,43 @@ pub(crate) fn import_task(
         [] => Err(UsageFault::Missing),
         [store, rest @ ..] => import_into(alloc, store, rules, rest),
     }
+}
+
+/// The frames of the store of this name.
+fn feeding(store: Text) -> Task
+    ensures task { result ≡ spec.feeding store }
+    ensures valid { IsReadable result }
+{
+    Task::Stored(StoreTask::Feed(store))
+}
+
+/// The frames of the store that the words name.
+pub(crate) fn feed_task(alloc: Global, words: &[Text]) -> Result<Task, UsageFault>
+    ensures answer { Gives (λ task. task) usage_cause result (spec.feed_task words.now) }
+    ensures valid { IfOk result IsReadable }
+{
+    let store = plain_name(alloc, words)?;
+    Ok(feeding(store))
+}
+
+/// The replica of this name, which is to follow.
+fn following(replica: Text, limit: Option<u64>) -> Task
+    ensures task { result ≡ spec.following limit replica }
+    ensures valid { IsReadable result }
+{
+    let limit = limit_or_default(limit);
+    Task::Stored(StoreTask::Follow(Following { replica, limit }))
+}
+
+/// The replica that the words name, which is to follow.
+pub(crate) fn follow_task(
+    alloc: Global,
+    limit: Option<u64>,
+    words: &[Text],
+) -> Result<Task, UsageFault>
+    ensures answer { Gives (λ task. task) usage_cause result (spec.follow_task limit words.now) }
+    ensures valid { IfOk result IsReadable }
+{
+    let replica = plain_name(alloc, words)?;
+    Ok(following(replica, limit))
 }

@@ -1,6 +1,7 @@
 //! What the words of the program ask for.
 
 use book_commands::Work;
+use desk::Allow;
 use hl_base::Text;
 
 /// Where a text is.
@@ -45,7 +46,16 @@ pub struct Importing {
     pub rules: Text,
 }
 
-/// What is asked of a store that changes.
+/// A replica that is to follow the frames of a store, which are the input.
+#[derive(Drop)]
+pub struct Following {
+    /// Its name.
+    pub replica: Text,
+    /// The most bytes of each of its files, where it is made.
+    pub limit: u64,
+}
+
+/// What is asked of a store.
 #[derive(Drop)]
 pub enum StoreTask {
     /// That it is made.
@@ -54,6 +64,19 @@ pub enum StoreTask {
     Add(Text),
     /// An import.
     Import(Importing),
+    /// The frames of the store of this name.
+    Feed(Text),
+    /// That a replica follows.
+    Follow(Following),
+}
+
+/// A connection over the input and the output.
+#[derive(Drop)]
+pub struct Talking {
+    /// Where its journal is: in a store, or in memory, where it begins as the text of a file or empty.
+    pub origin: Origin,
+    /// What its requests may do.
+    pub allow: Allow,
 }
 
 /// What the words ask for.
@@ -64,7 +87,9 @@ pub enum Task {
     /// A store that is made, or an edit of one.
     Stored(StoreTask),
     /// A connection over the input and the output.
-    Talk,
+    Talk(Talking),
+    /// A sample of so many entries, at most 100,000.
+    Sample(u64),
     /// The commands.
     Help,
     /// The program's version.

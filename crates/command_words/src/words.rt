@@ -14,7 +14,7 @@ ghost use Rattle.command_words.specs.declared.usage.UsageFault.TheVariants as us
 
 use crate::chore_tasks::{chore_task, file_origin, store_origin};
 use crate::chores::chore_named;
-use crate::store_words::{export_task, is_export};
+use crate::talk_words::task_alone;
 use crate::task::{Origin, Task, TextTask};
 use crate::usage::UsageFault;
 use book_commands::Work;
@@ -26,29 +26,12 @@ use report_commands::{Asked, WordsFault};
 use report_options::Given;
 use std::alloc::Global;
 
-/// What is asked for by a word after which no other has a place yet.
-fn task_alone(alloc: Global, task: Task, rest: &[Text]) -> Result<Task, UsageFault>
-    requires { spec.IsReadable task }
-    ensures answer { Gives (λ task. task) usage_cause result (spec.task_alone task rest.now) }
-    ensures valid { IfOk result spec.IsReadable }
-{
-    match rest {
-        [] => Ok(task),
-        [next, ..] => {
-            let word = Text::copied(alloc, next.as_str())?;
-            Err(UsageFault::Words(WordsFault::BadOption { word }))
-        }
-    }
-}
-
 /// What a word asks for that isn't asked of a text.
 fn task_named(word: &Text) -> Option<Task>
     ensures task { result ≡ spec.task_named word.now }
     ensures valid { IfSome result spec.IsReadable }
 {
-    if word.as_bytes() == b"talk".as_slice() {
-        Some(Task::Talk)
-    } else if word.as_bytes() == b"--help".as_slice() {
+    if word.as_bytes() == b"--help".as_slice() {
         Some(Task::Help)
     } else if word.as_bytes() == b"--version".as_slice() {
         Some(Task::Version)
@@ -93,7 +76,7 @@ fn report_task(alloc: Global, words: &[Text], day: Day) -> Result<Task, UsageFau
     Ok(report_given(given, asked))
 }
 
-/// What is asked of a text: by a command that is no report, or a report.
+/// What a command asks for that is no report, or a report.
 fn text_words(
     alloc: Global,
     word: &Text,
@@ -113,28 +96,8 @@ fn text_words(
     }
 }
 
-/// What is asked of a store alone, or of a text.
-fn store_or_text(
-    alloc: Global,
-    word: &Text,
-    rest: &[Text],
-    words: &[Text],
-    day: Day,
-) -> Result<Task, UsageFault>
-    requires day { IsDay day.0 }
-    requires all { words.now ≡ word.now ∷ rest.now }
-    ensures answer { Gives (λ task. task) usage_cause result
-        (spec.store_or_text (bytes_eq word.now (codes "export")) day.0 word.now rest.now) }
-    ensures valid { IfOk result spec.IsReadable }
-{
-    if is_export(word) {
-        export_task(alloc, rest)
-    } else {
-        text_words(alloc, word, rest, words, day)
-    }
-}
-
-/// What the words ask for on a day: something of a text, a connection, or what the program says of itself.
+/// What the words ask for on a day: something of a text or of a store, a connection, a sample, or what the program says of
+/// itself.
 pub fn read_words(alloc: Global, words: &[Text], day: Day) -> Result<Task, UsageFault>
     requires { IsDay day.0 }
     ensures answer { Gives (λ task. task) usage_cause result (spec.task_of day.0 words.now) }
@@ -146,7 +109,7 @@ pub fn read_words(alloc: Global, words: &[Text], day: Day) -> Result<Task, Usage
         })),
         [word, rest @ ..] => match task_named(word) {
             Some(task) => task_alone(alloc, task, rest),
-            None => store_or_text(alloc, word, rest, words, day),
+            None => text_words(alloc, word, rest, words, day),
         },
     }
 }
