@@ -1,0 +1,6 @@
+mod Connecting
+mod Faults
+mod Leading
+mod Making
+mod Sound
+mod Standing

@@ -1,0 +1,4 @@
+pub mod Histories
+pub mod Links
+pub mod Memory
+pub mod Stores
