@@ -11,7 +11,7 @@ use Rattle.book.specs.declared.transaction.Mark.{Mark}
 use Rattle.book.specs.declared.transaction.Mark.TheVariants.{Unmarked}
 use Rattle.book.specs.declared.transaction.Side.{Side}
 use Rattle.book.specs.declared.transaction.Side.TheVariants.{Real}
-use Rattle.entry_reader.specs.Accounts.{account_len, account_at}
+use Rattle.entry_reader.specs.Accounts.{account_alone, account_at, account_len}
 use Rattle.entry_reader.specs.Causes.{◌>>=◌}
 use Rattle.entry_reader.specs.Comments.{is_comment}
 use Rattle.entry_reader.specs.Contexts.{Context, context_of}
@@ -59,6 +59,14 @@ begins_plain context name content = not (is_comment content) && is_plain name (n
 abbrev pub in_posting : List ℕ → List ℕ
 in_posting name = codes "    " ++ name ++ codes "  "
 
+abbrev pub is_account : Result (Side × List ℕ) Fault → Bool
+is_account (Ok account) = true
+is_account (Err fault) = false
+
+-- all of a name is the text of an account; one with two spaces in it, which an alias may make, is not
+abbrev pub stands_whole : List ℕ → Bool
+stands_whole name = is_account (account_alone name)
+
 -- a name that is written as the account of a real posting reads back as that account
 abbrev pub reads_back : Context → List ℕ → Bool
-reads_back context name = begins_plain context name (in_posting name)
+reads_back context name = stands_whole name && begins_plain context name (in_posting name)

@@ -7,7 +7,7 @@ ghost use Rattle.entry_reader.specs.Causes.{cause_in};
 ghost use Rattle.book_care.specs.Reads as spec;
 
 use book::{Mark, Side};
-use entry_reader::account::{cut_account, read_account_in};
+use entry_reader::account::{cut_account, read_account, read_account_in};
 use entry_reader::comment::is_comment;
 use entry_reader::head::read_mark;
 use entry_reader::scan::after_white;
@@ -95,10 +95,24 @@ fn begins_plain(
     }
 }
 
+/// Whether all of a name is the text of an account.
+fn stands_whole(alloc: Global, name: &Text) -> Result<bool, Memory>
+    ensures { IfOk result (λ whole. whole ≡ spec.stands_whole name.now) }
+{
+    match read_account(alloc, bytes_of(name.as_str())) {
+        Ok(_account) => Ok(true),
+        Err(ReadFault::Memory) => Err(Memory),
+        Err(ReadFault::Read(_fault)) => Ok(false),
+    }
+}
+
 /// Whether a name that is written as the account of a real posting reads back as that account.
 pub(crate) fn reads_back(alloc: Global, context: &Context, name: &Text) -> Result<bool, Memory>
     ensures { IfOk result (λ back. back ≡ spec.reads_back context.now name.now) }
 {
+    if !stands_whole(alloc, name)? {
+        return Ok(false);
+    }
     let line = in_posting(alloc, name)?;
     begins_plain(alloc, context, name, bytes_of(line.as_str()))
 }
