@@ -12,6 +12,7 @@ use Rattle.query_terms.specs.Finders.{known_in}
 use Rattle.query_terms.specs.Patterns.{Known}
 use Rattle.query_terms.specs.Sought.{known_of}
 use Rattle.query_terms.specs.declared.kinds.Term.{Term}
+use Rattle.generated.specs.Alone.{are_of_accounts}
 use Rattle.generated.specs.Asking.{Answers, Asks, asked_of}
 use Rattle.generated.specs.declared.asking.Asker.{Asker}
 
@@ -23,14 +24,15 @@ answered asker types posting txn so =
     ∙ so.means types posting txn
 
 -- after it was asked
-pub still : (old new : Asker) → Answers old → new.query.now ≡ old.query.now → new.rule.now ≡ old.rule.now
+pub still : (old new : Asker) → Answers old → new.query.now ≡ old.query.now → new.rule.now ≡ old.rule.now → new.alone ≡ old.alone
     → known_in new.search.finder ≡ known_in old.search.finder → new.search.terms.now ≡ old.search.terms.now → Asks old new
-still old new so query rule known terms = record {
+still old new so query rule alone known terms = record {
   same = λ i. record { terms = (query i).terms.items; postings = (rule i).postings };
   answers = record {
     terms = terms ∙ so.terms ∙ ap (λ (q : Query). q.terms.items) (sym query);
     known = known ∙ so.known ∙ ap (λ (q : Query). known_of q.regexes.items) (sym query);
     means = λ types posting txn. subst_means types posting txn;
+    alone = λ is. ap (λ (q : Query). are_of_accounts q.terms.items) query ∙ so.alone (sym alone ∙ is);
   };
 } where
   subst_means : (types : Types) (posting : Posting) (txn : Txn) → of_posting new.query.now types posting txn ≡ terms_mean new.query.now.terms.items (own_in types) posting txn

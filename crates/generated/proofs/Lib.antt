@@ -3,6 +3,8 @@ pub mod Ones
 pub mod Stopping
 pub mod Answering
 pub mod Steps
+pub mod Alone
+pub mod Keeping
 pub mod Kept
 pub mod Ending
 pub mod Days

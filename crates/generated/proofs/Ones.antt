@@ -1,12 +1,14 @@
 -- One rule is read, or isn't.
-use Rattle.std.proofs.Common.{◌≡◌, ℕ, List, [], ◌∷◌, ◌++◌, map, Option, Result, Ok, Err, IfErr, OnOk, refl, sym, ap, ◌∙◌, subst}
+use Rattle.std.proofs.Common.{◌≡◌, ℕ, List, [], ◌∷◌, ◌++◌, map, Option, Result, Ok, Err, IfErr, IfOk, OnOk, refl, sym, ap, ◌∙◌, subst}
 use Rattle.book.specs.declared.rules.AutoRule.{AutoRule}
 use Rattle.query.specs.Made.{IsQueryOf, Makes}
 use Rattle.query.specs.declared.faults.QueryFault.{QueryFault}
+use Rattle.query.specs.declared.queries.Query.{Query}
 use Rattle.query.specs.declared.faults.QueryFault.TheVariants as query_fault
 use Rattle.query_terms.specs.Making.{Stays}
 use Rattle.generated.specs.Reading.{ReadsMore, ReadsOne, fault_at}
-use Rattle.generated.specs.Queries.{asked_by}
+use Rattle.generated.specs.Alone.{ask_accounts}
+use Rattle.generated.specs.Queries.{IsRead, asked_by}
 use Rattle.generated.specs.declared.fault.GenFault.{GenFault}
 use Rattle.generated.specs.declared.fault.GenFault.TheVariants as gen_fault
 use Rattle.generated.specs.declared.rules.RuleQuery.{RuleQuery}
@@ -27,10 +29,26 @@ module _ (day : ℕ) (rule : AutoRule) (before now : ℕ) (last_before last_now 
       (fault_by fault (subst (λ (ws : List (List ℕ)). Makes day ws before now last_before last_now (Err fault)) same makes))
 
   -- it has one
-  pub read_ok : (read : RuleQuery) (words : List (List ℕ)) → words ≡ rule.words → read.rule.now ≡ rule
-      → Makes day words before now last_before last_now (Ok read.query) → ReadsOne day rule before now last_before last_now (Ok read)
-  read_ok read words same is makes =
-      (is, (subst (λ (ws : List (List ℕ)). IsQueryOf day ws read.query) (same ∙ ap (λ (r : AutoRule). r.words) (sym is)) makes.0, makes.1))
+  pub read_ok : (read : RuleQuery) (query : Query) (words : List (List ℕ)) → words ≡ rule.words → read.rule.now ≡ rule → read.query ≡ query
+      → read.alone ≡ ask_accounts day rule.words
+      → Makes day words before now last_before last_now (Ok query) → ReadsOne day rule before now last_before last_now (Ok read)
+  read_ok read query words same is of alone makes =
+      let own = ap (λ (r : AutoRule). r.words) (sym is) in
+      let one : IsRead day read = record {
+        query = subst (λ (q : Query). IsQueryOf day read.rule.now.words q) (sym of)
+            (subst (λ (ws : List (List ℕ)). IsQueryOf day ws query) (same ∙ own) makes.0);
+        alone = alone ∙ ap (ask_accounts day) own;
+      } in
+      (is, (one, makes.1))
+
+  -- or there is no memory for it
+  pub kept_read : (result : Result RuleQuery GenFault) (query : Query) (words : List (List ℕ)) → words ≡ rule.words
+      → IfOk result (λ read. read.query ≡ query) → IfOk result (λ read. read.rule.now ≡ rule)
+      → IfOk result (λ read. read.alone ≡ ask_accounts day rule.words) → IfErr result (λ e. e ≡ gen_fault.Memory)
+      → Makes day words before now last_before last_now (Ok query) → ReadsOne day rule before now last_before last_now result
+  kept_read (Ok read) query words same of is alone err makes = read_ok read query words same is of alone makes
+  kept_read (Err fault) query words same of is alone err makes =
+      subst (λ (f : GenFault). ReadsOne day rule before now last_before last_now (Err f)) (sym err) makes.1
 
   module _ (old : List RuleQuery) where
     -- it has one, which is put behind others

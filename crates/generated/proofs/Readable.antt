@@ -13,10 +13,11 @@ use Rattle.query.specs.declared.account_types.Types.{Types}
 use Rattle.query.specs.declared.queries.Query.{Query}
 use Rattle.query_terms.specs.Reading.{terms_of}
 use Rattle.query_terms.specs.declared.kinds.Term.{Term}
-use Rattle.generated.specs.Asking.{AreQueries}
+use Rattle.generated.specs.Asking.{AreQueries, IsQuery}
 use Rattle.generated.specs.Queries.{AreRead, IsRead, asked_by}
 use Rattle.generated.specs.Rules.{before_rest, read_rules, read_with, with_rest}
 use Rattle.generated.specs.declared.rules.RuleQuery.{RuleQuery}
+use Rattle.generated.proofs.Alone.{words_alone}
 
 abbrev pub rule_of : RuleQuery → AutoRule
 rule_of read = read.rule.now
@@ -25,7 +26,7 @@ pub read_all : (day : ℕ) (reads : List RuleQuery) → AllByRecursion (IsRead d
     → read_rules day (map rule_of reads) ≡ Ok (map asked_by reads)
 read_all day [] h = refl
 read_all day (read ∷ reads) h =
-    ap (λ (terms : Result (List Term) (List ℕ)). with_rest (read_with read.rule.now terms) (read_rules day (map rule_of reads))) (h.0).read
+    ap (λ (terms : Result (List Term) (List ℕ)). with_rest (read_with read.rule.now terms) (read_rules day (map rule_of reads))) (h.0).query.read
     ∙ ap (before_rest (asked_by read)) (read_all day reads h.1)
 
 -- rules of which queries were made are read
@@ -38,7 +39,7 @@ fails_after : (day : ℕ) (reads : List RuleQuery) (rule : AutoRule) (later : Li
 fails_after day [] rule later word h bad =
     ap (λ (terms : Result (List Term) (List ℕ)). with_rest (read_with rule terms) (read_rules day later)) bad
 fails_after day (read ∷ reads) rule later word h bad =
-    ap (λ (terms : Result (List Term) (List ℕ)). with_rest (read_with read.rule.now terms) (read_rules day (map rule_of reads ++ rule ∷ later))) (h.0).read
+    ap (λ (terms : Result (List Term) (List ℕ)). with_rest (read_with read.rule.now terms) (read_rules day (map rule_of reads ++ rule ∷ later))) (h.0).query.read
     ∙ ap (before_rest (asked_by read)) (fails_after day reads rule later word h.1 bad)
 
 -- a rule that isn't read behind rules that are
@@ -73,4 +74,9 @@ pub are_queries : (day : ℕ) (reads : List RuleQuery)
     → AllByRecursion (IsRead day) reads → AreQueries reads
 are_queries day [] law h = h
 are_queries day (read ∷ reads) law h =
-    (record { means = λ types posting txn. law day read.rule.now.words read.query types posting txn h.0 }, are_queries day reads law h.1)
+    let is = h.0 in
+    let one : IsQuery read = record {
+      means = λ types posting txn. law day read.rule.now.words read.query types posting txn is.query;
+      alone = λ so. words_alone day read.rule.now.words read.query.terms.items is.query.read (sym is.alone ∙ so);
+    } in
+    (one, are_queries day reads law h.1)

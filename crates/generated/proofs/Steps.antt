@@ -1,5 +1,5 @@
 -- Rules that are asked one after another.
-use Rattle.std.proofs.Common.{◌≡◌, ℕ, zero, suc, ◌+◌, ◌-◌, ◌^◌, ◌<◌, ◌≤◌, min, Bool, true, false, cond, List, [], ◌∷◌, ◌++◌, append_assoc, length, map, take, set, get_or, Result, Ok, Err, OnOk, refl, sym, ap, ◌∙◌, arith}
+use Rattle.std.proofs.Common.{◌≡◌, ℕ, zero, suc, ◌+◌, ◌-◌, ◌^◌, ◌<◌, ◌≤◌, min, Bool, true, false, cond, List, [], ◌∷◌, ◌++◌, append_assoc, length, map, take, set, get_or, Result, Ok, Err, OnOk, refl, sym, ap, subst, ◌∙◌, arith}
 use Rattle.std.specs.List.{flat_map}
 use Rattle.std.proofs.lemmas.List.{append-nil, length-map, map-append, take_all, take_more}
 use Rattle.std.proofs.lemmas.Grind.{flat_map-append}
@@ -13,12 +13,21 @@ use Rattle.rule_entries.proofs.Totals.{flat_more, length_more}
 use Rattle.generated.specs.Added.{added, added_by, added_to, with_added}
 use Rattle.generated.specs.Asking.{AllAnswer, AllAsk, Answers, AreQueries, Asks, IsQuery, all_asked, asked_of}
 use Rattle.generated.specs.Queries.{asked_by}
+use Rattle.generated.specs.Remembering.{AreReady, Remembers}
 use Rattle.generated.specs.Rules.{Asked}
 use Rattle.generated.specs.declared.rules.RuleQuery.{RuleQuery}
 use Rattle.generated.specs.declared.asking.Asker.{Asker}
+use Rattle.generated.specs.declared.remembering.Remembered.{Remembered}
 
 pub ask_none : (askers : List Asker) → AllAnswer askers → AllAsk askers askers
 ask_none askers so = record { same = refl; answers = so }
+
+-- after they were asked they are ready still
+pub ready_after : (old now : List Asker) (kept : Remembered) → AreReady old kept → AllAsk old now → AreReady now kept
+ready_after old now kept so ask = record {
+  answers = ask.answers;
+  kept = subst (λ (rules : List Asked). Remembers rules kept) (sym ask.same) so.kept;
+}
 
 pub ask_then : (a b c : List Asker) → AllAsk a b → AllAsk b c → AllAsk a c
 ask_then a b c first second = record { same = second.same ∙ first.same; answers = second.answers }
@@ -61,7 +70,7 @@ module _ (old now : List Asker) (i : ℕ) (d : Asker) (so : AllAsk old now) (ins
     answers = answer_set now i new so.answers asks.answers;
   }
 
-  there : (e : Asked) → asked_of (get_or now i d) ≡ get_or (all_asked old) i e
+  pub there : (e : Asked) → asked_of (get_or now i d) ≡ get_or (all_asked old) i e
   there e = asked_get now i d e within ∙ ap (λ (xs : List Asked). get_or xs i e) so.same
 
   front : (e : Asked) → take (i + 1) (all_asked old) ≡ take i (all_asked old) ++ get_or (all_asked old) i e ∷ []

@@ -1,5 +1,5 @@
 -- The postings that automated rules add to transactions.
-use Rattle.std.specs.Prelude.{List, [], ◌∷◌, map, if◌then◌else◌}
+use Rattle.std.specs.Prelude.{Bool, List, [], ◌∷◌, map, if◌then◌else◌}
 use Rattle.std.specs.List.{flat_map}
 use Rattle.book.specs.declared.transaction.Posting.{Posting}
 use Rattle.book.specs.declared.transaction.Txn.{Txn}
@@ -9,10 +9,13 @@ use Rattle.query.specs.Words.{terms_mean}
 use Rattle.rule_entries.specs.Added.{made_posting}
 use Rattle.generated.specs.Rules.{Asked}
 
+-- what a rule adds behind a posting, where it means that
+abbrev pub added_if : Bool → Posting → Asked → List Posting
+added_if means posting rule = if means then map (made_posting posting) rule.postings else []
+
 -- what a rule adds behind a posting of a transaction: its postings, where its terms mean that one
 abbrev pub added_by : Own → Txn → Posting → Asked → List Posting
-added_by own txn posting rule =
-    if terms_mean rule.terms own posting txn then map (made_posting posting) rule.postings else []
+added_by own txn posting rule = added_if (terms_mean rule.terms own posting txn) posting rule
 
 -- what some rules add behind a posting, in their order
 abbrev pub added : Own → List Asked → Txn → Posting → List Posting

@@ -8,3 +8,5 @@ pub mod Reading
 pub mod Added
 pub mod Auto
 pub mod Asking
+pub mod Alone
+pub mod Remembering

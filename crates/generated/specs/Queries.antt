@@ -4,14 +4,16 @@ use Rattle.std.specs.List.{AllByRecursion}
 use Rattle.book.specs.declared.rules.AutoRule.{AutoRule}
 use Rattle.query.specs.Made.{IsQueryOf}
 use Rattle.query_terms.specs.Making.{Stays}
+use Rattle.generated.specs.Alone.{ask_accounts}
 use Rattle.generated.specs.Rules.{Asked, IsRefusedRule, read_rules}
 use Rattle.generated.specs.declared.fault.GenFault.{GenFault}
 use Rattle.generated.specs.declared.fault.GenFault.TheVariants as gen_fault
 use Rattle.generated.specs.declared.rules.RuleQuery.{RuleQuery}
 
--- the query is that of the rule's words
-abbrev pub IsRead : ℕ → RuleQuery → Type 0
-IsRead day read = IsQueryOf day read.rule.now.words read.query
+-- the query is that of the rule's words, and it is told whether these ask for accounts alone
+pub record IsRead (day : ℕ) (read : RuleQuery) : Type 0 where
+  pub query : IsQueryOf day read.rule.now.words read.query
+  pub alone : read.alone ≡ ask_accounts day read.rule.now.words
 
 abbrev pub asked_by : RuleQuery → Asked
 asked_by read = record { terms = read.query.terms.items; postings = read.rule.now.postings }

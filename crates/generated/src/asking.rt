@@ -1,8 +1,9 @@
 //! Rules that are asked about postings.
 ghost use Rattle.std.specs.Prelude.{◌≡◌, ◌++◌, map, length, IfOk, OnOk};
+ghost use Rattle.generated.specs.Alone.{IsSo, IsVerdict};
 ghost use Rattle.query.specs.OwnLetters.{own_in};
 ghost use Rattle.query.specs.Words.{terms_mean};
-ghost use Rattle.generated.specs.Added.{added_by};
+ghost use Rattle.generated.specs.Added.{added_by, added_if};
 ghost use Rattle.generated.specs.Asking.{Answers, Asks, AllAnswer, AreQueries, IsQuery, all_asked, asked_of};
 ghost use Rattle.generated.specs.Queries as queries;
 ghost use Rattle.rule_entries.specs.Added as made;
@@ -21,6 +22,8 @@ pub(crate) struct Asker<'q> {
     search: Search<'q>,
     query: &'q Query,
     rule: &'q AutoRule,
+    /// Whether its words ask for accounts alone.
+    alone: bool,
 }
 
 /// A rule, ready to be asked.
@@ -34,6 +37,7 @@ fn asker_of<'q, 'i>(alloc: Global, read: &'q RuleQuery<'i>) -> Result<Asker<'q>,
         search,
         query: &read.query,
         rule: read.rule,
+        alone: read.alone,
     })
 }
 
@@ -65,14 +69,59 @@ fn asks(asker: &mut Asker<'_>, types: &Types, txn: &Txn, posting: &Posting) -> b
     asker.search.posting(posting, txn, types)
 }
 
-/// How many postings a rule adds behind a posting.
-pub(crate) fn count_one(asker: &mut Asker<'_>, types: &Types, txn: &Txn, posting: &Posting) -> u64
+/// Whether a rule means each posting of the account of one: this is known where its words ask for accounts alone.
+pub(crate) fn verdict_of(
+    asker: &mut Asker<'_>,
+    types: &Types,
+    txn: &Txn,
+    posting: &Posting,
+) -> Option<bool>
     requires { Answers asker.old }
+    ensures verdict { IsVerdict posting.now.account (asked_of asker.old) result }
+    ensures asks { Asks asker.old asker.new }
+{
+    if asker.alone {
+        Some(asks(asker, types, txn, posting))
+    } else {
+        None
+    }
+}
+
+/// Whether a rule means a posting, which may be known.
+pub(crate) fn means(
+    asker: &mut Asker<'_>,
+    known: Option<bool>,
+    types: &Types,
+    txn: &Txn,
+    posting: &Posting,
+) -> bool
+    requires answers { Answers asker.old }
+    requires known { IsSo (own_in types.now) txn.now posting.now (asked_of asker.old) known }
+    ensures found { result
+        ≡ terms_mean (asked_of asker.old).terms (own_in types.now) posting.now txn.now }
+    ensures asks { Asks asker.old asker.new }
+{
+    match known {
+        Some(means) => means,
+        None => asks(asker, types, txn, posting),
+    }
+}
+
+/// How many postings a rule adds behind a posting.
+pub(crate) fn count_one(
+    asker: &mut Asker<'_>,
+    known: Option<bool>,
+    types: &Types,
+    txn: &Txn,
+    posting: &Posting,
+) -> u64
+    requires answers { Answers asker.old }
+    requires known { IsSo (own_in types.now) txn.now posting.now (asked_of asker.old) known }
     ensures count { result
         ≡ told (length (added_by (own_in types.now) txn.now posting.now (asked_of asker.old))) }
     ensures asks { Asks asker.old asker.new }
 {
-    if asks(asker, types, txn, posting) {
+    if means(asker, known, types, txn, posting) {
         let count = asker.rule.postings.len();
         count as u64
     } else {
@@ -96,21 +145,18 @@ fn push_made(
     Ok(())
 }
 
-/// Puts what a rule adds behind a posting.
-pub(crate) fn add_one(
+/// Puts what a rule adds behind a posting, where it means that.
+pub(crate) fn add_if(
     alloc: Global,
-    asker: &mut Asker<'_>,
-    types: &Types,
-    txn: &Txn,
+    means: bool,
+    asker: &Asker<'_>,
     posting: &Posting,
     postings: &mut Vec<Posting>,
 ) -> Result<(), Memory>
-    requires { Answers asker.old }
-    ensures added { OnOk result (postings.new.items ≡ postings.old.items
-        ++ added_by (own_in types.now) txn.now posting.now (asked_of asker.old)) }
-    ensures asks { OnOk result (Asks asker.old asker.new) }
+    ensures { OnOk result (postings.new.items ≡ postings.old.items
+        ++ added_if means posting.now (asked_of asker.now)) }
 {
-    if asks(asker, types, txn, posting) {
+    if means {
         push_made(alloc, postings, posting, asker.rule.postings.as_slice())
     } else {
         Ok(())

@@ -10,11 +10,13 @@ ghost use Rattle.generated.specs.Auto as spec;
 ghost use Rattle.generated.specs.Judged as judging;
 ghost use Rattle.generated.specs.Refusals.{cause_of};
 ghost use Rattle.generated.specs.Queries as queries;
+ghost use Rattle.generated.specs.Remembering.{AreReady};
 
 use crate::adding::{all_with_added, count_added};
 use crate::asking::{Asker, askers_of};
 use crate::fault::{GenFault, too_many};
 use crate::judging::{judged, place_all};
+use crate::remembering::{Accounts, Remembered, remember_all};
 use crate::rules::{RuleQuery, read_rules};
 use book::{Book, Items, Placed, Txn};
 use hl_base::Memory;
@@ -85,7 +87,8 @@ fn ask_with(
     }
 }
 
-/// The book of some transactions with what rules that are asked add to them.
+/// The book of some transactions with what rules that are asked add to them. What asks for accounts alone is asked once an
+/// account.
 fn ask_all(
     alloc: Global,
     types: &Types,
@@ -96,25 +99,58 @@ fn ask_all(
     ensures { Gives (λ book. book) cause_of result
         (spec.book_with (own_in types.now) (all_asked askers.old) txns.now) }
 {
-    match posting_excess(count_added(askers, types, txns)) {
+    match remember_all(alloc, askers, types, txns) {
+        Ok(kept) => ask_kept(alloc, types, &kept, txns, askers),
+        Err(Memory) => Err(GenFault::Memory),
+    }
+}
+
+/// The same with what is remembered of accounts.
+fn ask_kept(
+    alloc: Global,
+    types: &Types,
+    kept: &Remembered,
+    txns: &[Txn],
+    askers: &mut [Asker<'_>],
+) -> Result<Book, GenFault>
+    requires { AreReady askers.old kept.now }
+    ensures { Gives (λ book. book) cause_of result
+        (spec.book_with (own_in types.now) (all_asked askers.old) txns.now) }
+{
+    let accounts = Accounts { types, kept };
+    ask_ready(alloc, &accounts, txns, askers)
+}
+
+/// The same, unless it is too much.
+fn ask_ready(
+    alloc: Global,
+    accounts: &Accounts<'_>,
+    txns: &[Txn],
+    askers: &mut [Asker<'_>],
+) -> Result<Book, GenFault>
+    requires { AreReady askers.old accounts.now.kept.now }
+    ensures { Gives (λ book. book) cause_of result
+        (spec.book_with (own_in accounts.now.types.now) (all_asked askers.old) txns.now) }
+{
+    match posting_excess(count_added(askers, accounts, txns)) {
         Some(excess) => Err(too_many(excess)),
-        None => add_all(alloc, types, txns, askers),
+        None => add_all(alloc, accounts, txns, askers),
     }
 }
 
 /// The same where that isn't too much.
 fn add_all(
     alloc: Global,
-    types: &Types,
+    accounts: &Accounts<'_>,
     txns: &[Txn],
     askers: &mut [Asker<'_>],
 ) -> Result<Book, GenFault>
-    requires { AllAnswer askers.old }
+    requires { AreReady askers.old accounts.now.kept.now }
     ensures { Gives (λ book. book) cause_of result
         (judging.told_book (judging.judged
-        (map (added.with_added (own_in types.now) (all_asked askers.old)) txns.now))) }
+        (map (added.with_added (own_in accounts.now.types.now) (all_asked askers.old)) txns.now))) }
 {
-    match added_items(alloc, types, txns, askers) {
+    match added_items(alloc, accounts, txns, askers) {
         Ok(placed) => judged(alloc, placed),
         Err(Memory) => Err(GenFault::Memory),
     }
@@ -123,16 +159,16 @@ fn add_all(
 /// Some transactions with what rules add to them, as items.
 fn added_items(
     alloc: Global,
-    types: &Types,
+    accounts: &Accounts<'_>,
     txns: &[Txn],
     askers: &mut [Asker<'_>],
 ) -> Result<Vec<Placed>, Memory>
-    requires { AllAnswer askers.old }
+    requires { AreReady askers.old accounts.now.kept.now }
     ensures { IfOk result (λ placed. txns_of placed.items
-        ≡ map (added.with_added (own_in types.now) (all_asked askers.old)) txns.now) }
+        ≡ map (added.with_added (own_in accounts.now.types.now) (all_asked askers.old)) txns.now) }
 {
     let mut placed = Vec::new(alloc);
-    let txns = all_with_added(alloc, askers, types, txns)?;
+    let txns = all_with_added(alloc, askers, accounts, txns)?;
     place_all(&mut placed, txns)?;
     Ok(placed)
 }

@@ -8,6 +8,7 @@ pub mod fault;
 mod judging;
 mod laws;
 pub mod periodic;
+mod remembering;
 mod rules;
 pub mod window;
 

@@ -7,6 +7,7 @@ use Rattle.generated.proofs.adding.add_behind.Given as goal
 
 abbrev pub invariant-loop-asker : goal.invariant-loop-asker
 invariant-loop-asker l = record {
-  added : l.postings.items ≡ l.fn.postings.items ++ flat_map (added_by (own_in l.types) l.txn l.posting) (take l.asker-index (all_asked l.fn.askers));
+  at : l.at ≡ l.asker-index;
+  added : l.postings.items ≡ l.fn.postings.items ++ flat_map (added_by (own_in l.accounts.types.now) l.txn l.posting) (take l.asker-index (all_asked l.fn.askers));
   ask : AllAsk l.fn.askers l.askers;
 }

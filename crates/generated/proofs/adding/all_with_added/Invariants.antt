@@ -6,6 +6,6 @@ use Rattle.generated.proofs.adding.all_with_added.Given as goal
 
 abbrev pub invariant-loop-txn : goal.invariant-loop-txn
 invariant-loop-txn l = record {
-  made : l.made.items ≡ map (with_added (own_in l.types) (all_asked l.fn.askers)) (take l.txn-index l.txns);
+  made : l.made.items ≡ map (with_added (own_in l.accounts.types.now) (all_asked l.fn.askers)) (take l.txn-index l.txns);
   ask : AllAsk l.fn.askers l.askers;
 }

@@ -8,6 +8,6 @@ use Rattle.generated.proofs.adding.count_added.Given as goal
 
 abbrev pub invariant-loop-txn : goal.invariant-loop-txn
 invariant-loop-txn l = record {
-  count : l.count ≡ told (length (flat_map (added_to (own_in l.types) (all_asked l.fn.askers)) (take l.txn-index l.txns)));
+  count : l.count ≡ told (length (flat_map (added_to (own_in l.accounts.types.now) (all_asked l.fn.askers)) (take l.txn-index l.txns)));
   ask : AllAsk l.fn.askers l.askers;
 }

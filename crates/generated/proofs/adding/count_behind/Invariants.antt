@@ -8,6 +8,7 @@ use Rattle.generated.proofs.adding.count_behind.Given as goal
 
 abbrev pub invariant-loop-asker : goal.invariant-loop-asker
 invariant-loop-asker l = record {
-  count : l.count ≡ told (length (flat_map (added_by (own_in l.types) l.txn l.posting) (take l.asker-index (all_asked l.fn.askers))));
+  at : l.at ≡ l.asker-index;
+  count : l.count ≡ told (length (flat_map (added_by (own_in l.accounts.types.now) l.txn l.posting) (take l.asker-index (all_asked l.fn.askers))));
   ask : AllAsk l.fn.askers l.askers;
 }

@@ -8,6 +8,6 @@ use Rattle.generated.proofs.adding.count_in.Given as goal
 
 abbrev pub invariant-loop-posting : goal.invariant-loop-posting
 invariant-loop-posting l = record {
-  count : l.count ≡ told (length (flat_map (added (own_in l.types) (all_asked l.fn.askers) l.txn) (take l.posting-index l.posting-items)));
+  count : l.count ≡ told (length (flat_map (added (own_in l.accounts.types.now) (all_asked l.fn.askers) l.txn) (take l.posting-index l.posting-items)));
   ask : AllAsk l.fn.askers l.askers;
 }

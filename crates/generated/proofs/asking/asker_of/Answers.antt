@@ -8,5 +8,6 @@ returns c = record {
     terms = c.in_ok-search.ensures.terms;
     known = c.in_ok-search.ensures.known;
     means = c.requires.means;
+    alone = c.requires.alone;
   };
 }

@@ -1,31 +1,19 @@
-use Rattle.std.proofs.Common.{List, length, map, sym, ap, ◌∙◌}
+use Rattle.std.proofs.Common.{List, refl, sym, subst}
 use Rattle.query.specs.OwnLetters.{own_in}
-use Rattle.rule_entries.specs.Counted.{excess_over, posting_limit}
-use Rattle.generated.specs.Added.{all_added, with_added}
 use Rattle.generated.specs.Asking.{all_asked}
-use Rattle.generated.specs.Judged.{judged}
+use Rattle.generated.specs.Remembering.{Remembers}
 use Rattle.generated.specs.Rules.{Asked}
-use Rattle.generated.proofs.Ending.{judged_by, refused_by, refused_gives}
+use Rattle.generated.proofs.Ending.{letters_told}
 use Rattle.generated.proofs.auto.ask_all.Goals as goal
 
-pub add_all-requires : goal.add_all-requires
-add_all-requires c = c.count_added.ensures.ask.answers
+pub ask_kept-requires : goal.ask_kept-requires
+ask_kept-requires c = record {
+  answers = c.in-Ok.ensures.ask.answers;
+  kept = subst (λ (rules : List Asked). Remembers rules c.in-Ok.kept) (sym c.in-Ok.ensures.ask.same) c.in-Ok.ensures.kept;
+}
 
-pub returns-in-Some : goal.returns-in-Some
-returns-in-Some c =
+pub returns-in-Ok : goal.returns-in-Ok
+returns-in-Ok c =
     let own = own_in c.args.types.now in
-    let rules = all_asked c.args.askers.now in
-    let txns = c.args.txns.now in
-    refused_gives c.in-Some.excess c.too_many.result _ c.too_many.ensures
-    (refused_by (excess_over posting_limit (length (all_added own rules txns))) c.in-Some.excess (judged (map (with_added own rules) txns))
-    (sym (c.in-Some.ensures (length (all_added own rules txns)) c.count_added.ensures.count)))
-
-pub returns-in-None : goal.returns-in-None
-returns-in-None c =
-    let own = own_in c.args.types.now in
-    let rules = all_asked c.args.askers.now in
-    let txns = c.args.txns.now in
-    judged_by c.add_all.result (excess_over posting_limit (length (all_added own rules txns))) (map (with_added own (all_asked c.count_added.new.askers)) txns) (map (with_added own rules) txns)
-    (sym (c.posting_excess.ensures (length (all_added own rules txns)) c.count_added.ensures.count) ∙ c.in-None.is)
-    (ap (λ (rs : List Asked). map (with_added own rs) txns) c.count_added.ensures.ask.same)
-    c.add_all.ensures
+    letters_told c.ask_kept.result own own (all_asked c.remember_all.new.askers) (all_asked c.args.askers.now) c.args.txns.now (λ name. refl)
+    c.in-Ok.ensures.ask.same c.ask_kept.ensures
