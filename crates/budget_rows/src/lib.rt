@@ -1,0 +1,5 @@
+//! Rows of budgets.
+#![tactic(auto)]
+
+#[cfg(test)]
+mod budgets;
