@@ -5,14 +5,14 @@ ghost use Rattle.report_options.specs.Options.{IsValid};
 use balancing::check;
 use book::{Book, Items, Styles};
 use generated::GenFault;
-use hl_base::{Bytes, Steps, Text};
+use hl_base::{Bytes, List, Steps, Text};
 use hl_time::Day;
 use journal_reader::read_journal;
 use plan_commands::{
     PlanFault, any_year, asks_rules, plain_reports, read_program_report, read_report, report,
     request_runs,
 };
-use query::{Maker, RegexMaker};
+use query::{ListMaker, Maker, RegexMaker};
 use report_commands::{Asked, Loaded, WordsFault};
 use std::alloc::Global;
 use std::marker::Brand;
@@ -105,6 +105,9 @@ fn fault_text(alloc: Global, fault: &PlanFault) -> Result<String, Fail> {
     match fault {
         PlanFault::Words(WordsFault::BadTerm { word }) => {
             Ok(format!(in alloc; "term {}", word.as_str())?)
+        }
+        PlanFault::Words(WordsFault::PatternRefused { word }) => {
+            Ok(format!(in alloc; "pattern {}", word.as_str())?)
         }
         PlanFault::Generated(GenFault::BadTerm { line }) => {
             Ok(format!(in alloc; "rule line {line}")?)
@@ -240,4 +243,44 @@ fn faults_of_rules_have_their_lines(rt: HostRuntime) -> Result<(), Fail> {
         ("accounts d", "d\n"),
     ];
     each_over::<Brand, HostRuntime>(&rt, rt.alloc(), Blank::new(3), WRONG, &rows)
+}
+
+/// A rule whose pattern is refused, and one with a word that is no term.
+const RIVALS: &[u8] =
+    b"= f..d\n    (a)  1\n= amt:much\n    (b)  1\n2024-01-15 shop\n    d  1\n    e\n";
+
+/// Asks each row's words over that text by a maker that refuses `f..d`.
+fn each_refused<L: Ledger, R: Abort>(
+    rt: &R,
+    alloc: Global,
+    blank: Blank,
+    text: &[u8],
+    rows: &[(&str, &str)],
+) -> Result<(), Fail>
+    requires name { blank.name ≡ L.name }
+    requires parts { blank.parts ≡ L.parts }
+    requires three { blank.parts ≡ 3 }
+{
+    let mut steps = Steps::<L>::start(blank);
+    assert!(rt; text.len() < 1_000);
+    let items = items_of(alloc, text, &mut steps)?;
+    let book = book_of(alloc, items_of(alloc, text, &mut steps)?)?;
+    for (words, wanted) in rows {
+        let mut refused = Vec::new(alloc);
+        refused.push(Text::copied(alloc, "f..d")?)?;
+        let mut maker = ListMaker::new(List::from_vec(refused));
+        let found = answer(alloc, words, &items, &book, &mut maker)?;
+        assert!(rt; found.as_slice() == wanted.as_bytes(), "{words}");
+    }
+    Ok(())
+}
+
+#[test]
+fn rules_are_read_one_after_the_other(rt: HostRuntime) -> Result<(), Fail> {
+    let rows: [(&str, &str); 3] = [
+        ("accounts --auto", "rule pattern line 1"),
+        ("accounts --auto f..d", "pattern f..d"),
+        ("accounts", "d\ne\n"),
+    ];
+    each_refused::<Brand, HostRuntime>(&rt, rt.alloc(), Blank::new(3), RIVALS, &rows)
 }
