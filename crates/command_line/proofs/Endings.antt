@@ -1,5 +1,5 @@
 -- How a report ends: what was answered, and then written.
-use Rattle.std.proofs.Common.{◌≡◌, ◌≢◌, inl, inr, ℕ, ◌++◌, List, [], ◌∷◌, Option, Some, None, Result, Ok, Err, IfSome, IsSome, IsTrue, length, refl, ap, sym, ◌∙◌, subst, arith, append-nil}
+use Rattle.std.proofs.Common.{◌≡◌, ◌≢◌, inl, inr, ℕ, ◌++◌, List, [], ◌∷◌, Option, Some, None, Result, Ok, Err, IfSome, IsTrue, length, refl, ap, sym, ◌∙◌, subst, arith, append-nil}
 use Rattle.hl_base.specs.Causes.{Rose}
 use Rattle.query.specs.Building.{IsOneOf}
 use Rattle.book_commands.specs.Answers.{Finds, MayRefuse, TellsMaker, Telling, WorkRule}
@@ -15,7 +15,7 @@ use Rattle.refusals.specs.declared.refusal.Refusal.TheVariants as refusal
 use Rattle.command_words.specs.declared.task.Origin.{Origin}
 use Rattle.command_words.specs.declared.task.Origin.TheVariants as origins
 use Rattle.command_words.specs.declared.task.TextTask.{TextTask}
-use Rattle.command_line.specs.Answers.{HasPattern, IsErrorLine, IsNamed, IsOfAnswer, IsSourceStatus, IsStatus, IsStore, IsTextStatus, Says, Wrote, WrotePrefix, asks_auto, line_of, status_of}
+use Rattle.command_line.specs.Answers.{HasPattern, IsErrorLine, IsNamed, IsOfAnswer, IsSourceStatus, IsStatus, IsTextStatus, Says, Wrote, WrotePrefix, asks_auto, line_of, status_of}
 use Rattle.command_line.specs.Runs.{AnswersText, RunsText, TextSoundly}
 use Rattle.command_line.specs.Scenes.{FilesStay, OtherStays, RefusedIn, RuleIn, Scene, Soundness, SourceIsSound, SourceRose, judged_in, telling, year_in}
 

@@ -2,7 +2,7 @@
 use Rattle.std.proofs.Common.{◌≡◌, ◌≢◌, ◌⊎◌, inl, inr, ℕ, List, Option, Some, None, Ok, IfSome, length, ap, sym, ◌∙◌, subst, arith}
 use Rattle.hl_base.specs.Causes.{Rose}
 use Rattle.refusals.specs.Errors.{write_fault_line}
-use Rattle.refusals.specs.Outcomes.{Judged, Outcome, outcome_of, written}
+use Rattle.refusals.specs.Outcomes.{Judged, outcome_of, written}
 use Rattle.command_words.specs.declared.task.Origin.{Origin}
 use Rattle.command_words.specs.declared.task.Origin.TheVariants as origins
 use Rattle.command_words.specs.declared.task.TextTask.{TextTask}

@@ -1,11 +1,13 @@
+mod Completing
 mod Endings
 mod Finishing
-mod Histories
 mod Limits
 mod Reporting
 mod Running
+mod Sampling
 mod StoreEnds
+mod StoredCompleting
 mod Storing
 mod TalkEndings
+mod TalkCompleting
 mod Talking
-mod Unmade

@@ -1,12 +1,12 @@
 -- Texts past the limit of their bytes, and texts within it.
-use Rattle.std.proofs.Common.{◌≡◌, ℕ, ◌≤◌, Bool, true, false, ◌&&◌, List, Option, Result, Ok, Err, nat_lt, length, if◌then◌else◌, refl, ap, sym, ◌∙◌, subst, arith}
+use Rattle.std.proofs.Common.{◌≡◌, ℕ, ◌≤◌, Bool, true, false, ◌&&◌, List, Option, Result, Err, nat_lt, length, if◌then◌else◌, ap, sym, ◌∙◌, subst, arith}
 use Rattle.std.proofs.lemmas.Bool.Decides.{nat_tests}
 use Rattle.book_commands.specs.Answers.{Finds}
 use Rattle.book_commands.specs.Works.{IsWithin, judge}
 use Rattle.book_commands.specs.declared.work.Work.{Work}
 use Rattle.book_commands.specs.declared.work.Work.TheVariants as works
 use Rattle.refusals.specs.Errors.{limit_line}
-use Rattle.refusals.specs.Outcomes.{Judged, outcome_of, refused}
+use Rattle.refusals.specs.Outcomes.{Judged, refused}
 use Rattle.refusals.specs.Refusing.{Refuses}
 use Rattle.refusals.specs.declared.refusal.Refusal.{Refusal}
 use Rattle.refusals.specs.declared.refusal.Refusal.TheVariants as refusal

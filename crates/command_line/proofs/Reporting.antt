@@ -1,12 +1,12 @@
 -- What a command answers to a text that was read, or not.
-use Rattle.std.proofs.Common.{◌≡◌, ◌≢◌, inl, inr, ℕ, Bool, true, false, List, [], Option, Some, None, Result, Ok, Err, IfErr, IfSome, OnOk, IsTrue, if◌then◌else◌, refl, ap, sym, subst}
+use Rattle.std.proofs.Common.{◌≡◌, ◌≢◌, inl, inr, ℕ, Bool, true, false, List, Option, Some, None, Result, Ok, Err, IfErr, IfSome, OnOk, IsTrue, if◌then◌else◌, refl, ap, sym, subst}
 use Rattle.std.specs.Option.{option_map}
 use Rattle.hl_base.specs.Causes.{Rose}
 use Rattle.book_commands.specs.Answers.{Finds, MakerStays, TellsMaker, TellsWork, Telling, WorkRule}
 use Rattle.book_commands.specs.Works.{words_of}
 use Rattle.book_commands.specs.declared.work.Work.{Work}
 use Rattle.book_commands.proofs.Answering.{maker_so}
-use Rattle.refusals.specs.Outcomes.{Judged, Outcome, outcome_of}
+use Rattle.refusals.specs.Outcomes.{Outcome, outcome_of}
 use Rattle.refusals.specs.Refusing.{IsJudgedStatus, IsOfReport}
 use Rattle.refusals.specs.declared.refusal.Refusal.{Refusal}
 use Rattle.refusals.specs.declared.refusal.Refusal.TheVariants as refusal
@@ -15,7 +15,7 @@ use Rattle.command_words.specs.declared.task.Origin.TheVariants as origins
 use Rattle.command_words.specs.declared.task.TextTask.{TextTask}
 use Rattle.command_line.specs.Answers.{FindsText, IsOfAnswer, IsOfFile, IsOfInput, IsOfSource, IsOfStore, IsTextStatus}
 use Rattle.command_line.specs.Runs.{AnswersText, ReadsText}
-use Rattle.command_line.specs.Scenes.{FilesStay, InputStays, IsReadWhole, OtherStays, OutputsStay, RuleIn, Scene, ShelfStays, Soundness, SourceIsSound, SourceRose, TellsIn, telling, text_in, year_in}
+use Rattle.command_line.specs.Scenes.{FilesStay, IsReadWhole, OtherStays, OutputsStay, RuleIn, Scene, ShelfStays, Soundness, SourceIsSound, SourceRose, TellsIn, telling, text_in, year_in}
 use Rattle.command_line.specs.Sources.{judge_within, judged, store_under, text_under, within_bytes}
 
 abbrev failed : Refusal → Result (List ℕ) Refusal
@@ -108,6 +108,12 @@ module _ (origin : Origin) (r : Result (List ℕ) Refusal) (old new : Scene) whe
       })
 
 -- a sound source is read
+pub file_sound : (origin : Origin) (name : List ℕ) (r : Result (List ℕ) Refusal) (sound : Soundness) → origin ≡ origins.File name
+    → (sound.shelf → r ≢ failed refusal.ReadFault) → SourceIsSound origin sound → r ≢ failed refusal.ReadFault
+file_sound origin name r sound is h k =
+    let F : Origin → Type 0 = λ o. SourceIsSound o sound in
+    h (subst F is k)
+
 pub store_sound : (origin : Origin) (name : List ℕ) (r : Result (List ℕ) Refusal) (sound : Soundness) → origin ≡ origins.Store name
     → (sound.shelf → r ≢ failed refusal.ReadFault) → SourceIsSound origin sound → r ≢ failed refusal.ReadFault
 store_sound origin name r sound is h k =

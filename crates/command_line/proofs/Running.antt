@@ -1,10 +1,7 @@
 -- Runs that end with their words: no reading, or no memory for them.
 use Rattle.std.proofs.Common.{◌≡◌, ◌≢◌, ◌⊎◌, inl, inr, ℕ, List, Option, Some, None, Result, Ok, Err, IfSome, length, refl, sym, subst, arith}
 use Rattle.hl_base.specs.Causes.{Rose}
-use Rattle.report_commands.specs.declared.fault.WordsFault.{WordsFault}
 use Rattle.report_commands.specs.declared.fault.WordsFault.TheVariants as words_fault
-use Rattle.web_desk.specs.declared.conn_end.ConnEnd.{ConnEnd}
-use Rattle.web_desk.specs.declared.conn_end.ConnEnd.TheVariants as conn
 use Rattle.command_words.specs.declared.task.Origin.{Origin}
 use Rattle.command_words.specs.declared.task.Origin.TheVariants as origins
 use Rattle.command_words.specs.declared.task.TextTask.{TextTask}
@@ -22,11 +19,10 @@ use Rattle.command_words.specs.Usage.{usage_cause}
 use Rattle.refusals.specs.Errors.{memory_line}
 use Rattle.command_line.specs.Help.{help_text, version_text}
 use Rattle.refusals.specs.Outcomes.{Judged}
-use Rattle.command_line.specs.Runs.{AnswersText, Connects, Prints, RefusesWords, Runs, RunsSoundly}
-use Rattle.command_line.specs.Scenes.{FilesStay, OtherStays, Scene, Soundness, judged_in, telling}
-use Rattle.command_line.specs.Talks.{TellsEnd}
+use Rattle.command_line.specs.Runs.{AnswersText, Prints, RefusesWords, Runs, RunsSoundly}
+use Rattle.command_line.specs.Scenes.{FilesStay, OtherStays, Scene, Soundness, judged_in}
 use Rattle.command_line.proofs.Endings.{none_written, not_same, refused_report, refused_soundly, with_error}
-use Rattle.command_line.proofs.Talking.{nothing_done, unasked}
+use Rattle.command_line.proofs.Talking.{unasked}
 
 -- what a refusal says, and that of want of memory
 abbrev pub SaysRefusal : Refusal → ℕ → Scene → Option (List ℕ) → ℕ → Type 0
@@ -84,23 +80,6 @@ memory_answers given day s = record {
   maker = inl (unasked s.refusals s.last_refused);
 }
 
-not_spent : conn.Memory ≡ conn.Spent → ⊥
-not_spent e = cc
-
-memory_talk : (day status : ℕ) (old : Scene) (error : Option (List ℕ)) (faults : ℕ) → SaysMemory status old error faults
-    → Connects day status old (with_error old error faults)
-memory_talk day status old error faults h =
-    let kind = six_or_four status old error faults h in
-    let maker = telling old (with_error old error faults) in
-    record {
-      read = λ e. no_other status old error faults 2 kind e (λ x. omega arith) (λ x. omega arith);
-      talked = (conn.Memory, not_spent, h, nothing_done old.left old.output day maker (unasked old.refusals old.last_refused));
-      read_fault = λ e. absurd (no_other status old error faults 3 kind e (λ x. omega arith) (λ x. omega arith));
-      write_fault = λ e. inr (four_rose status old error faults h e);
-      unread = refl;
-      files = λ name. refl;
-    }
-
 none_of : (out : Option (List ℕ)) (text : List ℕ) → WrotePrefix out out text
 none_of out text = none_written (Some text) out out (λ t. t) refl
 
@@ -130,7 +109,8 @@ memory_runs : (words : List (List ℕ)) (day status : ℕ) (old : Scene) (error 
 memory_runs words day status old error faults (Ok (task.Over given)) h =
     refused_report given day status old old error faults refusal.Memory (memory_answers given day old) h
 memory_runs words day status old error faults (Ok (task.Stored what)) h = λ e. no_other status old error faults 2 (six_or_four status old error faults h) e (λ x. omega arith) (λ x. omega arith)
-memory_runs words day status old error faults (Ok task.Talk) h = memory_talk day status old error faults h
+memory_runs words day status old error faults (Ok (task.Talk what)) h = λ e. no_other status old error faults 2 (six_or_four status old error faults h) e (λ x. omega arith) (λ x. omega arith)
+memory_runs words day status old error faults (Ok (task.Sample count)) h = λ e. no_other status old error faults 2 (six_or_four status old error faults h) e (λ x. omega arith) (λ x. omega arith)
 memory_runs words day status old error faults (Ok task.Help) h = memory_prints help_text status old error faults h
 memory_runs words day status old error faults (Ok task.Version) h = memory_prints version_text status old error faults h
 memory_runs words day status old error faults (Err fault) h =
@@ -173,7 +153,8 @@ memory_sound : (words : List (List ℕ)) (day status : ℕ) (old : Scene) (error
 memory_sound words day status old error faults sound (Ok (task.Over given)) h own =
     refused_soundly given day status old old error faults refusal.Memory sound (memory_answers given day old) h (λ s e. cc) own
 memory_sound words day status old error faults sound (Ok (task.Stored what)) h own = tt
-memory_sound words day status old error faults sound (Ok task.Talk) h own = tt
+memory_sound words day status old error faults sound (Ok (task.Talk what)) h own = tt
+memory_sound words day status old error faults sound (Ok (task.Sample count)) h own = tt
 memory_sound words day status old error faults sound (Ok task.Help) h own = λ room line e. not_same status 6 4 (own line) e (λ x. omega arith)
 memory_sound words day status old error faults sound (Ok task.Version) h own = λ room line e. not_same status 6 4 (own line) e (λ x. omega arith)
 memory_sound words day status old error faults sound (Err fault) h own = λ usage line e. not_same status 6 4 (own line) e (λ x. omega arith)

@@ -1,5 +1,5 @@
 -- How a command over a store ends: what is said of it, and what is written.
-use Rattle.std.proofs.Common.{◌≡◌, ◌≢◌, ◌⊎◌, inl, inr, ℕ, List, Option, Some, Result, Ok, Err, IfErr, IfSome, refl, sym, ◌∙◌, subst, arith}
+use Rattle.std.proofs.Common.{◌≡◌, ◌≢◌, ◌⊎◌, inl, inr, ℕ, List, Option, Result, Ok, Err, IfErr, IfSome, length, refl, sym, subst, arith}
 use Rattle.hl_base.specs.Causes.{Rose}
 use Rattle.hl_base.specs.declared.disk.Disk.{Ghosts as Disks}
 use Rattle.hl_base.specs.declared.outside.Source.{Ghosts as Inputs}
@@ -9,14 +9,19 @@ use Rattle.hl_time.specs.declared.day.Day.{Day}
 use Rattle.query_terms.specs.declared.making.Maker.{Ghosts as Makers}
 use Rattle.book.specs.declared.fault.Cause.{Cause}
 use Rattle.book.specs.declared.fault.Cause.TheVariants as causes
-use Rattle.report_commands.specs.declared.fault.WordsFault.{WordsFault}
 use Rattle.report_commands.specs.declared.fault.WordsFault.TheVariants as words_fault
-use Rattle.refusals.specs.Errors.{memory_line, write_fault_line}
+use Rattle.refusals.specs.Errors.{write_fault_line}
 use Rattle.refusals.specs.declared.refusal.Refusal.{Refusal}
 use Rattle.refusals.specs.declared.refusal.Refusal.TheVariants as refusal
 use Rattle.desk.specs.declared.reply.Reply.{Reply}
 use Rattle.desk.specs.declared.reply.Reply.TheVariants as reply
-use Rattle.store_text.specs.Refusals.{status_of as store_status}
+use Rattle.follower.specs.declared.fault.FrameFault.{FrameFault}
+use Rattle.follower.specs.declared.fault.FrameFault.TheVariants as frame
+use Rattle.refusals.specs.Refusing.{Refuses}
+use Rattle.store_text.specs.Refusals.{line_of as store_line, status_of as store_status}
+use Rattle.store_following.specs.Lines.{refusal_status, unread_status}
+use Rattle.store_following.specs.declared.refusal.FollowRefusal.{FollowRefusal}
+use Rattle.store_following.specs.declared.refusal.FollowRefusal.TheVariants as follow
 use Rattle.store_text.specs.declared.refusal.StoreRefusal.{StoreRefusal}
 use Rattle.store_text.specs.declared.refusal.StoreRefusal.TheVariants as store
 use Rattle.store_making.specs.Lines.{cause_status, status_of as making_status}
@@ -31,8 +36,12 @@ use Rattle.command_words.specs.declared.task.Task.TheVariants as task
 use Rattle.command_words.specs.declared.usage.UsageFault.{UsageFault}
 use Rattle.command_words.specs.declared.usage.UsageFault.TheVariants as usages
 use Rattle.command_line.specs.Answers.{IsOfFile, IsOfSource, IsStatus, IsTextStatus, Says, Wrote, WrotePrefix, line_of, status_of}
-use Rattle.command_line.specs.Scenes.{Scene, scene}
-use Rattle.command_line.specs.StoreTasks.{Ends, IsOfStored, Stores, ToldLine}
+use Rattle.command_line.specs.Scenes.{Scene, scene, soundness}
+use Rattle.command_line.specs.StoreRuns.{Ends}
+use Rattle.command_line.specs.StoreTasks.{IsOfStored, ToldLine}
+use Rattle.command_line.specs.Stored.{RefusesStore}
+use Rattle.command_line.specs.Samples.{ToldSample, sample_answer}
+use Rattle.command_line.specs.Tasks.{Stores}
 use Rattle.command_line.specs.declared.outside.Outside.{Outside}
 
 -- ---- statuses
@@ -173,6 +182,44 @@ source_kind (origins.Store name) refusal.ReadFault k = three
 source_kind (origins.Store name) refusal.DiskFault k = five
 source_kind (origins.Store name) refusal.Memory k = six
 
+-- of a store that is read
+line_told : (status : ℕ) (line : List ℕ) (x : Refusal) → IsTold status → Refuses x status line → IsOfStored x
+line_told status line (refusal.Line own said) k h = subst (λ (n : ℕ). IsTold n) (sym h.0) k
+line_told status line (refusal.Pattern what said) k h = absurd h
+line_told status line refusal.ReadFault k h = absurd h
+line_told status line refusal.DiskFault k h = absurd h
+line_told status line refusal.Memory k h = six
+
+same_told : (x y : Refusal) → x ≡ y → IsOfStored y → IsOfStored x
+same_told x y e k = subst (λ (z : Refusal). IsOfStored z) (sym e) k
+
+pub frames_kind : (name : List ℕ) (r : StoreRefusal) (x : Refusal) → RefusesStore x name r → IsOfStored x
+frames_kind name store.Absent x h = line_told 8 (store_line name store.Absent) x eight h
+frames_kind name (store.NotAStore at) x h = line_told 8 (store_line name (store.NotAStore at)) x eight h
+frames_kind name (store.Newer version) x h = line_told 8 (store_line name (store.Newer version)) x eight h
+frames_kind name (store.Exists len) x h = line_told 8 (store_line name (store.Exists len)) x eight h
+frames_kind name (store.Full size limit) x h = line_told 7 (store_line name (store.Full size limit)) x seven h
+frames_kind name store.ReadFault x h = same_told x refusal.ReadFault h three
+frames_kind name store.DiskFault x h = same_told x refusal.DiskFault h five
+frames_kind name store.Memory x h = same_told x refusal.Memory h six
+
+-- and of frames that are followed
+unread_told : (fault : FrameFault) → IsTold (unread_status fault)
+unread_told frame.ReadFault = three
+unread_told (frame.Cut had) = one
+unread_told (frame.BadFrame kind) = one
+unread_told (frame.TooLong said limit) = seven
+unread_told frame.Memory = six
+
+follow_told : (e : FollowRefusal) → IsTold (refusal_status e)
+follow_told (follow.Store r) = store_told r
+follow_told (follow.Unread fault) = unread_told fault
+follow_told follow.NoSnapshot = one
+follow_told follow.Payload = one
+
+pub follow_kind : (e : FollowRefusal) (status : ℕ) (line : List ℕ) → status ≡ refusal_status e → IsOfStored (refusal.Line status line)
+follow_kind e status line is = subst (λ (n : ℕ). IsTold n) (sym is) (follow_told e)
+
 -- ---- ends
 
 -- a refusal was said
@@ -196,28 +243,51 @@ written_end status old new output text is (inr e) wrote quiet prefix rose said =
 
 -- ---- words
 
+pub memory_told : (said : Result (List ℕ) JournalRefusal) → ToldSample said (Err refusal.Memory)
+memory_told (Ok line) = inl refl
+memory_told (Err e) = inr (inl refl)
+
 module _ {J O E S D M : Type 0} (j : Inputs J) (o : Outputs O) (e : Outputs E) (s : Shelves S D) (g : Disks D) (m : Makers M) (day : Day) (status : ℕ)
     (old : Outside J O E S M) (err : E) where
   abbrev AfterWords : Result Task UsageFault → Type 0
-  AfterWords what = Stores (scene j o e s m) s g m day status old (record old { err = err }) what
+  AfterWords what = Stores j (scene j o e s m) (soundness j o e s) s g m day status old (record old { err = err }) what
 
   abbrev SaysIt : Refusal → Type 0
   SaysIt r = Says status (status_of r) (line_of r) (e.written old.err) (e.written err) (e.faults old.err) (e.faults err)
 
+  -- where there is room for its line, its status is the refusal's
+  abbrev OwnIt : Refusal → Type 0
+  OwnIt r = e.HasRoom old.err (length (line_of r)) → status ≡ status_of r
+
   -- there was no memory for the words
-  memory_stores : (what : Result Task UsageFault) → SaysIt refusal.Memory → AfterWords what
-  memory_stores (Ok (task.Stored what)) h = record {
+  memory_stores : (what : Result Task UsageFault) → SaysIt refusal.Memory → OwnIt refusal.Memory → AfterWords what
+  memory_stores (Ok (task.Stored what)) h own = record {
     last = old;
     answer = Err refusal.Memory;
     answers = inr (refl, refl);
     ends = (h, refl);
+    soundly = own;
     stays = (refl, refl, refl);
   }
-  memory_stores (Ok (task.Over given)) h = tt
-  memory_stores (Ok task.Talk) h = tt
-  memory_stores (Ok task.Help) h = tt
-  memory_stores (Ok task.Version) h = tt
-  memory_stores (Err fault) h = tt
+  memory_stores (Ok (task.Over given)) h own = tt
+  memory_stores (Ok (task.Talk what)) h own = record {
+    last = old;
+    end = Err refusal.Memory;
+    talked = inr (refl, refl);
+    told = h;
+    soundly = own;
+    stays = (refl, refl, refl);
+  }
+  memory_stores (Ok (task.Sample count)) h own = record {
+    answer = Err refusal.Memory;
+    told = memory_told (sample_answer count);
+    ends = (h, refl);
+    soundly = own;
+    stays = (refl, refl, refl);
+  }
+  memory_stores (Ok task.Help) h own = tt
+  memory_stores (Ok task.Version) h own = tt
+  memory_stores (Err fault) h own = tt
 
   told_stores : (fault : UsageFault) (what : Result Task UsageFault) → what ≡ Err fault → AfterWords what
   told_stores fault what is =
@@ -225,14 +295,15 @@ module _ {J O E S D M : Type 0} (j : Inputs J) (o : Outputs O) (e : Outputs E) (
       subst F (sym is) tt
 
   pub words_store : (r : Refusal) (what : Result Task UsageFault) (fault : UsageFault) → IfSome (usage_cause fault) (λ f. what ≡ Err f)
-      → (fault ≡ usages.Words words_fault.Memory → r ≡ refusal.Memory) → SaysIt r → AfterWords what
-  words_store r what (usages.Words (words_fault.NoCommand word)) told memory h = told_stores (usages.Words (words_fault.NoCommand word)) what told
-  words_store r what (usages.Words (words_fault.BadOption word)) told memory h = told_stores (usages.Words (words_fault.BadOption word)) what told
-  words_store r what (usages.Words (words_fault.Conflict a b)) told memory h = told_stores (usages.Words (words_fault.Conflict a b)) what told
-  words_store r what (usages.Words (words_fault.BadTerm word)) told memory h = told_stores (usages.Words (words_fault.BadTerm word)) what told
-  words_store r what (usages.Words (words_fault.PatternRefused word)) told memory h = told_stores (usages.Words (words_fault.PatternRefused word)) what told
-  words_store r what (usages.Words (words_fault.Report fault)) told memory h = told_stores (usages.Words (words_fault.Report fault)) what told
-  words_store r what usages.Missing told memory h = told_stores usages.Missing what told
-  words_store r what (usages.Words words_fault.Memory) told memory h =
+      → (fault ≡ usages.Words words_fault.Memory → r ≡ refusal.Memory) → SaysIt r → OwnIt r → AfterWords what
+  words_store r what (usages.Words (words_fault.NoCommand word)) told memory h own = told_stores (usages.Words (words_fault.NoCommand word)) what told
+  words_store r what (usages.Words (words_fault.BadOption word)) told memory h own = told_stores (usages.Words (words_fault.BadOption word)) what told
+  words_store r what (usages.Words (words_fault.Conflict a b)) told memory h own = told_stores (usages.Words (words_fault.Conflict a b)) what told
+  words_store r what (usages.Words (words_fault.BadTerm word)) told memory h own = told_stores (usages.Words (words_fault.BadTerm word)) what told
+  words_store r what (usages.Words (words_fault.PatternRefused word)) told memory h own = told_stores (usages.Words (words_fault.PatternRefused word)) what told
+  words_store r what (usages.Words (words_fault.Report fault)) told memory h own = told_stores (usages.Words (words_fault.Report fault)) what told
+  words_store r what usages.Missing told memory h own = told_stores usages.Missing what told
+  words_store r what (usages.Words words_fault.Memory) told memory h own =
       let F : Refusal → Type 0 = λ x. SaysIt x in
-      memory_stores what (subst F (memory refl) h)
+      let G : Refusal → Type 0 = λ x. OwnIt x in
+      memory_stores what (subst F (memory refl) h) (subst G (memory refl) own)

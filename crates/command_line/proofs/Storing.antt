@@ -1,5 +1,5 @@
 -- The text of a store among the files of a shelf.
-use Rattle.std.proofs.Common.{◌≡◌, ◌≢◌, ◌⊎◌, inl, inr, ℕ, List, Option, Some, Result, Ok, Err, IfErr, IfSome, IsTrue, refl, ap, sym, ◌∙◌, subst}
+use Rattle.std.proofs.Common.{◌≡◌, ◌⊎◌, inl, inr, ℕ, List, Result, Ok, Err, IfSome, IsTrue, refl, ap, sym, ◌∙◌, subst}
 use Rattle.hl_base.specs.Causes.{Rose}
 use Rattle.hl_base.specs.declared.disk.Disk.{Ghosts as Disks}
 use Rattle.hl_base.specs.declared.shelf.Shelf.{Ghosts as Shelves}
@@ -147,6 +147,7 @@ module _ {S D : Type 0} (s : Shelves S D) (g : Disks D) (name : List ℕ) (old n
     others = reads.others;
     image = λ told. inr (reads.stays told (λ e. cc));
     sound = λ k e. cc;
+    goes_on = record { later = reads.later; tells = reads.tells; sound = λ k. (reads.sound k).1 };
   }
 
   pub loads_refused : (r : StoreRefusal) (x : Refusal) → ReadsStore s g name old new (Err r) → RefusesStore x name r → StoreText s name old new (Err x)
@@ -158,4 +159,5 @@ module _ {S D : Type 0} (s : Shelves S D) (g : Disks D) (name : List ℕ) (old n
     others = reads.others;
     image = λ told. image_stays r reads told;
     sound = λ sound e. (reads.sound sound).0 (read_is name r x k e);
+    goes_on = record { later = reads.later; tells = reads.tells; sound = λ sound. (reads.sound sound).1 };
   }

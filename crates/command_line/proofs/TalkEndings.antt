@@ -1,5 +1,5 @@
 -- How a connection may end, and the status of each end.
-use Rattle.std.proofs.Common.{◌≡◌, ◌⊎◌, inl, inr, ℕ, List, Option, refl, sym, ◌∙◌, subst, arith}
+use Rattle.std.proofs.Common.{◌≡◌, ◌⊎◌, inl, inr, ℕ, List, Option, length, refl, sym, ◌∙◌, subst, arith}
 use Rattle.hl_base.specs.Causes.{Rose}
 use Rattle.web_desk.specs.Counts.{Counted}
 use Rattle.web_desk.specs.declared.conn_end.ConnEnd.{ConnEnd}
@@ -8,7 +8,7 @@ use Rattle.web_desk.specs.declared.conn_end.Way.{Way}
 use Rattle.web_desk.specs.declared.conn_end.Way.TheVariants.{Read, Write}
 use Rattle.command_line.specs.Answers.{IsStatus, Says}
 use Rattle.refusals.specs.Errors.{read_fault_line, write_fault_line}
-use Rattle.command_line.specs.Talks.{TellsEnd, end_status}
+use Rattle.command_line.specs.Talks.{TellsEnd, end_line, end_status}
 
 -- the status is that of the end, or a line couldn't be written
 pub own : (end : ConnEnd) (status : ℕ) (old new : Option (List ℕ)) (fo fn : ℕ) → TellsEnd end status old new fo fn → (status ≡ end_status end) ⊎ ((status ≡ 4) × Rose fo fn)
@@ -122,4 +122,17 @@ fault_read way status old new fo fn e h =
 pub fault_write : (way : Way) (status : ℕ) (old new : Option (List ℕ)) (fo fn : ℕ) → way ≡ Write → Says status 4 write_fault_line old new fo fn → TellsEnd (conn.LinkFault way) status old new fo fn
 fault_write way status old new fo fn e h =
     let F : Way → Type 0 = λ w. TellsEnd (conn.LinkFault w) status old new fo fn in
+    subst F (sym e) h
+
+-- and has its status, where there is room for the line
+pub sound_read : (way : Way) (status : ℕ) (HasRoom : ℕ → Type 0) → way ≡ Read → (HasRoom (length read_fault_line) → status ≡ 3)
+    → HasRoom (length (end_line (conn.LinkFault way))) → status ≡ end_status (conn.LinkFault way)
+sound_read way status HasRoom e h =
+    let F : Way → Type 0 = λ w. HasRoom (length (end_line (conn.LinkFault w))) → status ≡ end_status (conn.LinkFault w) in
+    subst F (sym e) h
+
+pub sound_write : (way : Way) (status : ℕ) (HasRoom : ℕ → Type 0) → way ≡ Write → (HasRoom (length write_fault_line) → status ≡ 4)
+    → HasRoom (length (end_line (conn.LinkFault way))) → status ≡ end_status (conn.LinkFault way)
+sound_write way status HasRoom e h =
+    let F : Way → Type 0 = λ w. HasRoom (length (end_line (conn.LinkFault w))) → status ≡ end_status (conn.LinkFault w) in
     subst F (sym e) h

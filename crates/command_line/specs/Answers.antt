@@ -1,5 +1,5 @@
 -- What a run may answer, and what it then has written.
-use Rattle.std.specs.Prelude.{◌≡◌, ◌⊎◌, ℕ, ◌≤◌, ◌++◌, Bool, false, IsTrue, List, Option, Some, None, IfSome, length, take, Result, Ok, Err}
+use Rattle.std.specs.Prelude.{◌≡◌, ◌⊎◌, ℕ, ◌≤◌, ◌++◌, Bool, false, IsTrue, List, Option, Some, IfSome, length, take, Result, Ok, Err}
 use Rattle.hl_base.specs.Causes.{Rose}
 use Rattle.query.specs.Building.{IsOneOf}
 use Rattle.command_words.specs.declared.task.Origin.{Origin}

@@ -1,8 +1,14 @@
 pub mod Answers
+pub mod Complete
+pub mod Files
+pub mod Frames
 pub mod Help
 pub mod Runs
+pub mod Samples
 pub mod Scenes
 pub mod Sources
+pub mod StoreRuns
 pub mod StoreTasks
 pub mod Stored
 pub mod Talks
+pub mod Tasks

@@ -1,8 +1,6 @@
 -- What a run does.
-use Rattle.std.specs.Prelude.{◌≡◌, ◌≢◌, ◌⊎◌, ℕ, ◌++◌, List, Option, Some, IfSome, IsOk, OnOk, IfErr, Result, Ok, Err, length}
+use Rattle.std.specs.Prelude.{◌≡◌, ◌≢◌, ◌⊎◌, ℕ, List, IfSome, IsOk, OnOk, IfErr, Result, Ok, Err, length}
 use Rattle.hl_base.specs.Causes.{Rose}
-use Rattle.web_desk.specs.declared.conn_end.ConnEnd.{ConnEnd}
-use Rattle.web_desk.specs.declared.conn_end.ConnEnd.TheVariants as conn
 use Rattle.book_commands.specs.Answers.{Finds, MakerStays}
 use Rattle.refusals.specs.Errors.{disk_fault_line, memory_line, pattern_line, read_fault_line, write_fault_line}
 use Rattle.refusals.specs.Outcomes.{outcome_of}
@@ -18,7 +16,6 @@ use Rattle.command_line.specs.Answers.{FindsText, IsErrorLine, IsNamed, IsOfAnsw
 use Rattle.command_words.specs.Commands.{usage_of}
 use Rattle.command_line.specs.Help.{help_text, version_text}
 use Rattle.command_line.specs.Scenes.{FilesStay, IsReadWhole, MayRefuseIn, OtherStays, OutputsStay, RefusedIn, Scene, Soundness, SourceIsSound, SourceRose, TellsIn, judged_in, telling, text_in}
-use Rattle.command_line.specs.Talks.{Talks, TellsEnd}
 
 -- A text was read from the input, a file or a store, or why not.
 pub record ReadsText (origin : Origin) (result : Result (List ℕ) Refusal) (old new : Scene) : Type 0 where
@@ -101,22 +98,6 @@ pub record RunsText (given : TextTask) (day status : ℕ) (old new : Scene) : Ty
   pub other : OtherStays given.origin old new
   pub files : FilesStay given.origin old new
 
--- A connection over the input and the output: its messages, answers and end are as they have to be, and its entries are a
--- history.
-pub record Connects (day status : ℕ) (old new : Scene) : Type 0 where
-  -- the words have a reading
-  pub read : status ≢ 2
-  -- its end is told by the status and by a line, whatever the streams tell of their bytes
-  pub talked : (end : ConnEnd) × (end ≢ conn.Spent)
-      × TellsEnd end status old.error new.error old.error_faults new.error_faults
-      × IfSome old.left (λ bytes. IfSome old.output (λ before.
-      (text : List ℕ) × (new.output ≡ Some (before ++ text)) × Talks day (telling old new) bytes end text))
-  -- a read or a write failed
-  pub read_fault : status ≡ 3 → Rose old.read_faults new.read_faults
-  pub write_fault : status ≡ 4 → Rose old.output_faults new.output_faults ⊎ Rose old.error_faults new.error_faults
-  pub unread : new.shelf_faults ≡ old.shelf_faults
-  pub files : (name : List ℕ) → new.file name ≡ old.file name
-
 -- A text is written that neither the input nor the day changes.
 pub record Prints (text : List ℕ) (status : ℕ) (old new : Scene) : Type 0 where
   pub statuses : (status ≡ 0) ⊎ ((status ≡ 4) ⊎ (status ≡ 6))
@@ -131,11 +112,13 @@ pub record Prints (text : List ℕ) (status : ℕ) (old new : Scene) : Type 0 wh
   pub files : (name : List ℕ) → new.file name ≡ old.file name
   pub maker : MakerStays (telling old new)
 
--- what a run does on a day, by what is asked for; what one over a store that changes does says `RunsStored`
+-- what a run does on a day, by what is asked for; `StoresTask` says what one does over a store that changes, of a connection and of
+-- a sample
 abbrev pub RunsTask : ℕ → ℕ → Scene → Scene → Task → Type 0
 RunsTask day status old new (task.Over given) = RunsText given day status old new
 RunsTask day status old new (task.Stored what) = status ≢ 2
-RunsTask day status old new task.Talk = Connects day status old new
+RunsTask day status old new (task.Talk what) = status ≢ 2
+RunsTask day status old new (task.Sample count) = status ≢ 2
 RunsTask day status old new task.Help = Prints help_text status old new
 RunsTask day status old new task.Version = Prints version_text status old new
 
@@ -154,7 +137,8 @@ pub record TextSoundly (given : TextTask) (day status : ℕ) (old : Scene) (soun
 abbrev pub TaskSoundly : ℕ → ℕ → Scene → Soundness → Task → Type 0
 TaskSoundly day status old sound (task.Over given) = TextSoundly given day status old sound
 TaskSoundly day status old sound (task.Stored what) = Unit {0}
-TaskSoundly day status old sound task.Talk = Unit {0}
+TaskSoundly day status old sound (task.Talk what) = Unit {0}
+TaskSoundly day status old sound (task.Sample count) = Unit {0}
 TaskSoundly day status old sound task.Help = sound.output (length help_text) → sound.error (length memory_line) → status ≢ 4
 TaskSoundly day status old sound task.Version = sound.output (length version_text) → sound.error (length memory_line) → status ≢ 4
 

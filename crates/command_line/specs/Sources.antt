@@ -21,10 +21,15 @@ abbrev pub within_bytes : List ℕ → Result (List ℕ) Outcome
 within_bytes text =
     if nat_lt most_bytes (length text) then Err (refused 7 (limit_line (most_bytes + 1) most_bytes)) else Ok text
 
--- the text under a name, where there is one
+-- the bytes under a name, at most so many, where there are some; of too many one above the limit is told
+abbrev pub file_within : ℕ → List ℕ → Option (List ℕ) → Result (List ℕ) Outcome
+file_within most name None = Err (refused 8 (absent_line name))
+file_within most name (Some bytes) =
+    if nat_lt most (length bytes) then Err (refused 7 (limit_line (most + 1) most)) else Ok bytes
+
+-- the text under a name
 abbrev pub text_under : List ℕ → Option (List ℕ) → Result (List ℕ) Outcome
-text_under name None = Err (refused 8 (absent_line name))
-text_under name (Some text) = within_bytes text
+text_under name file = file_within most_bytes name file
 
 -- the text of a store of this name, or why it has none
 abbrev pub text_stored : List ℕ → Result (List ℕ) StoreRefusal → Result (List ℕ) Outcome

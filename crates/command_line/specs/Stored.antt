@@ -1,5 +1,5 @@
 -- The text of a store, as it is read from a shelf.
-use Rattle.std.specs.Prelude.{◌≡◌, ◌≢◌, ◌⊎◌, ℕ, List, Some, Result, Ok, Err, IfErr, IsTrue}
+use Rattle.std.specs.Prelude.{◌≡◌, ◌≢◌, ◌⊎◌, ℕ, List, Some, Result, Err, IfErr, IsTrue}
 use Rattle.hl_base.specs.Causes.{Rose}
 use Rattle.hl_base.specs.declared.shelf.Shelf.{Ghosts as Shelves}
 use Rattle.refusals.specs.Refusing.{Refuses}
@@ -10,6 +10,7 @@ use Rattle.store_text.specs.Shelved.{image_under, second_name}
 use Rattle.store_text.specs.declared.refusal.StoreRefusal.{StoreRefusal}
 use Rattle.store_text.specs.declared.refusal.StoreRefusal.TheVariants as store
 use Rattle.command_line.specs.Answers.{FindsText, IsOfStore}
+use Rattle.command_line.specs.Files.{GoesOn}
 use Rattle.command_line.specs.Sources.{store_under}
 
 -- the refusal of a store of this name: one of a failed call or of want of memory, or its line
@@ -31,3 +32,4 @@ pub record StoreText {S D : Type 0} (s : Shelves S D) (name : List ℕ) (old new
   pub image : IsTrue ((s.tells old).files) → Rose (s.disk_faults old) (s.disk_faults new)
       ⊎ (image_under (s.file new) name ≡ image_under (s.file old) name)
   pub sound : s.IsSound old → result ≢ Err refusal.ReadFault
+  pub goes_on : GoesOn s old new

@@ -1,64 +1,34 @@
--- One connection over the input and the output, to a journal in memory that begins empty.
-use Rattle.std.specs.Prelude.{◌≡◌, ◌≤◌, ℕ, List, [], ◌∷◌, Option, None, Some}
-use Rattle.hl_base.specs.declared.disk.Disk.{Ghosts}
-use Rattle.live_journal.specs.Loading.{open_cause}
-use Rattle.text_store.specs.Edits.{whole_size}
-use Rattle.text_store.specs.Files.{fresh}
-use Rattle.text_store.specs.Stores.{bounds, disks}
-use Rattle.text_store.specs.declared.fault.StoreFault.TheVariants as store_fault
-use Rattle.desk.specs.Entries.{Entry}
-use Rattle.desk.specs.States.{State}
-use Rattle.desk.specs.Steps.{Step}
-use Rattle.desk.specs.declared.desk.Desk.{Desk}
-use Rattle.desk.specs.declared.fault.DeskFault.{DeskFault}
-use Rattle.desk.specs.declared.fault.DeskFault.TheVariants as desk_fault
-use Rattle.desk.specs.declared.request.Allow.TheVariants.{Add}
-use Rattle.web_desk.specs.Makers.{TellsEntries}
-use Rattle.web_desk.specs.Served.{Served, AreOf}
+-- One connection over the input and the output: to a journal in memory, or to a store.
+use Rattle.std.specs.Prelude.{◌≡◌, ◌⊎◌, ℕ, List, [], Option, Result, Ok, Err, OnErr, length}
+use Rattle.hl_base.specs.declared.disk.Disk.{Ghosts as Disks}
+use Rattle.hl_base.specs.declared.shelf.Shelf.{Ghosts as Shelves}
+use Rattle.hl_time.specs.declared.day.Day.{Day}
+use Rattle.query_terms.specs.declared.making.Maker.{Ghosts as Makers}
+use Rattle.desk.specs.declared.request.Allow.{Allow}
+use Rattle.refusals.specs.Errors.{connection_line, memory_line, read_fault_line, write_fault_line}
+use Rattle.refusals.specs.declared.refusal.Refusal.{Refusal}
+use Rattle.refusals.specs.declared.refusal.Refusal.TheVariants as refusal
+use Rattle.store_making.specs.Lines.{line_of as making_line, status_of as making_status}
+use Rattle.store_making.specs.declared.refusal.JournalRefusal.{JournalRefusal}
+use Rattle.store_commands.specs.Asking.{told_by}
 use Rattle.web_desk.specs.declared.conn_end.ConnEnd.{ConnEnd}
 use Rattle.web_desk.specs.declared.conn_end.ConnEnd.TheVariants as conn
 use Rattle.web_desk.specs.declared.conn_end.Way.TheVariants.{Read, Write}
-use Rattle.book_commands.specs.Answers.{Telling}
-use Rattle.command_line.specs.Answers.{Says}
-use Rattle.refusals.specs.Errors.{connection_line, memory_line, read_fault_line, write_fault_line}
+use Rattle.talk_commands.specs.Links.{Wire}
+use Rattle.talk_commands.specs.Memory.{TalksFrom}
+use Rattle.talk_commands.specs.Stores.{TalksStore}
+use Rattle.command_words.specs.declared.task.Origin.{Origin}
+use Rattle.command_words.specs.declared.task.Origin.TheVariants as origins
+use Rattle.command_words.specs.declared.task.Talking.{Talking}
+use Rattle.command_line.specs.Answers.{Says, line_of, status_of}
+use Rattle.command_line.specs.Files.{LoadsFile}
+use Rattle.command_line.specs.Runs.{ReadsText}
+use Rattle.command_line.specs.Scenes.{Scene, Soundness}
+use Rattle.command_line.specs.Sources.{most_bytes}
+use Rattle.command_line.specs.StoreTasks.{RefusedAs}
+use Rattle.command_line.specs.declared.outside.Outside.{Outside}
 
--- the most bytes of each file of its store
-abbrev pub room : ℕ
-room = 67108864
-
--- the empty journal, to which entries may be added
-abbrev pub begun : State
-begun = record { text = []; latest = []; revision = 0; allowed = Add; size = whole_size (fresh []); limit = room }
-
--- A history from a state: each entry is a step of the machine from what those before it left, with the revision after it,
--- and no disk fails.
-abbrev pub IsHistory : State → List Entry → Type 0
-IsHistory s [] = Unit {0}
-IsHistory s (entry ∷ entries) =
-    (next : State) × Step s 0 entry.day.0 entry.request entry.reply next 0 × (entry.revision ≡ next.revision) × IsHistory next entries
-
--- What a connection over these bytes did on a day that ended so and sent this text: its entries are a history from the empty
--- journal, and its messages, answers and end are as they have to be. The maker's count rises with those entries alone whose
--- pattern was refused.
-abbrev pub Talks : ℕ → Telling → List ℕ → ConnEnd → List ℕ → Type 0
-Talks day maker bytes end text =
-    (entries : List Entry) × IsHistory begun entries × AreOf day entries
-    × TellsEntries maker.count_before maker.count_now maker.last_before maker.last_now entries × Served bytes end entries text
-
--- a machine was refused for want of memory
-abbrev pub IsWantOfMemory : DeskFault → Type 0
-IsWantOfMemory desk_fault.Memory = Unit {0}
-IsWantOfMemory (desk_fault.Load fault) = open_cause fault ≡ None
-IsWantOfMemory (desk_fault.Store fault) = fault ≡ store_fault.Memory
-
--- no call of a machine's disks fails
-pub record NeverFails {D : Type 0} {g : Ghosts D} (most : ℕ) (desk : Desk D g) : Type 0 where
-  pub first : g.unfailing_to (disks desk.store).0 ≡ Some most
-  pub second : g.unfailing_to (disks desk.store).1 ≡ Some most
-  pub reach_first : g.reach (disks desk.store).0 ≤ most
-  pub reach_second : g.reach (disks desk.store).1 ≤ most
-  pub bound_first : (bounds desk.store).0 ≤ most
-  pub bound_second : (bounds desk.store).1 ≤ most
+-- ---- how it ends
 
 -- the exit status of an end, and the line that says why it isn't a good one
 abbrev pub end_status : ConnEnd → ℕ
@@ -80,3 +50,86 @@ end_line other = connection_line
 abbrev pub TellsEnd : ConnEnd → ℕ → Option (List ℕ) → Option (List ℕ) → ℕ → ℕ → Type 0
 TellsEnd conn.Closed status old new faults_old faults_new = (status ≡ 0) × (new ≡ old)
 TellsEnd end status old new faults_old faults_new = Says status (end_status end) (end_line end) old new faults_old faults_new
+
+-- the end is told, or why there was no connection
+abbrev pub TellsTalk : ℕ → Scene → Scene → Result ConnEnd Refusal → Type 0
+TellsTalk status old new (Ok end) = TellsEnd end status old.error new.error old.error_faults new.error_faults
+TellsTalk status old new (Err x) = Says status (status_of x) (line_of x) old.error new.error old.error_faults new.error_faults
+
+-- where the error output has room for the line, that doesn't fail
+abbrev pub TellsSoundly : Soundness → ℕ → Result ConnEnd Refusal → Type 0
+TellsSoundly sound status (Ok end) = sound.error (length (end_line end)) → status ≡ end_status end
+TellsSoundly sound status (Err x) = sound.error (length (line_of x)) → status ≡ status_of x
+
+-- ---- what it does
+
+-- what the input and the output tell as one link
+abbrev pub wire_in : Scene → Scene → Wire
+wire_in old new = record {
+  coming = old.left;
+  sent = old.output;
+  sent_now = new.output;
+  read_faults = old.read_faults;
+  read_faults_now = new.read_faults;
+  write_faults = old.output_faults;
+  write_faults_now = new.output_faults;
+}
+
+-- why there was none is a refusal with its status and its line, of a store of this name
+abbrev pub ToldTalk : List ℕ → Result ConnEnd JournalRefusal → Result ConnEnd Refusal → Type 0
+ToldTalk name (Ok end) (Ok told) = told ≡ end
+ToldTalk name (Ok end) (Err x) = ⊥
+ToldTalk name (Err e) (Ok told) = ⊥
+ToldTalk name (Err e) (Err x) = RefusedAs (making_status e) (making_line name e) x
+
+-- A connection asked a journal in memory that begins as a text. The files and the error output aren't touched.
+pub record TalkedText {J O E S M : Type 0} (sc : Outside J O E S M → Scene) (m : Makers M) (text : List ℕ) (level : Allow) (day : Day)
+    (old new : Outside J O E S M) (r : Result ConnEnd Refusal) : Type 0 where
+  pub made : Result ConnEnd JournalRefusal
+  pub talks : TalksFrom text level day.0 (told_by m old.maker new.maker) (wire_in (sc old) (sc new)) made
+  -- where there was none the input is as it was
+  pub untouched : OnErr made ((new.streams ≡ old.streams) × (new.maker ≡ old.maker))
+  pub told : ToldTalk [] made r
+  pub rest : new ≡ record old { streams = new.streams; maker = new.maker }
+
+abbrev pub TalkedAfter : {J O E S M : Type 0} → (Outside J O E S M → Scene) → Makers M → Allow → Day → Result (List ℕ) Refusal
+    → Outside J O E S M → Outside J O E S M → Result ConnEnd Refusal → Type 0
+TalkedAfter sc m level day (Ok text) old new r = TalkedText sc m text level day old new r
+TalkedAfter sc m level day (Err x) old new r = (r ≡ Err x) × (new ≡ old)
+
+-- The text is that of a file, which was read first.
+pub record TalkedFile {J O E S D M : Type 0} (sc : Outside J O E S M → Scene) (s : Shelves S D) (m : Makers M) (name : List ℕ) (level : Allow) (day : Day)
+    (old new : Outside J O E S M) (r : Result ConnEnd Refusal) : Type 0 where
+  pub mid : Outside J O E S M
+  pub read : Result (List ℕ) Refusal
+  pub reads : ReadsText (origins.File name) read (sc old) (sc mid)
+  pub shelf : LoadsFile s most_bytes name old.shelf mid.shelf read
+  pub rest : mid ≡ record old { shelf = mid.shelf }
+  pub talks : TalkedAfter sc m level day read mid new r
+
+-- A connection asked a store.
+pub record TalkedStore {J O E S D M : Type 0} (sc : Outside J O E S M → Scene) (s : Shelves S D) (g : Disks D) (m : Makers M) (name : List ℕ) (level : Allow)
+    (day : Day) (old new : Outside J O E S M) (r : Result ConnEnd Refusal) : Type 0 where
+  pub made : Result ConnEnd JournalRefusal
+  pub talks : TalksStore s g name level day.0 (told_by m old.maker new.maker) (wire_in (sc old) (sc new)) old.shelf new.shelf made
+  pub untouched : OnErr made ((new.streams ≡ old.streams) × (new.maker ≡ old.maker))
+  pub told : ToldTalk name made r
+  pub rest : new ≡ record old { streams = new.streams; shelf = new.shelf; maker = new.maker }
+
+-- What a connection does, by where its journal is.
+abbrev pub TalkedOver : {J O E S D M : Type 0} → (Outside J O E S M → Scene) → Shelves S D → Disks D → Makers M → Origin → Allow → Day
+    → Outside J O E S M → Outside J O E S M → Result ConnEnd Refusal → Type 0
+TalkedOver sc s g m origins.Input level day old new r = TalkedText sc m [] level day old new r
+TalkedOver sc s g m (origins.File name) level day old new r = TalkedFile sc s m name level day old new r
+TalkedOver sc s g m (origins.Store name) level day old new r = TalkedStore sc s g m name level day old new r
+
+-- A connection was answered to its end, or why there was none; or memory ran out for its words. Then its end was told, which leaves all
+-- but the error output.
+pub record RunsTalk {J O E S D M : Type 0} (sc : Outside J O E S M → Scene) (so : Outside J O E S M → Soundness) (s : Shelves S D) (g : Disks D) (m : Makers M) (what : Talking) (day : Day)
+    (status : ℕ) (old new : Outside J O E S M) : Type 0 where
+  pub last : Outside J O E S M
+  pub end : Result ConnEnd Refusal
+  pub talked : TalkedOver sc s g m what.origin what.allow day old last end ⊎ ((end ≡ Err refusal.Memory) × (last ≡ old))
+  pub told : TellsTalk status (sc last) (sc new) end
+  pub soundly : TellsSoundly (so last) status end
+  pub stays : (new.shelf ≡ last.shelf) × (new.maker ≡ last.maker) × (new.streams ≡ last.streams)

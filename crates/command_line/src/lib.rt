@@ -2,9 +2,12 @@
 #![tactic(auto)]
 
 mod answering;
+mod files;
+mod frames;
 mod help;
 mod outside;
 mod program;
+mod sample;
 mod source;
 mod store_tasks;
 mod stored;

@@ -1,21 +1,26 @@
 //! The program's run over its words, its input, its files and its outputs.
-ghost use Rattle.std.specs.Prelude.{◌≡◌, ◌≢◌, ◌⊎◌, length};
+ghost use Rattle.std.specs.Prelude.{◌≡◌, ◌≢◌, ◌⊎◌, ◌≤◌, length};
 ghost use Rattle.hl_base.specs.Causes.{Rose};
 ghost use Rattle.hl_time.specs.Calendar.{IsDay};
 ghost use Rattle.book_commands.specs.Works.{IsWorkable};
 ghost use Rattle.command_line.specs.Answers.{IsStatus, Says, Wrote, WrotePrefix, line_of, status_of};
 ghost use Rattle.command_words.specs.Commands.{IsReadable, task_of};
+ghost use Rattle.command_line.specs.Complete.{Completes, CompletesTask};
 ghost use Rattle.refusals.specs.Errors.{write_fault_line};
 ghost use Rattle.command_line.specs.Runs.{RunsText, TextSoundly, Runs, RunsSoundly, RunsTask, TaskSoundly};
 ghost use Rattle.command_line.specs.Scenes.{scene, soundness};
-ghost use Rattle.command_line.specs.StoreTasks.{RunsStored, Stores, StoresTask};
+ghost use Rattle.command_line.specs.Samples.{RunsSample};
+ghost use Rattle.command_line.specs.StoreRuns.{RunsStored};
+ghost use Rattle.command_line.specs.Talks.{RunsTalk};
+ghost use Rattle.command_line.specs.Tasks.{Stores, StoresTask};
 
 use crate::answering::answer;
 use crate::help::{help_text, version_text};
 use crate::outside::Outside;
+use crate::sample::answer_sample;
 use crate::store_tasks::answer_stored;
-use crate::talk::talk;
-use command_words::{StoreTask, Task, TextTask, read_words, refuse_words};
+use crate::talk::{talk, tell_end};
+use command_words::{StoreTask, Talking, Task, TextTask, read_words, refuse_words};
 use hl_base::{Shelf, Sink, Source, Steps, Text, write_all};
 use hl_time::Day;
 use query::Maker;
@@ -43,8 +48,9 @@ fn status_and_line(refusal: &Refusal) -> (u8, &[u8])
 
 /// Writes a line that says why a run doesn't end well; where it can't be written the status is 4.
 pub fn say<E: Sink>(err: &mut E, status: u8, line: &[u8]) -> Status
-    ensures { Says result.0 status line.now
+    ensures told { Says result.0 status line.now
         (E.written err.old) (E.written err.new) (E.faults err.old) (E.faults err.new) }
+    ensures sound { E.HasRoom err.old (length line.now) → result.0 ≡ status }
 {
     match write_all(err, line) {
         Ok(()) => Status(status),
@@ -60,10 +66,7 @@ fn refuse<E: Sink>(err: &mut E, refusal: &Refusal) -> Status
         → result.0 ≡ status_of refusal.now }
 {
     let (status, line) = status_and_line(refusal);
-    match write_all(err, line) {
-        Ok(()) => Status(status),
-        Err(_) => Status(4),
-    }
+    say(err, status, line)
 }
 
 /// Writes a command's output; where it can't all be written, the error line says so and the status is 4.
@@ -122,10 +125,53 @@ fn run_stored<J: Source, O: Sink, E: Sink, S: Shelf, M: Maker, L: Ledger>(
     requires day { IsDay day.0 }
     ensures statuses { IsStatus result.0 }
     ensures read { result.0 ≢ 2 }
-    ensures stored { RunsStored (scene J.Source O.Sink E.Sink S.Shelf M.Maker)
-        S.Shelf S.Disk.Disk M.Maker task day result.0 outside.old outside.new }
+    ensures stored { RunsStored J.Source (scene J.Source O.Sink E.Sink S.Shelf M.Maker)
+        (soundness J.Source O.Sink E.Sink S.Shelf) S.Shelf S.Disk.Disk M.Maker task day result.0 outside.old outside.new }
 {
     match answer_stored(alloc, task, day, outside, steps) {
+        Ok(output) => finish(
+            &mut outside.streams.output,
+            &mut outside.err,
+            output.as_slice(),
+        ),
+        Err(refusal) => refuse(&mut outside.err, &refusal),
+    }
+}
+
+/// Runs one connection over the input and the output, and tells how it ended, or why there was none.
+fn run_talk<J: Source, O: Sink, E: Sink, S: Shelf, M: Maker, L: Ledger>(
+    alloc: Global,
+    what: Talking,
+    day: Day,
+    outside: &mut Outside<J, O, E, S, M>,
+    steps: &mut Steps<L>,
+) -> Status
+    requires day { IsDay day.0 }
+    ensures statuses { IsStatus result.0 }
+    ensures read { result.0 ≢ 2 }
+    ensures talked { RunsTalk (scene J.Source O.Sink E.Sink S.Shelf M.Maker)
+        (soundness J.Source O.Sink E.Sink S.Shelf) S.Shelf S.Disk.Disk M.Maker what day result.0 outside.old outside.new }
+{
+    match talk(alloc, what, day, outside, steps) {
+        Ok(end) => tell_end(&mut outside.err, end),
+        Err(refusal) => refuse(&mut outside.err, &refusal),
+    }
+}
+
+/// Tells a sample, or why there is none.
+fn run_sample<J: Source, O: Sink, E: Sink, S: Shelf, M: Maker, L: Ledger>(
+    alloc: Global,
+    count: u64,
+    outside: &mut Outside<J, O, E, S, M>,
+    steps: &mut Steps<L>,
+) -> Status
+    requires few { count ≤ 100000 }
+    ensures statuses { IsStatus result.0 }
+    ensures read { result.0 ≢ 2 }
+    ensures sampled { RunsSample (scene J.Source O.Sink E.Sink S.Shelf M.Maker)
+        (soundness J.Source O.Sink E.Sink S.Shelf) count result.0 outside.old outside.new }
+{
+    match answer_sample(alloc, count, steps) {
         Ok(output) => finish(
             &mut outside.streams.output,
             &mut outside.err,
@@ -152,20 +198,17 @@ fn run_task<J: Source, O: Sink, E: Sink, S: Shelf, M: Maker, L: Ledger>(
     ensures sound { TaskSoundly day.0 result.0
         (scene J.Source O.Sink E.Sink S.Shelf M.Maker outside.old)
         (soundness J.Source O.Sink E.Sink S.Shelf outside.old) task }
-    ensures stored { StoresTask (scene J.Source O.Sink E.Sink S.Shelf M.Maker)
-        S.Shelf S.Disk.Disk M.Maker day result.0 outside.old outside.new task }
+    ensures complete { CompletesTask day.0 result.0
+        (scene J.Source O.Sink E.Sink S.Shelf M.Maker outside.old)
+        (scene J.Source O.Sink E.Sink S.Shelf M.Maker outside.new) task }
+    ensures stored { StoresTask J.Source (scene J.Source O.Sink E.Sink S.Shelf M.Maker)
+        (soundness J.Source O.Sink E.Sink S.Shelf) S.Shelf S.Disk.Disk M.Maker day result.0 outside.old outside.new task }
 {
     match task {
         Task::Over(given) => run_text(alloc, &given, day, outside, steps),
         Task::Stored(what) => run_stored(alloc, what, day, outside, steps),
-        Task::Talk => talk(
-            alloc,
-            day,
-            &mut outside.streams,
-            &mut outside.err,
-            &mut outside.maker,
-            steps,
-        ),
+        Task::Talk(what) => run_talk(alloc, what, day, outside, steps),
+        Task::Sample(count) => run_sample(alloc, count, outside, steps),
         Task::Help => finish(
             &mut outside.streams.output,
             &mut outside.err,
@@ -185,8 +228,9 @@ fn run_task<J: Source, O: Sink, E: Sink, S: Shelf, M: Maker, L: Ledger>(
 /// reading; 3 where the input, the file or the store couldn't be read; 4 where an output couldn't be written; 5 where a
 /// disk of the store failed; 6 where memory ran out; 7 where the text, what rules make or a report is past a limit; and 8
 /// where there is no file or no store of that name. Dates without a year have that of the day, and in a store they don't
-/// read. `talk` answers the requests of one connection over the input and the output, to a journal that begins empty. No
-/// file is changed but those of a store that is read, whose image stays.
+/// read. `talk` answers the requests of one connection over the input and the output, to a journal in memory that begins as the
+/// text of a file or empty, or to a store; what a request is answered sets no status, but how the connection ends does. No
+/// file is changed but those of a store: one that is read keeps its image.
 pub fn run<J: Source, O: Sink, E: Sink, S: Shelf, M: Maker, L: Ledger>(
     alloc: Global,
     words: &[Text],
@@ -202,8 +246,11 @@ pub fn run<J: Source, O: Sink, E: Sink, S: Shelf, M: Maker, L: Ledger>(
     ensures sound { RunsSoundly words.now day.0 result.0
         (scene J.Source O.Sink E.Sink S.Shelf M.Maker outside.old)
         (soundness J.Source O.Sink E.Sink S.Shelf outside.old) (task_of day.0 words.now) }
-    ensures stored { Stores (scene J.Source O.Sink E.Sink S.Shelf M.Maker)
-        S.Shelf S.Disk.Disk M.Maker day result.0 outside.old outside.new (task_of day.0 words.now) }
+    ensures complete { Completes day.0 result.0
+        (scene J.Source O.Sink E.Sink S.Shelf M.Maker outside.old)
+        (scene J.Source O.Sink E.Sink S.Shelf M.Maker outside.new) (task_of day.0 words.now) }
+    ensures stored { Stores J.Source (scene J.Source O.Sink E.Sink S.Shelf M.Maker)
+        (soundness J.Source O.Sink E.Sink S.Shelf) S.Shelf S.Disk.Disk M.Maker day result.0 outside.old outside.new (task_of day.0 words.now) }
 {
     match read_words(alloc, words, day) {
         Ok(task) => run_task(alloc, task, day, outside, steps),

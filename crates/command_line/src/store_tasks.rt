@@ -4,18 +4,20 @@ ghost use Rattle.hl_base.specs.Causes.{Rose};
 ghost use Rattle.hl_time.specs.Calendar.{IsDay};
 ghost use Rattle.store_making.specs.Lines.{line_of, status_of};
 ghost use Rattle.store_commands.specs.Replies.{IsEdit, IsEditReply, line_of as reply_line_of, status_of as reply_status_of};
-ghost use Rattle.command_line.specs.Answers.{FindsText, IsOfFile};
 ghost use Rattle.command_line.specs.Scenes.{scene};
+ghost use Rattle.command_line.specs.StoreRuns.{AnswersStored};
 ghost use Rattle.command_line.specs.StoreTasks as spec;
 
+use crate::files::load_file;
+use crate::frames::{feed, follow};
 use crate::outside::Outside;
 use crate::source::read_text;
 use command_words::{Importing, Making, Origin, StoreTask};
 use desk::{Reply, Request};
-use hl_base::{Bytes, Memory, Shelf, ShelfFault, Sink, Source, Steps, Text};
+use hl_base::{Bytes, Memory, Shelf, Sink, Source, Steps, Text};
 use hl_time::Day;
 use query::Maker;
-use refusals::{Refusal, absent, past_limit};
+use refusals::Refusal;
 use std::alloc::Global;
 use std::sync::ledger::Ledger;
 use store_commands::{StoreEdit, edit_store, reply_line, reply_status};
@@ -24,53 +26,8 @@ use store_making::{JournalRefusal, init_store, journal_line, journal_status};
 /// The most bytes of a file that is imported, and of its rules.
 const MOST_IMPORTED: u64 = 8_388_608;
 
-/// The refusal of a file with more bytes than it may have.
-fn too_long(alloc: Global) -> Refusal
-    ensures refused { (name bytes : List ℕ) → 8388608 < length bytes
-        → FindsText (Err result) (spec.file_within spec.most_imported name (Some bytes)) }
-    ensures kind { IsOfFile result }
-    ensures read { result ≢ Refusal.ReadFault }
-{
-    match past_limit(alloc, MOST_IMPORTED + 1, MOST_IMPORTED) {
-        Ok(line) => Refusal::Line { status: 7, line },
-        Err(_) => Refusal::Memory,
-    }
-}
-
-/// The refusal of a name under which there is no file.
-fn no_file(alloc: Global, name: &Text) -> Refusal
-    ensures refused { FindsText (Err result) (spec.file_within spec.most_imported name.now None) }
-    ensures kind { IsOfFile result }
-    ensures read { result ≢ Refusal.ReadFault }
-{
-    match absent(alloc, name) {
-        Ok(line) => Refusal::Line { status: 8, line },
-        Err(_) => Refusal::Memory,
-    }
-}
-
-/// The bytes of a file that is imported, or of its rules. All names keep what stands under them.
-fn load_imported<S: Shelf>(alloc: Global, name: &Text, shelf: &mut S) -> Result<Bytes, Refusal>
-    ensures found { IsTrue ((S.tells shelf.old).files) → FindsText result
-        (spec.file_within spec.most_imported name.now (S.file shelf.old name.now)) }
-    ensures kind { IfErr result IsOfFile }
-    ensures disks { S.disk_faults shelf.new ≡ S.disk_faults shelf.old }
-    ensures rose { result ≡ Err Refusal.ReadFault → Rose (S.faults shelf.old) (S.faults shelf.new) }
-    ensures named { result ≡ Err Refusal.ReadFault → S.last_failed shelf.new ≡ Some name.now }
-    ensures files { (other : List ℕ) → S.file shelf.new other ≡ S.file shelf.old other }
-    ensures sound { S.IsSound shelf.old → result ≢ Err Refusal.ReadFault }
-{
-    match shelf.load(alloc, name, MOST_IMPORTED) {
-        Ok(bytes) => Ok(bytes),
-        Err(ShelfFault::TooLong { .. }) => Err(too_long(alloc)),
-        Err(ShelfFault::Absent) => Err(no_file(alloc, name)),
-        Err(ShelfFault::Failed) => Err(Refusal::ReadFault),
-        Err(ShelfFault::Memory) => Err(Refusal::Memory),
-    }
-}
-
-/// The refusal of a store of this name.
-fn refuse_journal(alloc: Global, name: &Text, refusal: &JournalRefusal) -> Refusal
+/// The refusal of a journal, of a store of this name.
+pub(crate) fn refuse_journal(alloc: Global, name: &Text, refusal: &JournalRefusal) -> Refusal
     ensures refused { spec.RefusedAs (status_of refusal.now) (line_of name.now refusal.now) result }
     ensures kind { spec.IsOfStored result }
 {
@@ -199,7 +156,7 @@ fn import_by<J: Source, O: Sink, E: Sink, S: Shelf, M: Maker, L: Ledger>(
     ensures kind { IfErr result spec.IsOfStored }
 {
     let Importing { store, file, rules } = what;
-    match load_imported(alloc, &rules, &mut outside.shelf) {
+    match load_file(alloc, &rules, MOST_IMPORTED, &mut outside.shelf) {
         Ok(rules) => {
             let request = Request::Import {
                 name: file,
@@ -229,13 +186,13 @@ fn import<J: Source, O: Sink, E: Sink, S: Shelf, M: Maker, L: Ledger>(
     ensures imports { spec.ImportsFile S.Shelf S.Disk.Disk M.Maker what day outside.old outside.new result }
     ensures kind { IfErr result spec.IsOfStored }
 {
-    match load_imported(alloc, &what.file, &mut outside.shelf) {
+    match load_file(alloc, &what.file, MOST_IMPORTED, &mut outside.shelf) {
         Ok(csv) => import_by(alloc, what, csv, day, outside, steps),
         Err(refusal) => Err(refusal),
     }
 }
 
-/// What is answered to a command that makes a store or edits one, before anything is written.
+/// What is answered to a command that makes a store, edits one, or is over frames, before anything is written.
 pub(crate) fn answer_stored<J: Source, O: Sink, E: Sink, S: Shelf, M: Maker, L: Ledger>(
     alloc: Global,
     task: StoreTask,
@@ -244,7 +201,7 @@ pub(crate) fn answer_stored<J: Source, O: Sink, E: Sink, S: Shelf, M: Maker, L: 
     steps: &mut Steps<L>,
 ) -> Result<Bytes, Refusal>
     requires { IsDay day.0 }
-    ensures answers { spec.AnswersStored (scene J.Source O.Sink E.Sink S.Shelf M.Maker)
+    ensures answers { AnswersStored J.Source (scene J.Source O.Sink E.Sink S.Shelf M.Maker)
         S.Shelf S.Disk.Disk M.Maker task day outside.old outside.new result }
     ensures kind { IfErr result spec.IsOfStored }
 {
@@ -252,5 +209,7 @@ pub(crate) fn answer_stored<J: Source, O: Sink, E: Sink, S: Shelf, M: Maker, L: 
         StoreTask::Init(what) => init(alloc, &what, outside, steps),
         StoreTask::Add(store) => add(alloc, store, day, outside, steps),
         StoreTask::Import(what) => import(alloc, what, day, outside, steps),
+        StoreTask::Feed(name) => feed(alloc, &name, outside),
+        StoreTask::Follow(what) => follow(alloc, &what, outside),
     }
 }

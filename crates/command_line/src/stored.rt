@@ -20,7 +20,7 @@ fn store_line(alloc: Global, name: &Text, refusal: StoreRefusal) -> Refusal
 }
 
 /// The refusal of a store of this name.
-fn refuse_store(alloc: Global, name: &Text, refusal: StoreRefusal) -> Refusal
+pub(crate) fn refuse_store(alloc: Global, name: &Text, refusal: StoreRefusal) -> Refusal
     ensures { RefusesStore result name.now refusal }
 {
     match refusal {

@@ -1,116 +1,126 @@
-//! One connection over the input and the output, to a journal in memory that begins empty.
-ghost use Rattle.std.specs.Prelude.{◌≡◌, ◌≢◌, ◌⊎◌, ◌++◌, ℕ, List, [], None, Some, IfOk, IfSome};
-ghost use Rattle.hl_base.specs.Causes.{Rose};
+//! One connection over the input and the output: to a journal in memory, or to a store.
+ghost use Rattle.std.specs.Prelude.{◌≡◌, [], IfErr, length};
 ghost use Rattle.hl_time.specs.Calendar.{IsDay};
-ghost use Rattle.desk.specs.Desks.{state_of};
-ghost use Rattle.live_journal.specs.Loading.{open_cause};
-ghost use Rattle.text_store.specs.declared.fault.StoreFault.TheVariants as store_fault;
-ghost use Rattle.web_desk.specs.Counts.{Counted};
-ghost use Rattle.web_desk.specs.declared.conn_end.ConnEnd.{ConnEnd};
-ghost use Rattle.web_desk.specs.declared.conn_end.ConnEnd.TheVariants as conn;
-ghost use Rattle.command_line.specs.Answers.{IsStatus};
-ghost use Rattle.book_commands.specs.Answers.{told_by};
-ghost use Rattle.command_line.specs.Talks.{IsWantOfMemory, NeverFails, Talks, TellsEnd, begun, room};
+ghost use Rattle.command_line.specs.Scenes.{scene};
+ghost use Rattle.command_line.specs.StoreTasks.{IsOfStored};
+ghost use Rattle.command_line.specs.Talks as spec;
 
+use crate::outside::Outside;
 use crate::program::{Status, say};
-use crate::streams::Streams;
-use desk::{Allow, Desk, DeskFault};
-use hl_base::{Link, MemClock, MemDisk, Memory, Sink, Source, Steps};
+use crate::source::read_text;
+use crate::store_tasks::refuse_journal;
+use command_words::{Origin, Talking};
+use hl_base::{Shelf, Sink, Source, Steps, Text};
 use hl_time::Day;
-use live_journal::OpenFault;
 use query::Maker;
+use refusals::Refusal;
 use std::alloc::Global;
 use std::sync::ledger::Ledger;
-use text_store::StoreFault;
-use web_desk::{Alone, ConnEnd, Way, serve_link};
+use talk_commands::{StoreTalk, Terms, talk_from, talk_store};
+use web_desk::{ConnEnd, Way};
 
-/// The room of each disk, and the limit of the store, in bytes.
-const ROOM: u64 = 67_108_864;
-
-/// That a text which loads makes no journal: memory ran out.
-fn unloaded(fault: &OpenFault) -> Memory
-    requires { open_cause fault.now ≡ None }
-{
-    match fault {
-        OpenFault::Memory => Memory,
-        OpenFault::Load(_) => unreachable!(),
-        OpenFault::TooLarge { .. } => unreachable!(),
-    }
-}
-
-/// That files with room which never fail make no store: memory ran out.
-fn unstored(fault: StoreFault) -> Memory
-    requires { fault ≡ store_fault.Memory }
-{
-    match fault {
-        StoreFault::Memory => Memory,
-        StoreFault::DiskFault => unreachable!(),
-        StoreFault::NotAStore { .. } => unreachable!(),
-        StoreFault::Newer { .. } => unreachable!(),
-        StoreFault::Full { .. } => unreachable!(),
-        StoreFault::Exists { .. } => unreachable!(),
-    }
-}
-
-/// Why there is no machine where only memory may be wanting.
-fn unmade(fault: &DeskFault) -> Memory
-    requires { IsWantOfMemory fault.now }
-{
-    match fault {
-        DeskFault::Memory => Memory,
-        DeskFault::Load(fault) => unloaded(fault),
-        DeskFault::Store(fault) => unstored(*fault),
-    }
-}
-
-/// The machine of an empty journal in memory, to which entries may be added. Its text loads, and its disks have room and
-/// never fail, so only want of memory refuses it.
-fn machine<L: Ledger>(alloc: Global, steps: &mut Steps<L>) -> Result<Desk<MemDisk>, Memory>
-    ensures begun { IfOk result (λ desk. state_of desk ≡ begun) }
-    ensures sound { IfOk result (λ desk. NeverFails room desk) }
-{
-    let first = MemDisk::new(alloc, &[], ROOM, None, &[])?;
-    let second = MemDisk::new(alloc, &[], ROOM, None, &[])?;
-    match Desk::create(alloc, first, second, &[], ROOM, Allow::Add, steps) {
-        Ok(desk) => Ok(desk),
-        Err((_, _, fault)) => Err(unmade(&fault)),
-    }
-}
-
-/// Answers the messages that come over a link, on a day, from a journal that begins empty.
-fn talk_over<K: Link, M: Maker, L: Ledger>(
+/// One connection to a journal in memory that begins as a text.
+fn talk_text<J: Source, O: Sink, E: Sink, S: Shelf, M: Maker, L: Ledger>(
     alloc: Global,
-    day: Day,
-    link: &mut K,
-    maker: &mut M,
+    text: &[u8],
+    terms: Terms,
+    outside: &mut Outside<J, O, E, S, M>,
     steps: &mut Steps<L>,
-) -> ConnEnd
-    requires { IsDay day.0 }
-    ensures talked { IfSome (K.coming link.old) (λ bytes. IfSome (K.sent link.old) (λ before.
-        (text : List ℕ) × (K.sent link.new ≡ Some (before ++ text))
-        × Talks day.0 (told_by M.Maker maker.old maker.new) bytes result text)) }
-    ensures counted { Counted result
-        (K.read_faults link.old) (K.read_faults link.new) (K.write_faults link.old) (K.write_faults link.new) }
-    ensures unspent { result ≢ ConnEnd.Spent }
+) -> Result<ConnEnd, Refusal>
+    requires { IsDay terms.day.0 }
+    ensures talks { spec.TalkedText (scene J.Source O.Sink E.Sink S.Shelf M.Maker)
+        M.Maker text.now terms.allow terms.day outside.old outside.new result }
+    ensures kind { IfErr result IsOfStored }
 {
-    let Ok(mut desk) = machine(alloc, steps) else {
-        return ConnEnd::Memory;
-    };
-    let mut ask = Alone { desk: &mut desk };
-    serve_link(
+    match talk_from(
         alloc,
-        &mut ask,
-        link,
-        &mut MemClock::new(day.0),
-        maker,
+        text,
+        terms,
+        &mut outside.streams,
+        &mut outside.maker,
         steps,
-    )
+    ) {
+        Ok(end) => Ok(end),
+        Err(refusal) => Err(refuse_journal(alloc, &Text::new(alloc), &refusal)),
+    }
+}
+
+/// One connection to a journal in memory that begins as the text of a file.
+fn talk_file<J: Source, O: Sink, E: Sink, S: Shelf, M: Maker, L: Ledger>(
+    alloc: Global,
+    name: Text,
+    terms: Terms,
+    outside: &mut Outside<J, O, E, S, M>,
+    steps: &mut Steps<L>,
+) -> Result<ConnEnd, Refusal>
+    requires { IsDay terms.day.0 }
+    ensures talks { spec.TalkedFile (scene J.Source O.Sink E.Sink S.Shelf M.Maker)
+        S.Shelf M.Maker name terms.allow terms.day outside.old outside.new result }
+    ensures kind { IfErr result IsOfStored }
+{
+    let source = Origin::File(name);
+    match read_text(alloc, &source, outside) {
+        Ok(text) => talk_text(alloc, text.as_slice(), terms, outside, steps),
+        Err(refusal) => Err(refusal),
+    }
+}
+
+/// One connection to a store.
+fn talk_over<J: Source, O: Sink, E: Sink, S: Shelf, M: Maker, L: Ledger>(
+    alloc: Global,
+    talk: &StoreTalk,
+    outside: &mut Outside<J, O, E, S, M>,
+    steps: &mut Steps<L>,
+) -> Result<ConnEnd, Refusal>
+    requires { IsDay talk.now.terms.day.0 }
+    ensures talks { spec.TalkedStore (scene J.Source O.Sink E.Sink S.Shelf M.Maker)
+        S.Shelf S.Disk.Disk M.Maker talk.now.store talk.now.terms.allow talk.now.terms.day outside.old outside.new result }
+    ensures kind { IfErr result IsOfStored }
+{
+    match talk_store(
+        alloc,
+        talk,
+        &mut outside.shelf,
+        &mut outside.streams,
+        &mut outside.maker,
+        steps,
+    ) {
+        Ok(end) => Ok(end),
+        Err(refusal) => Err(refuse_journal(alloc, &talk.store, &refusal)),
+    }
+}
+
+/// One connection over the input and the output, on a day: how it ended, or why there was none.
+pub(crate) fn talk<J: Source, O: Sink, E: Sink, S: Shelf, M: Maker, L: Ledger>(
+    alloc: Global,
+    what: Talking,
+    day: Day,
+    outside: &mut Outside<J, O, E, S, M>,
+    steps: &mut Steps<L>,
+) -> Result<ConnEnd, Refusal>
+    requires { IsDay day.0 }
+    ensures talks { spec.TalkedOver (scene J.Source O.Sink E.Sink S.Shelf M.Maker)
+        S.Shelf S.Disk.Disk M.Maker what.origin what.allow day outside.old outside.new result }
+    ensures kind { IfErr result IsOfStored }
+{
+    let Talking { origin, allow } = what;
+    let terms = Terms { allow, day };
+    match origin {
+        Origin::Input => talk_text(alloc, &[], terms, outside, steps),
+        Origin::File(name) => talk_file(alloc, name, terms, outside, steps),
+        Origin::Store(store) => {
+            let talk = StoreTalk { store, terms };
+            talk_over(alloc, &talk, outside, steps)
+        }
+    }
 }
 
 /// The exit status of a read or a write that failed, with its line.
 fn tell_fault<E: Sink>(err: &mut E, way: Way) -> Status
-    ensures { TellsEnd (ConnEnd.LinkFault way) result.0
+    ensures told { spec.TellsEnd (ConnEnd.LinkFault way) result.0
         (E.written err.old) (E.written err.new) (E.faults err.old) (E.faults err.new) }
+    ensures sound { E.HasRoom err.old (length (spec.end_line (ConnEnd.LinkFault way)))
+        → result.0 ≡ spec.end_status (ConnEnd.LinkFault way) }
 {
     match way {
         Way::Read => say(err, 3, b"error: read fault\n"),
@@ -119,9 +129,10 @@ fn tell_fault<E: Sink>(err: &mut E, way: Way) -> Status
 }
 
 /// The exit status of an end. Where it isn't a good one its line is written.
-fn tell_end<E: Sink>(err: &mut E, end: ConnEnd) -> Status
-    ensures { TellsEnd end result.0
+pub(crate) fn tell_end<E: Sink>(err: &mut E, end: ConnEnd) -> Status
+    ensures told { spec.TellsEnd end result.0
         (E.written err.old) (E.written err.new) (E.faults err.old) (E.faults err.new) }
+    ensures sound { E.HasRoom err.old (length (spec.end_line end)) → result.0 ≡ spec.end_status end }
 {
     match end {
         ConnEnd::Closed => Status(0),
@@ -134,33 +145,4 @@ fn tell_end<E: Sink>(err: &mut E, end: ConnEnd) -> Status
         | ConnEnd::Spent
         | ConnEnd::HeadCut { .. } => say(err, 1, b"error: connection\n"),
     }
-}
-
-/// One connection over the input and the output, on a day, to a journal that begins empty.
-pub fn talk<J: Source, O: Sink, E: Sink, M: Maker, L: Ledger>(
-    alloc: Global,
-    day: Day,
-    streams: &mut Streams<J, O>,
-    err: &mut E,
-    maker: &mut M,
-    steps: &mut Steps<L>,
-) -> Status
-    requires { IsDay day.0 }
-    ensures statuses { IsStatus result.0 }
-    ensures read { result.0 ≢ 2 }
-    ensures talked { (end : ConnEnd) × (end ≢ conn.Spent)
-        × TellsEnd end result.0
-        (E.written err.old) (E.written err.new) (E.faults err.old) (E.faults err.new)
-        × IfSome (J.left streams.old.input) (λ bytes.
-        IfSome (O.written streams.old.output) (λ before.
-        (text : List ℕ) × (O.written streams.new.output ≡ Some (before ++ text))
-        × Talks day.0 (told_by M.Maker maker.old maker.new) bytes end text)) }
-    ensures read_fault { result.0 ≡ 3
-        → Rose (J.faults streams.old.input) (J.faults streams.new.input) }
-    ensures write_fault { result.0 ≡ 4
-        → Rose (O.faults streams.old.output) (O.faults streams.new.output)
-        ⊎ Rose (E.faults err.old) (E.faults err.new) }
-{
-    let end = talk_over(alloc, day, streams, maker, steps);
-    tell_end(err, end)
 }

@@ -7,17 +7,17 @@ use Rattle.command_line.proofs.program.finish.Goals as goal
 pub returns-in-Err-clause-statuses : goal.returns-in-Err-clause-statuses
 returns-in-Err-clause-statuses g c =
     let sink = g.E.Sink in
-    inr (said_four c.say.result.0 write_fault_line (sink.written c.args.err.now) (sink.written c.say.new.err) (sink.faults c.args.err.now) (sink.faults c.say.new.err) c.say.ensures)
+    inr (said_four c.say.result.0 write_fault_line (sink.written c.args.err.now) (sink.written c.say.new.err) (sink.faults c.args.err.now) (sink.faults c.say.new.err) c.say.ensures.told)
 
 pub returns-in-Err-clause-written : goal.returns-in-Err-clause-written
 returns-in-Err-clause-written g c = λ e.
     let sink = g.E.Sink in
-    absurd (not_same c.say.result.0 4 0 (said_four c.say.result.0 write_fault_line (sink.written c.args.err.now) (sink.written c.say.new.err) (sink.faults c.args.err.now) (sink.faults c.say.new.err) c.say.ensures) e (λ x. omega arith))
+    absurd (not_same c.say.result.0 4 0 (said_four c.say.result.0 write_fault_line (sink.written c.args.err.now) (sink.written c.say.new.err) (sink.faults c.args.err.now) (sink.faults c.say.new.err) c.say.ensures.told) e (λ x. omega arith))
 
 pub returns-in-Err-clause-quiet : goal.returns-in-Err-clause-quiet
 returns-in-Err-clause-quiet g c = λ e.
     let sink = g.E.Sink in
-    absurd (not_same c.say.result.0 4 0 (said_four c.say.result.0 write_fault_line (sink.written c.args.err.now) (sink.written c.say.new.err) (sink.faults c.args.err.now) (sink.faults c.say.new.err) c.say.ensures) e (λ x. omega arith))
+    absurd (not_same c.say.result.0 4 0 (said_four c.say.result.0 write_fault_line (sink.written c.args.err.now) (sink.written c.say.new.err) (sink.faults c.args.err.now) (sink.faults c.say.new.err) c.say.ensures.told) e (λ x. omega arith))
 
 pub returns-in-Err-clause-sound : goal.returns-in-Err-clause-sound
 returns-in-Err-clause-sound g c = λ h.

@@ -1,19 +1,16 @@
-use Rattle.std.proofs.Common.{◌≡◌, ℕ, ◌+◌, List, length, subst, sym, inr, refl, add-zero, ap, ◌∙◌}
-use Rattle.std.proofs.lemmas.Bool.{false≢true}
-use Rattle.command_line.specs.Answers.{WrotePrefix, line_of}
+use Rattle.std.proofs.Common.{ℕ, List, length, subst, sym, ◌∙◌}
+use Rattle.command_line.specs.Answers.{Says, line_of}
 use Rattle.command_line.proofs.program.refuse.Goals as goal
 
-pub returns-in-Err-clause-told : goal.returns-in-Err-clause-told
-returns-in-Err-clause-told g c =
+pub returns-clause-told : goal.returns-clause-told
+returns-clause-told g c =
     let sink = g.E.Sink in
-    let F : List ℕ → Type 0 = λ l. WrotePrefix (sink.written c.args.err.now) (sink.written c.write_all.new.out) l in
-    inr (refl, c.in-Err.ensures.rose, subst F c.status_and_line-status.ensures.line c.in-Err.ensures.prefix)
+    let said = c.status_and_line-status in
+    let F : ℕ → List ℕ → Type 0 = λ n l. Says c.say.result.0 n l (sink.written c.args.err.now) (sink.written c.say.new.err) (sink.faults c.args.err.now) (sink.faults c.say.new.err) in
+    subst (λ (n : ℕ). F n (line_of c.args.refusal.now)) said.ensures.status (subst (λ (l : List ℕ). F said.result.0 l) said.ensures.line c.say.ensures.told)
 
-pub returns-in-Err-clause-sound : goal.returns-in-Err-clause-sound
-returns-in-Err-clause-sound g c = λ h.
-    let sink = g.E.Sink in
-    let F : ℕ → Type 0 = λ n. sink.HasRoom c.args.err.now n in
-    let size : length (line_of c.args.refusal.now) ≡ length c.status_and_line-status.result.1.now + 0 =
-    ap length (sym c.status_and_line-status.ensures.line) ∙ sym (add-zero (length c.status_and_line-status.result.1.now)) in
-    let fails = c.in-Err.ensures.sound 0 (subst F size h) in
-    absurd (false≢true fails.0)
+pub returns-clause-sound : goal.returns-clause-sound
+returns-clause-sound g c = λ h.
+    let said = c.status_and_line-status in
+    let F : List ℕ → Type 0 = λ l. g.E.Sink.HasRoom c.args.err.now (length l) in
+    c.say.ensures.sound (subst F (sym said.ensures.line) h) ∙ said.ensures.status

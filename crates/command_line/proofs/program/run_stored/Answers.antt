@@ -1,4 +1,4 @@
-use Rattle.std.proofs.Common.{Ok, Err, refl, inl}
+use Rattle.std.proofs.Common.{Ok, Err, ℕ, List, length, refl, sym, subst, inl}
 use Rattle.command_line.specs.Scenes.{scene}
 use Rattle.command_line.proofs.StoreEnds.{said_status, written_end}
 use Rattle.command_line.proofs.program.run_stored.Goals as goal
@@ -21,6 +21,7 @@ returns-in-Err-clause-stored g c = record {
   answer = Err c.in-Err.refusal;
   answers = inl c.in-Err.ensures.answers;
   ends = (c.refuse.ensures.told, refl);
+  soundly = c.refuse.ensures.sound;
   stays = (refl, refl, refl);
 }
 
@@ -35,5 +36,6 @@ returns-in-Ok-clause-stored g c =
       ends = written_end c.finish.result.0 (scene g.J.Source g.O.Sink g.E.Sink g.S.Shelf g.M.Maker last) (scene g.J.Source g.O.Sink g.E.Sink g.S.Shelf g.M.Maker new)
           c.in-Ok.output c.as_slice.result.now c.as_slice.ensures
           c.finish.ensures.statuses c.finish.ensures.written c.finish.ensures.quiet c.finish.ensures.prefix c.finish.ensures.rose c.finish.ensures.said;
+      soundly = λ room. c.finish.ensures.sound (subst (λ (t : List ℕ). g.O.Sink.HasRoom last.streams.output (length t)) (sym c.as_slice.ensures) room);
       stays = (refl, refl, refl);
     }

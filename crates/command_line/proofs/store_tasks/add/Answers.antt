@@ -8,6 +8,7 @@ returns-in-Ok-clause-adds g c = record {
   mid = c.read_text.new.outside;
   read = Ok c.in-Ok.entry;
   reads = c.in-Ok.ensures.reads;
+  stays = (c.in-Ok.ensures.shelf, c.in-Ok.ensures.maker);
   adds = c.edit.ensures.edits;
 }
 
@@ -16,6 +17,7 @@ returns-in-Err-clause-adds g c = record {
   mid = c.read_text.new.outside;
   read = Err c.in-Err.refusal;
   reads = c.in-Err.ensures.reads;
+  stays = (c.in-Err.ensures.shelf, c.in-Err.ensures.maker);
   adds = (refl, refl);
 }
 

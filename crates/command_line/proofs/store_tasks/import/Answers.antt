@@ -6,9 +6,9 @@ pub returns-in-Ok-clause-imports : goal.returns-in-Ok-clause-imports
 returns-in-Ok-clause-imports g c =
     let read = c.in-Ok.ensures in
     record {
-      mid = c.load_imported.new.shelf;
+      mid = c.load_file.new.shelf;
       read = Ok c.in-Ok.csv;
-      reads = record { found = read.found; kind = tt; disks = read.disks; rose = read.rose; named = read.named; files = read.files; sound = read.sound };
+      reads = read;
       imports = c.import_by.ensures.imports;
     }
 
@@ -16,9 +16,9 @@ pub returns-in-Err-clause-imports : goal.returns-in-Err-clause-imports
 returns-in-Err-clause-imports g c =
     let read = c.in-Err.ensures in
     record {
-      mid = c.load_imported.new.shelf;
+      mid = c.load_file.new.shelf;
       read = Err c.in-Err.refusal;
-      reads = record { found = read.found; kind = read.kind; disks = read.disks; rose = read.rose; named = read.named; files = read.files; sound = read.sound };
+      reads = read;
       imports = (refl, refl);
     }
 

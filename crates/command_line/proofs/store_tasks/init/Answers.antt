@@ -10,6 +10,7 @@ returns-in-Ok-clause-inits g c =
       mid = c.read_text.new.outside;
       read = Ok c.in-Ok.text;
       reads = c.in-Ok.ensures.reads;
+      shelf = c.in-Ok.ensures.shelf;
       makes = subst F c.as_slice.ensures c.make_store.ensures.made;
       rest = refl;
     }
@@ -19,6 +20,7 @@ returns-in-Err-clause-inits g c = record {
   mid = c.read_text.new.outside;
   read = Err c.in-Err.refusal;
   reads = c.in-Err.ensures.reads;
+  shelf = c.in-Err.ensures.shelf;
   makes = (refl, refl);
   rest = refl;
 }

@@ -1,0 +1,354 @@
+-- A store that is made, edited or fed, to the end.
+use Rattle.std.proofs.Common.{◌≡◌, ◌⊎◌, inl, inr, ⊎_elim, ℕ, ◌≤◌, List, Option, None, Some, Result, Ok, Err, IsTrue, refl, sym, ◌∙◌, ap, subst, arith}
+use Rattle.hl_base.specs.Causes.{Rose}
+use Rattle.hl_base.specs.declared.disk.Disk.{Ghosts as Disks}
+use Rattle.hl_base.specs.declared.outside.Source.{Ghosts as Inputs}
+use Rattle.hl_base.specs.declared.outside.Sink.{Ghosts as Outputs}
+use Rattle.hl_base.specs.declared.shelf.Shelf.{Ghosts as Shelves}
+use Rattle.hl_time.specs.declared.day.Day.{Day}
+use Rattle.query_terms.specs.declared.making.Maker.{Ghosts as Makers}
+use Rattle.live_journal.specs.Loading.{fault_of}
+use Rattle.text_store.specs.declared.image.Image.{Image}
+use Rattle.text_store.specs.Files.{opened_limit, opened_size}
+use Rattle.desk.specs.States.{State, answer_to}
+use Rattle.desk.specs.declared.reply.Reply.{Reply}
+use Rattle.desk.specs.declared.reply.Reply.TheVariants as reply
+use Rattle.desk.specs.declared.request.Request.{Request}
+use Rattle.desk.specs.declared.request.Request.TheVariants as request
+use Rattle.refusals.specs.Outcomes.{Outcome}
+use Rattle.refusals.specs.declared.refusal.Refusal.{Refusal}
+use Rattle.refusals.specs.declared.refusal.Refusal.TheVariants as refusal
+use Rattle.store_text.specs.Lending.{NoneFailed}
+use Rattle.store_text.specs.Shelved.{image_in, image_under, or_empty, second_name}
+use Rattle.store_making.specs.Making.{MakesStore}
+use Rattle.store_making.specs.Refusals.{files_refusal}
+use Rattle.store_making.specs.declared.refusal.JournalRefusal.{JournalRefusal}
+use Rattle.store_commands.specs.Asking.{EditsStore, Patterns, opened_state, state_under, told_by}
+use Rattle.store_commands.specs.Replies.{line_of as reply_line, status_of as reply_status}
+use Rattle.command_words.specs.declared.task.Importing.{Importing}
+use Rattle.command_words.specs.declared.task.Making.{Making}
+use Rattle.command_words.specs.declared.task.Origin.{Origin}
+use Rattle.command_words.specs.declared.task.Origin.TheVariants as origins
+use Rattle.command_words.specs.declared.task.StoreTask.{StoreTask}
+use Rattle.command_words.specs.declared.task.StoreTask.TheVariants as stored
+use Rattle.command_line.specs.Answers.{FindsText, IsOfFile, IsOfSource, IsStore, status_of}
+use Rattle.command_line.specs.Complete.{AnswersWell, CompletesStored, IsDone, NoneRose}
+use Rattle.command_line.specs.Files.{LoadsFile, ReadsShelf}
+use Rattle.command_line.specs.Runs.{ReadsText}
+use Rattle.command_line.specs.Scenes.{OutputsStay, Scene, SourceRose, scene, soundness, text_in}
+use Rattle.command_line.specs.Sources.{file_within, most_bytes}
+use Rattle.command_line.specs.StoreRuns.{Ends, RunsStored}
+use Rattle.command_line.specs.StoreTasks.{AddedAfter, EditedBy, ImportedAfter, ImportedWith, InitsStore, MadeAfter, ToldEdit, ToldLine, ToldMaking, most_imported}
+use Rattle.command_line.specs.declared.outside.Outside.{Outside}
+use Rattle.command_line.proofs.Completing.{said_memory}
+use Rattle.command_line.proofs.TalkCompleting.{memory_of, ok_is, read_so, unread_by}
+
+-- all was answered, or memory ran out
+abbrev GoodAnswer : Result (List ℕ) Refusal → Type 0
+GoodAnswer (Ok output) = Unit {0}
+GoodAnswer (Err x) = status_of x ≡ 6
+
+ended_well : (status : ℕ) (last new : Scene) (answer : Result (List ℕ) Refusal) → GoodAnswer answer → Ends status last new answer
+    → (Rose last.output_faults new.output_faults → ⊥) → (Rose last.error_faults new.error_faults → ⊥) → IsDone status
+ended_well status last new (Ok output) good (inl h) no_output no_error = inl h.0
+ended_well status last new (Ok output) good (inr h) no_output no_error = absurd (no_output h.1.0)
+ended_well status last new (Err x) good ends no_output no_error =
+    said_memory x status last.error new.error last.error_faults new.error_faults good no_error ends.0
+
+-- ---- what is said of a store
+
+module _ {S D : Type 0} (s : Shelves S D) (g : Disks D) (old new : S) where
+  made_by : (what : Making) (text : List ℕ) (made : Result (Unit {0}) JournalRefusal) (r : Result (List ℕ) Refusal) → MakesStore s g what.store text what.limit old new made
+      → ToldMaking what.store made r → IsTrue ((s.tells old).files) → fault_of None text ≡ None
+      → files_refusal text what.limit (or_empty (s.file old what.store)) (or_empty (s.file old (second_name what.store))) ≡ None → NoneFailed s old new → GoodAnswer r
+  made_by what text (Ok done) (Ok output) makes said told loads free none = tt
+  made_by what text (Ok done) (Err x) makes said told loads free none = absurd said
+  made_by what text (Err e) (Ok output) makes said told loads free none = tt
+  made_by what text (Err e) (Err x) makes said told loads free none = memory_of what.store e x (makes.complete told loads free none) said
+
+  line_good : (status : ℕ) (line : List ℕ) (r : Result (List ℕ) Refusal) → (status ≡ 0) ⊎ (status ≡ 6) → ToldLine status line r → GoodAnswer r
+  line_good status line (Ok output) good said = tt
+  line_good status line (Err x) good (inl e) = ap status_of e
+  line_good status line (Err x) (inl zero) (inr h) = absurd (h.0 zero)
+  line_good status line (Err x) (inr six) (inr h) = ap status_of h.1 ∙ six
+
+  replied_status : (r good : Reply) → reply_status good ≡ 0 → (r ≡ reply.Memory) ⊎ (r ≡ good) → (reply_status r ≡ 0) ⊎ (reply_status r ≡ 6)
+  replied_status r good zero (inl e) = inr (ap reply_status e)
+  replied_status r good zero (inr e) = inl (ap reply_status e ∙ zero)
+
+  edited_by : (name : List ℕ) (what : Request) (day : Day) (p : Patterns) (asked : Result Reply JournalRefusal) (r : Result (List ℕ) Refusal)
+      → EditsStore s g name what day p old new asked → ToldEdit name asked r → IsTrue ((s.tells old).files) → (shown : Image) → image_under (s.file old) name ≡ Some (Ok shown)
+      → fault_of None shown.text ≡ None → reply_status ((answer_to (state_under (s.file old) name shown) day.0 what).reply) ≡ 0 → NoneFailed s old new
+      → (Rose p.before p.now → ⊥) → GoodAnswer r
+  edited_by name what day p (Ok x) r edits said told shown is loads zero none patterns =
+      line_good (reply_status x) (reply_line x) r
+      (replied_status x ((answer_to (state_under (s.file old) name shown) day.0 what).reply) zero (edits.complete told shown is loads none patterns)) said
+  edited_by name what day p (Err e) (Ok output) edits said told shown is loads zero none patterns = tt
+  edited_by name what day p (Err e) (Err x) edits said told shown is loads zero none patterns = memory_of name e x (edits.complete told shown is loads none patterns) said
+
+-- ---- a shelf that tells what it told
+
+record SameShelf {S D : Type 0} (s : Shelves S D) (old mid : S) : Type 0 where
+  told : s.tells mid ≡ s.tells old
+  files : (name : List ℕ) → s.file mid name ≡ s.file old name
+  later : s.faults old ≤ s.faults mid
+  disks : s.disk_faults old ≤ s.disk_faults mid
+
+module _ {S D : Type 0} (s : Shelves S D) where
+  same_at : (old mid : S) → mid ≡ old → SameShelf s old mid
+  same_at old mid is =
+      subst (λ (x : S). SameShelf s old x) (sym is) (record { told = refl; files = λ name. refl; later = omega arith; disks = omega arith })
+
+  same_loaded : (most : ℕ) (name : List ℕ) (old mid : S) (r : Result (List ℕ) Refusal) → LoadsFile s most name old mid r → SameShelf s old mid
+  same_loaded most name old mid r loads = record {
+    told = loads.tells;
+    files = λ other. loads.keeps.files other tt;
+    later = loads.later;
+    disks = omega (arith, loads.disks);
+  }
+
+  same_then : (old mid last : S) → SameShelf s old mid → SameShelf s mid last → SameShelf s old last
+  same_then old mid last a b = record {
+    told = b.told ∙ a.told;
+    files = λ name. b.files name ∙ a.files name;
+    later = omega (arith, a.later, b.later);
+    disks = omega (arith, a.disks, b.disks);
+  }
+
+  rose_from : (a b c : ℕ) → a ≤ b → Rose b c → Rose a c
+  rose_from a b c le (inl less) = inl (omega (arith, le, less))
+  rose_from a b c le (inr top) = inr top
+
+  module _ (old mid : S) (same : SameShelf s old mid) where
+    told_on : IsTrue ((s.tells old).files) → IsTrue ((s.tells mid).files)
+    told_on told = ap (λ t. t.files) same.told ∙ told
+
+    none_on : (last : S) → NoneFailed s old last → NoneFailed s mid last
+    none_on last none = (
+      λ rose. none.0 (rose_from (s.faults old) (s.faults mid) (s.faults last) same.later rose),
+      λ rose. none.1 (rose_from (s.disk_faults old) (s.disk_faults mid) (s.disk_faults last) same.disks rose),
+    )
+
+    both : {A : Type 0} (F : Option (List ℕ) → Option (List ℕ) → A) (name : List ℕ)
+        → F (s.file mid name) (s.file mid (second_name name)) ≡ F (s.file old name) (s.file old (second_name name))
+    both F name =
+        ap (λ (o : Option (List ℕ)). F o (s.file mid (second_name name))) (same.files name)
+        ∙ ap (λ (o : Option (List ℕ)). F (s.file old name) o) (same.files (second_name name))
+
+    state_on : (name : List ℕ) (shown : Image) → state_under (s.file mid) name shown ≡ state_under (s.file old) name shown
+    state_on name shown = both (λ a b. opened_state shown (opened_size (or_empty a) (or_empty b)) (opened_limit (or_empty a) (or_empty b))) name
+
+-- ---- runs
+
+-- the outputs are as they were
+pub record SameOutputs (old last : Scene) : Type 0 where
+  pub output : last.output_faults ≡ old.output_faults
+  pub error : last.error_faults ≡ old.error_faults
+
+abbrev refused : Refusal → Result (List ℕ) Refusal
+refused x = Err x
+
+module _ {J O E S D M : Type 0} (j : Inputs J) (o : Outputs O) (e : Outputs E) (s : Shelves S D) (g : Disks D) (m : Makers M) (day : Day) where
+  abbrev sc : Outside J O E S M → Scene
+  sc x = scene j o e s m x
+
+  -- the answer is good, and the outputs are as they were
+  abbrev IsWell : Outside J O E S M → Outside J O E S M → Result (List ℕ) Refusal → Type 0
+  IsWell old last r = GoodAnswer r × SameOutputs (scene j o e s m old) (scene j o e s m last)
+
+  stay_same : (old mid : Scene) → OutputsStay old mid → SameOutputs old mid
+  stay_same old mid stay = record { output = stay.output_faults; error = stay.error_faults }
+
+  -- a file wasn't read that is there
+  file_unread : (most : ℕ) (name bytes : List ℕ) (old mid : S) (x : Refusal) → LoadsFile s most name old mid (refused x) → IsTrue ((s.tells old).files)
+      → file_within most name (s.file old name) ≡ Ok bytes → (Rose (s.faults old) (s.faults mid) → ⊥) → status_of x ≡ 6
+  file_unread most name bytes old mid x loads told is none =
+      unread_by (origins.File name) x (file_within most name (s.file old name)) bytes is (loads.found told) loads.kind
+      (λ fault. none (loads.rose (ap refused fault)).0)
+      (λ fault. subst (λ (y : Refusal). IsOfFile y) fault loads.kind)
+
+  read_bytes : (a b : List ℕ) (told : Result (List ℕ) Outcome) → told ≡ Ok b → FindsText (Ok a) told → a ≡ b
+  read_bytes a b told is found = ok_is a b (sym found ∙ is)
+
+  -- ---- init
+
+  init_source : (origin : Origin) (old mid : Outside J O E S M) (read : Result (List ℕ) Refusal) → (IsStore origin → ⊥)
+      → ReadsShelf s most_bytes origin old.shelf mid.shelf read → SameShelf s old.shelf mid.shelf
+  init_source origins.Input old mid read plain shelf = same_at s old.shelf mid.shelf shelf
+  init_source (origins.File name) old mid read plain shelf = same_loaded s most_bytes name old.shelf mid.shelf read shelf
+  init_source (origins.Store name) old mid read plain shelf = absurd (plain tt)
+
+  source_unread : (origin : Origin) (old mid : Outside J O E S M) (text : List ℕ) (x : Refusal) → (IsStore origin → ⊥) → ReadsText origin (refused x) (sc old) (sc mid)
+      → text_in origin (sc old) ≡ Some (Ok text) → (Rose (j.faults old.streams.input) (j.faults mid.streams.input) → ⊥)
+      → (Rose (s.faults old.shelf) (s.faults mid.shelf) → ⊥) → status_of x ≡ 6
+  source_unread origin old mid text x plain reads is no_input no_shelf =
+      unread_by origin x (Ok text) text refl (read_so origin (sc old) (sc mid) text (refused x) reads is) reads.kind
+      (λ fault. source_rose origin plain (reads.rose (ap refused fault)))
+      (λ fault. no_disk origin plain (subst (λ (y : Refusal). IsOfSource origin y) fault reads.kind))
+    where
+      no_disk : (from : Origin) → (IsStore from → ⊥) → IsOfSource from refusal.DiskFault → ⊥
+      no_disk origins.Input plain kind = kind
+      no_disk (origins.File name) plain kind = kind
+      no_disk (origins.Store name) plain kind = plain tt
+
+      source_rose : (from : Origin) → (IsStore from → ⊥) → SourceRose from (sc old) (sc mid) → ⊥
+      source_rose origins.Input plain rose = no_input rose
+      source_rose (origins.File name) plain rose = no_shelf rose.0
+      source_rose (origins.Store name) plain rose = plain tt
+
+  init_by : (what : Making) (old mid last : Outside J O E S M) (read : Result (List ℕ) Refusal) (r : Result (List ℕ) Refusal) (text : List ℕ)
+      → ReadsText what.source read (sc old) (sc mid) → SameShelf s old.shelf mid.shelf → MadeAfter s g what read mid.shelf last.shelf r
+      → (IsStore what.source → ⊥) → text_in what.source (sc old) ≡ Some (Ok text) → fault_of None text ≡ None → IsTrue ((s.tells old.shelf).files)
+      → files_refusal text what.limit (or_empty (s.file old.shelf what.store)) (or_empty (s.file old.shelf (second_name what.store))) ≡ None
+      → NoneFailed s old.shelf last.shelf → (Rose (j.faults old.streams.input) (j.faults mid.streams.input) → ⊥) → GoodAnswer r
+  init_by what old mid last (Ok t) r text reads same makes plain is loads told free none no_input =
+      let at : t ≡ text = sym (ok_is text t (read_so what.source (sc old) (sc mid) text (Ok t) reads is)) in
+      let free_mid = both s old.shelf mid.shelf same (λ a b. files_refusal text what.limit (or_empty a) (or_empty b)) what.store ∙ free in
+      made_by s g mid.shelf last.shelf what t makes.0 r makes.1 makes.2 (told_on s old.shelf mid.shelf same told)
+      (subst (λ (x : List ℕ). fault_of None x ≡ None) (sym at) loads)
+      (subst (λ (x : List ℕ). files_refusal x what.limit (or_empty (s.file mid.shelf what.store)) (or_empty (s.file mid.shelf (second_name what.store))) ≡ None) (sym at) free_mid)
+      (none_on s old.shelf mid.shelf same last.shelf none)
+  init_by what old mid last (Err x) r text reads same makes plain is loads told free none no_input =
+      let six = source_unread what.source old mid text x plain reads is no_input
+      (λ rose. none.0 (subst (λ (y : S). Rose (s.faults old.shelf) (s.faults y)) (sym makes.1) rose)) in
+      subst (λ (y : Result (List ℕ) Refusal). GoodAnswer y) (sym makes.0) six
+
+  pub init_well : (what : Making) (old last : Outside J O E S M) (r : Result (List ℕ) Refusal) (text : List ℕ) → InitsStore sc s g what old last r
+      → (IsStore what.source → ⊥) → text_in what.source (sc old) ≡ Some (Ok text) → fault_of None text ≡ None → IsTrue ((s.tells old.shelf).files)
+      → files_refusal text what.limit (or_empty (s.file old.shelf what.store)) (or_empty (s.file old.shelf (second_name what.store))) ≡ None
+      → NoneFailed s old.shelf last.shelf → (Rose (j.faults old.streams.input) (j.faults last.streams.input) → ⊥) → IsWell old last r
+  init_well what old last r text inits plain is loads told free none no_input =
+      let streams : last.streams ≡ inits.mid.streams = ap (λ (x : Outside J O E S M). x.streams) inits.rest in
+      let errors : last.err ≡ inits.mid.err = ap (λ (x : Outside J O E S M). x.err) inits.rest in (
+        init_by what old inits.mid last inits.read r text inits.reads (init_source what.source old inits.mid inits.read plain inits.shelf) inits.makes plain is loads told free none
+            (λ rose. no_input (subst (λ x. Rose (j.faults old.streams.input) (j.faults x.input)) (sym streams) rose)),
+        record {
+          output = ap (λ x. o.faults x.output) streams ∙ inits.reads.outputs.output_faults;
+          error = ap (λ (x : E). e.faults x) errors ∙ inits.reads.outputs.error_faults;
+        },
+      )
+
+  -- ---- edits
+
+  edit_well : (name : List ℕ) (what : Request) (old mid last : Outside J O E S M) (r : Result (List ℕ) Refusal) → EditedBy s g m name what day mid last r
+      → SameShelf s old.shelf mid.shelf → mid.maker ≡ old.maker → SameOutputs (sc old) (sc mid) → IsTrue ((s.tells old.shelf).files) → AnswersWell name what day.0 (sc old)
+      → NoneFailed s old.shelf last.shelf → (Rose (m.refusals old.maker) (m.refusals last.maker) → ⊥) → IsWell old last r
+  edit_well name what old mid last r edited same maker outputs told well none patterns =
+      let image = both s old.shelf mid.shelf same (λ a b. image_in a b) name ∙ well.1 in
+      let zero = ap (λ (x : State). reply_status ((answer_to x day.0 what).reply)) (state_on s old.shelf mid.shelf same name well.0) ∙ well.3 in (
+        edited_by s g mid.shelf last.shelf name what day (told_by m mid.maker last.maker) edited.asked r edited.edits edited.told (told_on s old.shelf mid.shelf same told) well.0 image
+            well.2 zero (none_on s old.shelf mid.shelf same last.shelf none)
+            (λ rose. patterns (subst (λ (x : M). Rose (m.refusals x) (m.refusals last.maker)) maker rose)),
+        record {
+          output = ap (λ (x : Outside J O E S M). o.faults x.streams.output) edited.rest ∙ outputs.output;
+          error = ap (λ (x : Outside J O E S M). e.faults x.err) edited.rest ∙ outputs.error;
+        },
+      )
+
+  stayed : (old mid last : Outside J O E S M) (r : Result (List ℕ) Refusal) (x : Refusal) → (r ≡ Err x) × (last ≡ mid) → status_of x ≡ 6 → SameOutputs (sc old) (sc mid)
+      → IsWell old last r
+  stayed old mid last r x h six outputs = (
+    subst (λ (y : Result (List ℕ) Refusal). GoodAnswer y) (sym h.0) six,
+    subst (λ (y : Outside J O E S M). SameOutputs (sc old) (sc y)) (sym h.1) outputs,
+  )
+
+  add_by : (name : List ℕ) (old mid last : Outside J O E S M) (read : Result (List ℕ) Refusal) (r : Result (List ℕ) Refusal) (entry : List ℕ)
+      → ReadsText origins.Input read (sc old) (sc mid) → (mid.shelf ≡ old.shelf) × (mid.maker ≡ old.maker) → AddedAfter s g m name day read mid last r
+      → text_in origins.Input (sc old) ≡ Some (Ok entry) → IsTrue ((s.tells old.shelf).files) → AnswersWell name (request.Add entry) day.0 (sc old)
+      → NoneFailed s old.shelf last.shelf → (Rose (m.refusals old.maker) (m.refusals last.maker) → ⊥)
+      → (Rose (j.faults old.streams.input) (j.faults last.streams.input) → ⊥) → IsWell old last r
+  add_by name old mid last (Ok t) r entry reads stays adds is told well none patterns no_input =
+      let at : t ≡ entry = sym (ok_is entry t (read_so origins.Input (sc old) (sc mid) entry (Ok t) reads is)) in
+      edit_well name (request.Add t) old mid last r adds (same_at s old.shelf mid.shelf stays.0) stays.1 (stay_same (sc old) (sc mid) reads.outputs) told
+      (subst (λ (x : List ℕ). AnswersWell name (request.Add x) day.0 (sc old)) (sym at) well) none patterns
+  add_by name old mid last (Err x) r entry reads stays adds is told well none patterns no_input =
+      stayed old mid last r x adds
+      (source_unread origins.Input old mid entry x (λ h. h) reads is
+      (λ rose. no_input (subst (λ (y : Outside J O E S M). Rose (j.faults old.streams.input) (j.faults y.streams.input)) (sym adds.1) rose))
+      (λ rose. none.0 (subst (λ (y : Outside J O E S M). Rose (s.faults old.shelf) (s.faults y.shelf)) (sym adds.1) rose)))
+      (stay_same (sc old) (sc mid) reads.outputs)
+
+  unchanged : (old : Outside J O E S M) (mid : S) → SameOutputs (sc old) (sc (record old { shelf = mid }))
+  unchanged old mid = record { output = refl; error = refl }
+
+  rules_by : (what : Importing) (old last : Outside J O E S M) (mid last_shelf : S) (csv rules : List ℕ) (read : Result (List ℕ) Refusal) (r : Result (List ℕ) Refusal)
+      → SameShelf s old.shelf mid → LoadsFile s most_imported what.rules mid last_shelf read
+      → ImportedWith s g m what day csv read (record old { shelf = last_shelf }) last r → file_within most_imported what.rules (s.file old.shelf what.rules) ≡ Ok rules
+      → IsTrue ((s.tells old.shelf).files) → AnswersWell what.store (request.Import what.file rules csv) day.0 (sc old)
+      → NoneFailed s old.shelf last.shelf → (Rose (m.refusals old.maker) (m.refusals last.maker) → ⊥) → IsWell old last r
+  rules_by what old last mid last_shelf csv rules (Ok t) r same loads imports is told well none patterns =
+      let here : file_within most_imported what.rules (s.file mid what.rules) ≡ Ok rules = ap (λ (x : Option (List ℕ)). file_within most_imported what.rules x) (same.files what.rules) ∙ is in
+      let at : t ≡ rules = read_bytes t rules (file_within most_imported what.rules (s.file mid what.rules)) here (loads.found (told_on s old.shelf mid same told)) in
+      edit_well what.store (request.Import what.file t csv) old (record old { shelf = last_shelf }) last r imports
+      (same_then s old.shelf mid last_shelf same (same_loaded s most_imported what.rules mid last_shelf (Ok t) loads)) refl (unchanged old last_shelf) told
+      (subst (λ (x : List ℕ). AnswersWell what.store (request.Import what.file x csv) day.0 (sc old)) (sym at) well) none patterns
+  rules_by what old last mid last_shelf csv rules (Err x) r same loads imports is told well none patterns =
+      let here : file_within most_imported what.rules (s.file mid what.rules) ≡ Ok rules = ap (λ (y : Option (List ℕ)). file_within most_imported what.rules y) (same.files what.rules) ∙ is in
+      stayed old (record old { shelf = last_shelf }) last r x imports
+      (file_unread most_imported what.rules rules mid last_shelf x loads (told_on s old.shelf mid same told) here
+      (λ rose. (none_on s old.shelf mid same last.shelf none).0 (subst (λ (y : Outside J O E S M). Rose (s.faults mid) (s.faults y.shelf)) (sym imports.1) rose)))
+      (unchanged old last_shelf)
+
+  csv_by : (what : Importing) (old last : Outside J O E S M) (mid : S) (csv rules : List ℕ) (read : Result (List ℕ) Refusal) (r : Result (List ℕ) Refusal)
+      → LoadsFile s most_imported what.file old.shelf mid read → ImportedAfter s g m what day read (record old { shelf = mid }) last r
+      → file_within most_imported what.file (s.file old.shelf what.file) ≡ Ok csv → file_within most_imported what.rules (s.file old.shelf what.rules) ≡ Ok rules
+      → IsTrue ((s.tells old.shelf).files) → AnswersWell what.store (request.Import what.file rules csv) day.0 (sc old)
+      → NoneFailed s old.shelf last.shelf → (Rose (m.refusals old.maker) (m.refusals last.maker) → ⊥) → IsWell old last r
+  csv_by what old last mid csv rules (Ok t) r loads imports is is_rules told well none patterns =
+      let at : t ≡ csv = read_bytes t csv (file_within most_imported what.file (s.file old.shelf what.file)) is (loads.found told) in
+      rules_by what old last mid imports.mid t rules imports.read r (same_loaded s most_imported what.file old.shelf mid (Ok t) loads) imports.reads imports.imports is_rules told
+      (subst (λ (x : List ℕ). AnswersWell what.store (request.Import what.file rules x) day.0 (sc old)) (sym at) well) none patterns
+  csv_by what old last mid csv rules (Err x) r loads imports is is_rules told well none patterns =
+      stayed old (record old { shelf = mid }) last r x imports
+      (file_unread most_imported what.file csv old.shelf mid x loads told is
+      (λ rose. none.0 (subst (λ (y : Outside J O E S M). Rose (s.faults old.shelf) (s.faults y.shelf)) (sym imports.1) rose)))
+      (unchanged old mid)
+
+-- ---- a run
+
+module _ {J O E S D M : Type 0} (j : Inputs J) (o : Outputs O) (e : Outputs E) (s : Shelves S D) (g : Disks D) (m : Makers M) (day : Day) (status : ℕ) (old new : Outside J O E S M) where
+  abbrev pub RunsIt : StoreTask → Type 0
+  RunsIt what = RunsStored j (scene j o e s m) (soundness j o e s) s g m what day status old new
+
+  module _ (what : StoreTask) (runs : RunsIt what) (none : NoneRose (scene j o e s m old) (scene j o e s m new)) where
+    none_last : NoneFailed s old.shelf runs.last.shelf
+    none_last = (
+      λ rose. none.shelf (subst (λ (x : S). Rose (s.faults old.shelf) (s.faults x)) (sym runs.stays.0) rose),
+      λ rose. none.disks (subst (λ (x : S). Rose (s.disk_faults old.shelf) (s.disk_faults x)) (sym runs.stays.0) rose),
+    )
+
+    input_last : Rose (j.faults old.streams.input) (j.faults runs.last.streams.input) → ⊥
+    input_last rose = none.reads (subst (λ (x : J). Rose (j.faults old.streams.input) (j.faults x)) (sym runs.stays.2) rose)
+
+    patterns_last : (Rose (m.refusals old.maker) (m.refusals new.maker) → ⊥) → Rose (m.refusals old.maker) (m.refusals runs.last.maker) → ⊥
+    patterns_last patterns rose = patterns (subst (λ (x : M). Rose (m.refusals old.maker) (m.refusals x)) (sym runs.stays.1) rose)
+
+    done : IsWell j o e s g m day old runs.last runs.answer → IsDone status
+    done well =
+        ended_well status (scene j o e s m runs.last) (scene j o e s m new) runs.answer well.0 runs.ends
+        (λ rose. none.output (subst (λ (n : ℕ). Rose n (o.faults new.streams.output)) well.1.output rose))
+        (λ rose. none.error (subst (λ (n : ℕ). Rose n (e.faults new.err)) well.1.error rose))
+
+    unread_well : (runs.answer ≡ Err refusal.Memory) × (runs.last ≡ old) → IsWell j o e s g m day old runs.last runs.answer
+    unread_well h = (
+      subst (λ (y : Result (List ℕ) Refusal). GoodAnswer y) (sym h.0) refl,
+      subst (λ (y : Outside J O E S M). SameOutputs (scene j o e s m old) (scene j o e s m y)) (sym h.1) (record { output = refl; error = refl }),
+    )
+
+  pub complete_stored : (what : StoreTask) → RunsIt what → CompletesStored what day.0 status (scene j o e s m old) (scene j o e s m new)
+  complete_stored (stored.Init what) runs = λ none plain text is loads told free.
+      done (stored.Init what) runs none
+      (⊎_elim (λ inits. init_well j o e s g m day what old runs.last runs.answer text inits plain is loads told free (none_last (stored.Init what) runs none) (input_last (stored.Init what) runs none))
+      (λ h. unread_well (stored.Init what) runs none h) runs.answers)
+  complete_stored (stored.Add name) runs = λ none patterns told entry is well.
+      done (stored.Add name) runs none
+      (⊎_elim (λ adds. add_by j o e s g m day name old adds.mid runs.last adds.read runs.answer entry adds.reads adds.stays adds.adds is told well (none_last (stored.Add name) runs none)
+      (patterns_last (stored.Add name) runs none patterns) (input_last (stored.Add name) runs none))
+      (λ h. unread_well (stored.Add name) runs none h) runs.answers)
+  complete_stored (stored.Import what) runs = λ none patterns told csv rules is is_rules well.
+      done (stored.Import what) runs none
+      (⊎_elim (λ imports. csv_by j o e s g m day what old runs.last imports.mid csv rules imports.read runs.answer imports.reads imports.imports is is_rules told well
+      (none_last (stored.Import what) runs none) (patterns_last (stored.Import what) runs none patterns))
+      (λ h. unread_well (stored.Import what) runs none h) runs.answers)
+  complete_stored (stored.Feed name) runs = tt
+  complete_stored (stored.Follow what) runs = tt
