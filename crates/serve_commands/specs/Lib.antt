@@ -1,0 +1,4 @@
+pub mod Answering
+pub mod Hosting
+pub mod Lines
+pub mod Stores
