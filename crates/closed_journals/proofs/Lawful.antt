@@ -1,0 +1,272 @@
+-- What becomes of a text of which accounts were closed, with the entries behind it.
+use Rattle.std.proofs.Common.{ℕ, pos, ◌≡◌, ◌+◌, ◌<◌, inl, inr, ◌⊎◌, neg_ℤ, Bool, true, false, cond, List, [], ◌∷◌, ◌++◌, length, map, codes, Option, Some, None, Result, Ok, Err, refl, sym, ap, subst, ◌∙◌, arith, append_assoc, length-append}
+use Rattle.std.specs.Prelude.{nat_lt}
+use Rattle.std.specs.List.{AllByRecursion}
+use Rattle.std.specs.Str.{is_utf8}
+use Rattle.hl_base.specs.Items.{items_of}
+use Rattle.hl_base.specs.Lines.{lines_of}
+use Rattle.hl_time.specs.Calendar.{IsDay, last_day}
+use Rattle.book.specs.Bounds.{TurnoverFits}
+use Rattle.book.specs.Postings.{postings_of}
+use Rattle.book.specs.Style.{style_of}
+use Rattle.book.specs.declared.fault.Cause.TheVariants as cause
+use Rattle.book.specs.declared.fault.Fault.{Fault}
+use Rattle.book.specs.declared.item.Book.{Book}
+use Rattle.book.specs.declared.item.Placed.{Placed}
+use Rattle.book.specs.declared.transaction.Txn.{Txn}
+use Rattle.balancing.specs.Load.{load}
+use Rattle.book_care.specs.Asked.{Asked as Closed, named_postings}
+use Rattle.book_care.specs.Balances.{Close, Settles}
+use Rattle.book_care.specs.Entries.{Writing, entries_with, entry_on, made}
+use Rattle.book_care.specs.Judged.{first_cause}
+use Rattle.book_care.specs.Late.{first_late}
+use Rattle.book_care.specs.Lines.{Moved, closing_lines, opening_lines, opposite}
+use Rattle.book_care.specs.Reads.{context_at_end}
+use Rattle.book_care.specs.declared.faults.CloseFault.{CloseFault}
+use Rattle.book_care.proofs.Settling.{settles}
+use Rattle.book_care.proofs.Summing.{closing_even, lines_in, lines_in-opposite}
+use Rattle.book_commands.specs.FaultLines.{close_line}
+use Rattle.book_commands.specs.Texts.{Making, judged_text, made_loaded, made_read, most_items}
+use Rattle.book_commands.specs.Works.{close_by, close_made, close_outcome, closed_over, entry_text, judge, pair_text}
+use Rattle.book_commands.specs.declared.work.CloseAsked.{CloseAsked}
+use Rattle.book_commands.specs.declared.work.Work.TheVariants as works
+use Rattle.entry_reader.specs.Causes.{◌>>=◌}
+use Rattle.entry_reader.specs.Contexts.{Context, context_of, decided_mark}
+use Rattle.journal_reader.specs.Items.{items_in}
+use Rattle.query_terms.specs.Reading.{terms_of}
+use Rattle.query_terms.specs.declared.kinds.Term.{Term}
+use Rattle.refusals.specs.Errors.{limit_line, term_line}
+use Rattle.refusals.specs.Outcomes.{Judged, Outcome, refused, written}
+use Rattle.written_logs.proofs.Lines.{joined}
+use Rattle.closed_journals.specs.Added.{Added, Closes, Fails, IsClosed, IsEnded, IsLong, IsRefused, entry_at}
+use Rattle.closed_journals.proofs.Balanced.{emptied, restored}
+use Rattle.closed_journals.proofs.Blocks.{ends_with_line, open_block_is}
+use Rattle.closed_journals.proofs.Cuts.{EndsLine, gap, open_in}
+use Rattle.closed_journals.proofs.Digits.{IsDecided}
+use Rattle.closed_journals.proofs.Entries.{AreLinesOf, again, closing_title, entry_lines, opening_title, txn_is}
+use Rattle.closed_journals.proofs.Booked.{IsBooked, IsToldBook, book_told}
+use Rattle.closed_journals.proofs.Bounds.{bounded_lines}
+use Rattle.closed_journals.proofs.Declared.{AreToldItems, context_told, items_told}
+use Rattle.closed_journals.proofs.Judging.{IsWritten, all_written, judged, judged_lines, none_late, opposites_are, whole_lines}
+use Rattle.closed_journals.proofs.Pieces.{items_at}
+use Rattle.closed_journals.proofs.Whole.{Ends, both_end, loads, long, out}
+
+decided_list : (context : Context) (ms : List Moved) → AreLinesOf context ms → AllByRecursion (λ m. IsDecided (decided_mark context m.symbol)) ms
+decided_list context [] are = tt
+decided_list context (m ∷ ms) are = ((are.0).decided, decided_list context ms are.1)
+
+module _ (year : Option ℕ) (text output : List ℕ) (closed : Closed) (book : Book) (read : items_in year text ≡ Ok closed.items) (loaded : load closed.items ≡ Ok book) (txns : closed.txns ≡ book.txns)
+    (within : IsDay closed.on) (early : closed.on < last_day) (is : IsEnded text) (passes : first_cause closed ≡ None) (into : is_utf8 closed.into ≡ true)
+    (out_is : output ≡ pair_text (context_at_end closed.items) (made closed)) where
+  abbrev styles : Writing
+  styles = style_of closed.items
+
+  abbrev at_end : Context
+  at_end = context_at_end closed.items
+
+  abbrev c : Context
+  c = context_of year (items_at closed.items)
+
+  within_two : IsDay (closed.on + 1)
+  within_two = (omega (arith, within.0), omega (arith, early))
+
+  late : first_late closed.on book.txns ≡ None
+  late = sym (ap (first_late closed.on) txns) ∙ none_late closed passes
+
+  ends : EndsLine text
+  ends = ends_with_line text is.line
+
+  shut : open_in 0 (lines_of text) ≡ false
+  shut = sym (open_block_is text) ∙ is.block
+
+  told : AreToldItems closed.items
+  told = items_told year text closed.items read
+
+  booked : IsToldBook book
+  booked = book_told closed.items book told loaded
+
+  written_lines : AllByRecursion (IsWritten at_end) (closing_lines closed)
+  written_lines =
+      all_written at_end (closing_lines closed) (context_told None closed.items told)
+      (whole_lines at_end (closing_lines closed) (judged closed passes).back)
+      (bounded_lines closed
+      (subst (λ (ts : List Txn). TurnoverFits (postings_of ts)) (sym txns) booked.fits)
+      (subst (λ (ts : List Txn). AllByRecursion IsBooked (postings_of ts)) (sym txns) booked.postings) into)
+
+  all_are : AreLinesOf c (closing_lines closed)
+  all_are = judged_lines year (items_at closed.items) (closing_lines closed) (judged closed passes) written_lines
+
+  settled : Settles closed (entries_with styles closed.on (closing_lines closed))
+  settled = settles closed (entries_with styles closed.on (closing_lines closed)) refl
+
+  module _ (m : Moved) (ms : List Moved) (e : closing_lines closed ≡ m ∷ ms) where
+    abbrev ones : List Moved
+    ones = m ∷ ms
+
+    abbrev twos : List Moved
+    twos = opposite m ∷ map opposite ms
+
+    one_are : AreLinesOf c ones
+    one_are = subst (AreLinesOf c) e all_are
+
+    two_are : AreLinesOf c twos
+    two_are = opposites_are year (items_at closed.items) ones one_are
+
+    even : (symbol : List ℕ) → lines_in symbol ones ≡ pos 0
+    even symbol = ap (lines_in symbol) (sym e) ∙ closing_even symbol closed.into (named_postings closed)
+
+    even_two : (symbol : List ℕ) → lines_in symbol twos ≡ pos 0
+    even_two symbol = lines_in-opposite symbol ones ∙ ap neg_ℤ (even symbol)
+
+    abbrev closing : Txn
+    closing = entry_on styles closed.on (codes "closing") ones
+
+    abbrev opening : Txn
+    opening = entry_on styles (closed.on + 1) (codes "opening") twos
+
+    abbrev first : List ℕ
+    first = joined (entry_lines c styles closed.on (codes "closing") ones)
+
+    abbrev second : List ℕ
+    second = joined (entry_lines c styles (closed.on + 1) (codes "opening") twos)
+
+    abbrev all : List ℕ
+    all = text ++ (first ++ (gap ++ (second ++ gap)))
+
+    first_text : entry_text at_end closing ≡ first ++ gap
+    first_text = ap (λ (xs : List ℕ). xs ++ gap) (txn_is c styles closed.on (codes "closing") ones closing_title (decided_list c ones one_are))
+
+    second_text : entry_text at_end opening ≡ second ++ gap
+    second_text = ap (λ (xs : List ℕ). xs ++ gap) (txn_is c styles (closed.on + 1) (codes "opening") twos opening_title (decided_list c twos two_are))
+
+    whole_is : text ++ output ≡ all
+    whole_is =
+        ap (λ (xs : List ℕ). text ++ xs)
+        (out_is
+        ∙ ap (λ (l : List Moved). pair_text at_end (entries_with styles closed.on l)) e
+        ∙ (λ i. first_text i ++ second_text i)
+        ∙ append_assoc first gap (second ++ gap))
+
+    close : Close closed (entry_on styles closed.on (codes "closing") (closing_lines closed), entry_on styles (closed.on + 1) (codes "opening") (opening_lines closed))
+    close =
+        subst (λ (l : List Moved). Close closed (entry_on styles closed.on (codes "closing") l, entry_on styles (closed.on + 1) (codes "opening") (map opposite l))) (sym e)
+        (subst (λ (l : List Moved). Settles closed (entries_with styles closed.on l)) e settled)
+
+    closes : (number other : ℕ) → (items_in year all >>= load) ≡ Ok (record { txns = book.txns ++ entry_at (again c styles) number closed.on (codes "closing") ones ∷ entry_at (again c styles) other (closed.on + 1) (codes "opening") twos ∷ [] })
+        → Closes closed year (text ++ output)
+    closes number other h = let back = sym txns in let lines_back = sym e in record {
+      shape = again c styles;
+      first = number;
+      second = other;
+      loads =
+          ap (λ (t : List ℕ). items_in year t >>= load) whole_is
+          ∙ h
+          ∙ (λ i. Ok (record { txns = back i ++ entry_at (again c styles) number closed.on (codes "closing") (lines_back i) ∷ entry_at (again c styles) other (closed.on + 1) (codes "opening") (map opposite (lines_back i)) ∷ [] }));
+      emptied = emptied closed (again c styles) styles number other (closing_lines closed) (opening_lines closed) (codes "closing") (codes "opening") close;
+      restored = restored closed (again c styles) styles number other (closing_lines closed) (opening_lines closed) (codes "closing") (codes "opening") close;
+    }
+
+    one_more : (xs ys : List ℕ) → ys ≡ xs ++ gap → 65536 < length xs → 65536 + 1 < length ys
+    one_more xs ys same h = omega (arith, ap length same, length-append xs gap, h)
+
+    is_long : (65536 < length first) ⊎ (65536 < length second) → IsLong closed closing ⊎ IsLong closed opening
+    is_long (inl h) = inl (one_more first (entry_text at_end closing) first_text h)
+    is_long (inr h) = inr (one_more second (entry_text at_end opening) second_text h)
+
+    fails : (fault : Fault) → (items_in year all >>= load) ≡ Err fault → Fails year (text ++ output) fault
+    fails fault h = ap (λ (t : List ℕ). items_in year t >>= load) whole_is ∙ h
+
+    abbrev number : ℕ
+    number = 1 + length (lines_of text)
+
+    two_added : Added closed year text output (Some (closing, opening))
+    two_added =
+        by _ _ (both_end year text closed.items book styles closed.on m ms read loaded late within within_two closing_title opening_title ends shut one_are two_are even even_two)
+      where
+        by : (a b : ℕ) → Ends year all first second (book.txns ++ entry_at (again c styles) a closed.on (codes "closing") ones ∷ entry_at (again c styles) b (closed.on + 1) (codes "opening") twos ∷ [])
+            → Closes closed year (text ++ output) ⊎ IsRefused closed (closing, opening) year (text ++ output)
+        by a b (loads h) = inl (closes a b h)
+        by a b (out line h) = inr (record { fault = record { line = line; cause = cause.Range }; fails = fails (record { line = line; cause = cause.Range }) h; cause = inl refl })
+        by a b (long line size h) = inr (record { fault = record { line = line; cause = cause.TooLong }; fails = fails (record { line = line; cause = cause.TooLong }) h; cause = inr (refl, is_long size) })
+
+  by_lines : (lines : List Moved) → closing_lines closed ≡ lines → Added closed year text output (entries_with styles closed.on lines)
+  by_lines [] e = (
+    out_is ∙ ap (λ (l : List Moved). pair_text at_end (entries_with styles closed.on l)) e,
+    subst (λ (l : List Moved). Settles closed (entries_with styles closed.on l)) e settled,
+  )
+  by_lines (m ∷ ms) e = two_added m ms e
+
+  -- What is added loads, or is refused.
+  pub is_added : Added closed year text output (made closed)
+  is_added = by_lines (closing_lines closed) refl
+
+-- ---- what a command answers
+
+record IsMade (make : Making) (year : Option ℕ) (text : List ℕ) (outcome : Outcome) : Type 0 where
+  items : List Placed
+  read : items_in year text ≡ Ok items
+  book : Book
+  loaded : load items ≡ Ok book
+  is : make items book ≡ outcome
+
+ok_is : (a b : Outcome) → (let r : Judged = Ok a in r) ≡ Ok b → a ≡ b
+ok_is a b h = cc
+
+by_book : (make : Making) (year : Option ℕ) (text : List ℕ) (items : List Placed) (r : Result Book Fault) (outcome : Outcome) → items_in year text ≡ Ok items → load items ≡ r → made_loaded make items r ≡ Ok outcome → IsMade make year text outcome
+by_book make year text items (Ok book) outcome read e h = record { items = items; read = read; book = book; loaded = e; is = ok_is (make items book) outcome h }
+by_book make year text items (Err fault) outcome read e h = absurd (let never : ⊥ = cc in never)
+
+by_items : (make : Making) (year : Option ℕ) (text : List ℕ) (r : Result (List Placed) Fault) (outcome : Outcome) → items_in year text ≡ r → made_read make r ≡ Ok outcome → IsMade make year text outcome
+by_items make year text (Ok items) outcome e h = by_book make year text items (load items) outcome e refl h
+by_items make year text (Err fault) outcome e h = absurd (let never : ⊥ = cc in never)
+
+by_count : (t : Bool) (refusal : Outcome) (r : Judged) (outcome : Outcome) → cond t (Err refusal) r ≡ Ok outcome → r ≡ Ok outcome
+by_count true refusal r outcome h = absurd (let never : ⊥ = cc in never)
+by_count false refusal r outcome h = h
+
+judged_is : (make : Making) (year : Option ℕ) (text : List ℕ) (outcome : Outcome) → judged_text make year text ≡ Ok outcome → IsMade make year text outcome
+judged_is make year text outcome h =
+    by_items make year text (items_in year text) outcome refl
+    (by_count (nat_lt most_items (length (items_of text))) (refused 7 (limit_line (length (items_of text)) most_items)) (made_read make (items_in year text)) outcome h)
+
+-- why there was no refusal
+record IsOutput (closed : Closed) (output : List ℕ) : Type 0 where
+  passes : first_cause closed ≡ None
+  is : output ≡ pair_text (context_at_end closed.items) (made closed)
+
+no_status : (line output : List ℕ) → refused 1 line ≡ written output → ⊥
+no_status line output h = let never : 1 ≡ 0 = ap (λ (o : Outcome). o.status) h in omega (arith, never)
+
+by_cause : (closed : Closed) (output : List ℕ) (cause : Option CloseFault) → first_cause closed ≡ cause → close_outcome (context_at_end closed.items) (made closed) cause ≡ written output → IsOutput closed output
+by_cause closed output None e h = record { passes = e; is = sym (ap (λ (o : Outcome). o.output) h) }
+by_cause closed output (Some fault) e h = absurd (no_status (close_line fault) output h)
+
+record IsTermed (asked : CloseAsked) (day : ℕ) (items : List Placed) (book : Book) (output : List ℕ) : Type 0 where
+  terms : List Term
+  query : terms_of day asked.words ≡ Ok terms
+  is : IsOutput (closed_over asked items book terms) output
+
+by_terms : (asked : CloseAsked) (day : ℕ) (items : List Placed) (book : Book) (output : List ℕ) (r : Result (List Term) (List ℕ)) → terms_of day asked.words ≡ r → close_by asked items book r ≡ written output → IsTermed asked day items book output
+by_terms asked day items book output (Ok terms) e h =
+    let closed = closed_over asked items book terms in
+    record { terms = terms; query = e; is = by_cause closed output (first_cause closed) refl h }
+by_terms asked day items book output (Err word) e h = absurd (no_status (term_line word) output h)
+
+made_terms : (asked : CloseAsked) (day : ℕ) (items : List Placed) (book : Book) (output : List ℕ) → close_made asked day items book ≡ written output → IsTermed asked day items book output
+unfolding close_made
+made_terms asked day items book output h = by_terms asked day items book output (terms_of day asked.words) refl h
+
+pub is_closed : (day : ℕ) (year : Option ℕ) (asked : CloseAsked) (text output : List ℕ) → IsDay asked.on → asked.on < last_day → is_utf8 asked.into ≡ true → IsEnded text → judge day year (works.Close asked) text ≡ Ok (written output) → IsClosed day year asked text output
+is_closed day year asked text output within early into ended h =
+    let m = judged_is (close_made asked day) year text (written output) h in
+    let t = made_terms asked day m.items m.book output m.is in
+    let closed = closed_over asked m.items m.book t.terms in
+    record {
+      items = m.items;
+      read = m.read;
+      book = m.book;
+      loaded = m.loaded;
+      terms = t.terms;
+      query = t.query;
+      added = is_added year text output closed m.book m.read m.loaded refl within early ended (t.is).passes into (t.is).is;
+    }

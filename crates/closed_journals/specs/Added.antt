@@ -1,0 +1,113 @@
+-- Closing entries that are added to the text of which they are made.
+use Rattle.std.specs.Prelude.{◌≡◌, ◌<◌, ℕ, suc, ◌+◌, ◌⊎◌, true, false, List, [], ◌∷◌, ◌++◌, length, codes, Option, Some, None, Ok, Err}
+use Rattle.book.specs.declared.amount.Written.{Written}
+use Rattle.book.specs.declared.fault.Cause.TheVariants as cause
+use Rattle.book.specs.declared.fault.Fault.{Fault}
+use Rattle.book.specs.declared.item.Book.{Book}
+use Rattle.book.specs.declared.item.Placed.{Placed}
+use Rattle.book.specs.declared.transaction.Mark.TheVariants.{Unmarked}
+use Rattle.book.specs.declared.transaction.Posting.{Posting}
+use Rattle.book.specs.declared.transaction.Side.TheVariants.{Real}
+use Rattle.book.specs.declared.transaction.Txn.{Txn}
+use Rattle.book.specs.Postings.{plain_posting}
+use Rattle.balancing.specs.Load.{load}
+use Rattle.book_care.specs.Asked.{Asked as Closed}
+use Rattle.book_care.specs.Balances.{AreEmpty, IsKept}
+use Rattle.book_care.specs.Entries.{made}
+use Rattle.book_care.specs.Lines.{Moved, closing_lines, opening_lines}
+use Rattle.book_care.specs.Reads.{context_at_end}
+use Rattle.book_commands.specs.Works.{closed_over, entry_text}
+use Rattle.book_commands.specs.declared.work.CloseAsked.{CloseAsked}
+use Rattle.entry_reader.specs.Causes.{◌>>=◌}
+use Rattle.journal_reader.specs.Items.{items_in}
+use Rattle.live_journal.specs.Edits.{has_open_block, line_end}
+use Rattle.query_terms.specs.Reading.{terms_of}
+use Rattle.query_terms.specs.declared.kinds.Term.{Term}
+
+-- ---- the entries as they are read
+
+-- how the amount of a line is written
+abbrev pub Shaped : Type 0
+Shaped = Moved → Written
+
+-- a real posting of a line's account and amount, in a line of a text
+abbrev pub posting_in : Written → ℕ → Moved → Posting
+posting_in shape number moved =
+    record (plain_posting number Real moved.account) { amount = Some (record { symbol = moved.symbol; value = moved.value; shape = shape }) }
+
+-- those of some lines, one after another
+abbrev pub postings_from : Shaped → ℕ → List Moved → List Posting
+postings_from shape number [] = []
+postings_from shape number (moved ∷ more) = posting_in (shape moved) number moved ∷ postings_from shape (suc number) more
+
+-- an entry of a day, whose head is in a line, and whose postings are in the lines after that
+abbrev pub entry_at : Shaped → ℕ → ℕ → List ℕ → List Moved → Txn
+entry_at shape number day description lines = record {
+  line = number;
+  day = record { 0 = day };
+  mark = Unmarked;
+  code = [];
+  description = description;
+  comment = [];
+  tags = [];
+  postings = postings_from shape (suc number) lines;
+}
+
+-- the closing entry in a line of a text, and the opening one
+abbrev pub closing_at : Shaped → ℕ → Closed → Txn
+closing_at shape number closed = entry_at shape number closed.on (codes "closing") (closing_lines closed)
+
+abbrev pub opening_at : Shaped → ℕ → Closed → Txn
+opening_at shape number closed = entry_at shape number (closed.on + 1) (codes "opening") (opening_lines closed)
+
+-- ---- the text
+
+-- It is empty or ends with a line's end, and no comment block is left open at its end.
+pub record IsEnded (text : List ℕ) : Type 0 where
+  pub line : line_end text ≡ []
+  pub block : has_open_block text ≡ false
+
+-- ---- the text with both entries behind it
+
+-- It reads, and loads to the book of these transactions; or it has this fault.
+abbrev pub Loads : Option ℕ → List ℕ → List Txn → Type 0
+Loads year text txns = (items_in year text >>= load) ≡ Ok (record { txns = txns })
+
+abbrev pub Fails : Option ℕ → List ℕ → Fault → Type 0
+Fails year text fault = (items_in year text >>= load) ≡ Err fault
+
+-- It loads to the book of the text, with the two entries behind it. Behind the first each named account is empty, and behind
+-- both every account has what it had.
+pub record Closes (closed : Closed) (year : Option ℕ) (text : List ℕ) : Type 0 where
+  pub shape : Shaped
+  pub first : ℕ
+  pub second : ℕ
+  pub loads : Loads year text (closed.txns ++ closing_at shape first closed ∷ opening_at shape second closed ∷ [])
+  pub emptied : AreEmpty closed (closed.txns ++ closing_at shape first closed ∷ [])
+  pub restored : IsKept closed.txns (closing_at shape first closed ∷ opening_at shape second closed ∷ [])
+
+-- the text of an entry, but for the empty line behind it, is over 65,536 bytes
+abbrev pub IsLong : Closed → Txn → Type 0
+IsLong closed entry = 65536 + 1 < length (entry_text (context_at_end closed.items) entry)
+
+-- Its fault is that it is out of range, or that one of the two entries is too long, where it is over 65,536 bytes.
+pub record IsRefused (closed : Closed) (entries : Txn × Txn) (year : Option ℕ) (text : List ℕ) : Type 0 where
+  pub fault : Fault
+  pub fails : Fails year text fault
+  pub cause : (fault.cause ≡ cause.Range) ⊎ ((fault.cause ≡ cause.TooLong) × (IsLong closed entries.0 ⊎ IsLong closed entries.1))
+
+-- What becomes of a text with the entries of what is closed behind it: there are none, and the named accounts are empty; or
+-- it loads so, or is refused so.
+abbrev pub Added : Closed → Option ℕ → List ℕ → List ℕ → Option (Txn × Txn) → Type 0
+Added closed year text output None = (output ≡ []) × AreEmpty closed closed.txns
+Added closed year text output (Some entries) = Closes closed year (text ++ output) ⊎ IsRefused closed entries year (text ++ output)
+
+-- What a text was read and loaded to where its accounts are closed, and what becomes of it with the entries behind it.
+pub record IsClosed (day : ℕ) (year : Option ℕ) (asked : CloseAsked) (text output : List ℕ) : Type 0 where
+  pub items : List Placed
+  pub read : items_in year text ≡ Ok items
+  pub book : Book
+  pub loaded : load items ≡ Ok book
+  pub terms : List Term
+  pub query : terms_of day asked.words ≡ Ok terms
+  pub added : Added (closed_over asked items book terms) year text output (made (closed_over asked items book terms))

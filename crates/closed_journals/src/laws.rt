@@ -1,0 +1,20 @@
+//! What becomes of the entries that `close` writes, behind the text of which they are made.
+ghost use Rattle.std.specs.Prelude.{◌≡◌, ◌<◌, ℕ, true, List, Option, Ok};
+ghost use Rattle.std.specs.Str.{is_utf8};
+ghost use Rattle.hl_time.specs.Calendar.{IsDay, last_day};
+ghost use Rattle.refusals.specs.Outcomes.{written};
+ghost use Rattle.book_commands.specs.Works.{judge};
+ghost use Rattle.book_commands.specs.declared.work.CloseAsked.{CloseAsked};
+ghost use Rattle.book_commands.specs.declared.work.Work.TheVariants as works;
+ghost use Rattle.closed_journals.specs.Added.{IsClosed, IsEnded};
+
+/// Where `close` writes something for a text that is empty or ends with a line's end, outside a comment block, that text
+/// with it behind it loads to the book of the text and the two entries behind it. Behind the first each closed account is
+/// empty, and behind both every account has what it had. Or the whole is refused, since an entry is out of range or over
+/// 65,536 bytes. The day is one of the calendar, and not its last.
+pub fn closing_loads()
+    ensures { (day : ℕ) (year : Option ℕ) (asked : CloseAsked) (text output : List ℕ)
+        → IsDay asked.on → asked.on < last_day → is_utf8 asked.into ≡ true → IsEnded text
+        → judge day year (works.Close asked) text ≡ Ok (written output)
+        → IsClosed day year asked text output }
+{}

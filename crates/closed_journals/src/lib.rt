@@ -1,0 +1,8 @@
+//! Closing entries that are added to the journal of which they are made: that the whole loads.
+#![tactic(auto)]
+
+mod laws;
+#[cfg(test)]
+mod tests;
+
+pub use laws::closing_loads;

@@ -1,0 +1,6 @@
+use super::*;
+
+#[test]
+fn the_law_holds() {
+    closing_loads();
+}
