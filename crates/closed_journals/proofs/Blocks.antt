@@ -23,7 +23,7 @@ ends_by true e f h = absurd (false≢true (sym f))
 ends_by false true f h = refl
 ends_by false false f h = absurd (let never : ⊥ = cc in never)
 
-some_bytes : (b : ℕ) (bs : List ℕ) → (length (b ∷ bs) == 0) ≡ false
+pub some_bytes : (b : ℕ) (bs : List ℕ) → (length (b ∷ bs) == 0) ≡ false
 some_bytes b bs = grind (arith, nat_tests)
 
 last_is : (b : ℕ) (bs : List ℕ) → ends_line (b ∷ bs) ≡ true → EndsLine (b ∷ bs)
@@ -66,11 +66,11 @@ none_cut taken at line [] h = refl
 none_cut (suc taken) at line (l ∷ ls) h = none_cut taken (at + length l) (line + 1) ls h
 none_cut zero at line (l ∷ ls) h = absurd (let never : ⊥ = cc in never)
 
-all_taken : (at line : ℕ) (ls : List (List ℕ)) → cut_from (length ls) at line ls ≡ []
+pub all_taken : (at line : ℕ) (ls : List (List ℕ)) → cut_from (length ls) at line ls ≡ []
 all_taken at line [] = refl
 all_taken at line (l ∷ ls) = all_taken (at + length l) (line + 1) ls
 
-none_closes : (ls : List (List ℕ)) → list_any closes_block ls ≡ false → lines_to_close ls ≡ length ls
+pub none_closes : (ls : List (List ℕ)) → list_any closes_block ls ≡ false → lines_to_close ls ≡ length ls
 none_closes [] h = refl
 none_closes (l ∷ ls) h = by (closes_block l) h (none_closes ls)
   where
@@ -89,24 +89,24 @@ block_takes kinds.Block at line ls h = ap (λ (n : ℕ). cut_from n at line ls) 
     no true k = absurd (false≢true k)
     no false k = refl
 
-last_more : (p q : Piece) (qs : List Piece) → last_piece (p ∷ q ∷ qs) ≡ last_piece (q ∷ qs)
+pub last_more : (p q : Piece) (qs : List Piece) → last_piece (p ∷ q ∷ qs) ≡ last_piece (q ∷ qs)
 last_more p q qs =
     let place : length (p ∷ q ∷ qs) - 1 ≡ suc (length (q ∷ qs) - 1) = omega arith in
     ap (λ (k : ℕ). slice_get (p ∷ q ∷ qs) k) place
 
 -- the line that a text begins with, and the rest
-record IsSplit (x l : List ℕ) (ls : List (List ℕ)) : Type 0 where
-  rest : List ℕ
-  is : x ≡ l ++ rest
-  lines : lines_of rest ≡ ls
+pub record IsSplit (x l : List ℕ) (ls : List (List ℕ)) : Type 0 where
+  pub rest : List ℕ
+  pub is : x ≡ l ++ rest
+  pub lines : lines_of rest ≡ ls
 
-same_head : (a b : List ℕ) (as_ bs_ : List (List ℕ)) → a ∷ as_ ≡ b ∷ bs_ → a ≡ b
+pub same_head : (a b : List ℕ) (as_ bs_ : List (List ℕ)) → a ∷ as_ ≡ b ∷ bs_ → a ≡ b
 same_head a b as_ bs_ h = cc
 
-same_tail : (a b : List ℕ) (as_ bs_ : List (List ℕ)) → a ∷ as_ ≡ b ∷ bs_ → as_ ≡ bs_
+pub same_tail : (a b : List ℕ) (as_ bs_ : List (List ℕ)) → a ∷ as_ ≡ b ∷ bs_ → as_ ≡ bs_
 same_tail a b as_ bs_ h = cc
 
-split_of : (x l : List ℕ) (ls : List (List ℕ)) → lines_of x ≡ l ∷ ls → IsSplit x l ls
+pub split_of : (x l : List ℕ) (ls : List (List ℕ)) → lines_of x ≡ l ∷ ls → IsSplit x l ls
 split_of [] l ls h = absurd (let never : ⊥ = cc in never)
 split_of (b ∷ bs) l ls h =
     let x : List ℕ = b ∷ bs in

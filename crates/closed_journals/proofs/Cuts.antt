@@ -61,14 +61,14 @@ second_or : (a b : Bool) → (a || b) ≡ false → b ≡ false
 second_or true b h = absurd (false≢true (sym h))
 second_or false b h = h
 
-prefix_front : (p : List ℕ → Bool) (ls more : List (List ℕ)) → prefix_len p more ≡ 0 → prefix_len p (ls ++ more) ≡ prefix_len p ls
+pub prefix_front : (p : List ℕ → Bool) (ls more : List (List ℕ)) → prefix_len p more ≡ 0 → prefix_len p (ls ++ more) ≡ prefix_len p ls
 prefix_front p [] more h = h
 prefix_front p (l ∷ ls) more h = ap (λ (n : ℕ). cond (p l) (1 + n) 0) (prefix_front p ls more h)
 
-run_front : (p : List ℕ → Bool) (ls more : List (List ℕ)) → prefix_len p more ≡ 0 → length (take_while p (ls ++ more)) ≡ length (take_while p ls)
+pub run_front : (p : List ℕ → Bool) (ls more : List (List ℕ)) → prefix_len p more ≡ 0 → length (take_while p (ls ++ more)) ≡ length (take_while p ls)
 run_front p ls more h = length-prefix_len p (ls ++ more) ∙ prefix_front p ls more h ∙ sym (length-prefix_len p ls)
 
-close_front : (ls more : List (List ℕ)) → list_any closes_block ls ≡ true → lines_to_close (ls ++ more) ≡ lines_to_close ls
+pub close_front : (ls more : List (List ℕ)) → list_any closes_block ls ≡ true → lines_to_close (ls ++ more) ≡ lines_to_close ls
 close_front [] more h = absurd (false≢true h)
 close_front (l ∷ ls) more h = by (closes_block l) h (close_front ls more)
   where
@@ -76,7 +76,7 @@ close_front (l ∷ ls) more h = by (closes_block l) h (close_front ls more)
     by true k f = refl
     by false k f = ap (λ (n : ℕ). n + 1) (f k)
 
-closed_by : (a : Bool) → (true && not a) ≡ false → a ≡ true
+pub closed_by : (a : Bool) → (true && not a) ≡ false → a ≡ true
 closed_by true h = refl
 closed_by false h = absurd (false≢true (sym h))
 
@@ -98,7 +98,7 @@ close_bound (l ∷ ls) = by (closes_block l) (close_bound ls)
     by true h = omega arith
     by false h = omega arith
 
-more_bound : (k : Kind) (ls : List (List ℕ)) → lines_more k ls ≤ length ls
+pub more_bound : (k : Kind) (ls : List (List ℕ)) → lines_more k ls ≤ length ls
 more_bound kinds.Gap ls = run_bound is_remark ls
 more_bound kinds.Block ls = close_bound ls
 more_bound kinds.Entry ls = run_bound is_indented ls
@@ -203,7 +203,7 @@ indented_front (p ∷ ps) more h =
     let next : 1 + length ps ≡ suc (length ps) = omega arith in
     ap (λ (t : Bool). cond t (1 + prefix_len is_indented (ps ++ gap ∷ more)) 0) h.0 ∙ ap (λ (n : ℕ). 1 + n) rest ∙ next
 
-skip : (ps more : List (List ℕ)) (at line at2 line2 : ℕ) → at2 ≡ at + length (concat ps) → line2 ≡ line + length ps → cut_from (length ps) at line (ps ++ more) ≡ cut_from 0 at2 line2 more
+pub skip : (ps more : List (List ℕ)) (at line at2 line2 : ℕ) → at2 ≡ at + length (concat ps) → line2 ≡ line + length ps → cut_from (length ps) at line (ps ++ more) ≡ cut_from 0 at2 line2 more
 skip [] more at line at2 line2 ea el =
     let a : at ≡ at2 = omega arith in
     let l : line ≡ line2 = omega arith in
@@ -211,7 +211,7 @@ skip [] more at line at2 line2 ea el =
 skip (p ∷ ps) more at line at2 line2 ea el =
     skip ps more (at + length p) (line + 1) at2 line2 (omega (arith, ea, length-append p (concat ps))) (omega arith)
 
-gap_cut : (at line : ℕ) (more : List (List ℕ)) → prefix_len is_remark more ≡ 0 → cut_from 0 at line (gap ∷ more) ≡ piece at 1 line kinds.Gap ∷ cut_from 0 (at + 1) (line + 1) more
+pub gap_cut : (at line : ℕ) (more : List (List ℕ)) → prefix_len is_remark more ≡ 0 → cut_from 0 at line (gap ∷ more) ≡ piece at 1 line kinds.Gap ∷ cut_from 0 (at + 1) (line + 1) more
 gap_cut at line more none =
     let count : length (take_while is_remark more) ≡ 0 = length-prefix_len is_remark more ∙ none in
     ap (λ (n : ℕ). piece at (1 + length (concat (take n more))) line kinds.Gap ∷ cut_from n (at + 1) (line + 1) more) count

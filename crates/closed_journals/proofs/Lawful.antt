@@ -1,8 +1,9 @@
 -- What becomes of a text of which accounts were closed, with the entries behind it.
-use Rattle.std.proofs.Common.{ℕ, pos, ◌≡◌, ◌+◌, ◌<◌, inl, inr, ◌⊎◌, neg_ℤ, Bool, true, false, cond, List, [], ◌∷◌, ◌++◌, length, map, codes, Option, Some, None, Result, Ok, Err, refl, sym, ap, subst, ◌∙◌, arith, append_assoc, length-append}
+use Rattle.std.proofs.Common.{ℕ, pos, ◌≡◌, ◌+◌, ◌<◌, inl, inr, ◌⊎◌, neg_ℤ, Bool, true, false, cond, List, [], ◌∷◌, ◌++◌, length, map, codes, Option, Some, None, Result, Ok, Err, refl, sym, ap, subst, ◌∙◌, arith, append_assoc, append-nil, length-append}
 use Rattle.std.specs.Prelude.{nat_lt}
 use Rattle.std.specs.List.{AllByRecursion}
 use Rattle.std.specs.Str.{is_utf8}
+use Rattle.std.proofs.lemmas.Bool.{false≢true}
 use Rattle.hl_base.specs.Items.{items_of}
 use Rattle.hl_base.specs.Lines.{lines_of}
 use Rattle.hl_time.specs.Calendar.{IsDay, last_day}
@@ -14,9 +15,10 @@ use Rattle.book.specs.declared.fault.Fault.{Fault}
 use Rattle.book.specs.declared.item.Book.{Book}
 use Rattle.book.specs.declared.item.Placed.{Placed}
 use Rattle.book.specs.declared.transaction.Txn.{Txn}
-use Rattle.balancing.specs.Load.{load}
+use Rattle.balancing.specs.Assigned.{assigned}
+use Rattle.balancing.specs.Load.{book_of, load}
 use Rattle.book_care.specs.Asked.{Asked as Closed, named_postings}
-use Rattle.book_care.specs.Balances.{Close, Settles}
+use Rattle.book_care.specs.Balances.{AreEmpty, Close, Settles}
 use Rattle.book_care.specs.Entries.{Writing, entries_with, entry_on, made}
 use Rattle.book_care.specs.Judged.{first_cause}
 use Rattle.book_care.specs.Late.{first_late}
@@ -32,31 +34,59 @@ use Rattle.book_commands.specs.declared.work.CloseAsked.{CloseAsked}
 use Rattle.book_commands.specs.declared.work.Work.TheVariants as works
 use Rattle.entry_reader.specs.Causes.{◌>>=◌}
 use Rattle.entry_reader.specs.Contexts.{Context, context_of, decided_mark}
+use Rattle.journal_printer.specs.Entries.{entry_shape}
+use Rattle.journal_printer.specs.Layout.{txn_text}
+use Rattle.journal_printer.specs.declared.detail.Detail.TheVariants as detail
 use Rattle.journal_reader.specs.Items.{items_in}
+use Rattle.live_journal.specs.Edits.{added, blank_line, block_end, line_end}
 use Rattle.query_terms.specs.Reading.{terms_of}
 use Rattle.query_terms.specs.declared.kinds.Term.{Term}
 use Rattle.refusals.specs.Errors.{limit_line, term_line}
 use Rattle.refusals.specs.Outcomes.{Judged, Outcome, refused, written}
 use Rattle.written_logs.proofs.Lines.{joined}
-use Rattle.closed_journals.specs.Added.{Added, Closes, Fails, IsClosed, IsEnded, IsLong, IsRefused, entry_at}
+use Rattle.closed_journals.specs.Added.{Added, Closes, Fails, IsClosed, IsEnded, IsJoined, IsLong, IsRefused, Joined, entry_at}
 use Rattle.closed_journals.proofs.Balanced.{emptied, restored}
-use Rattle.closed_journals.proofs.Blocks.{ends_with_line, open_block_is}
-use Rattle.closed_journals.proofs.Cuts.{EndsLine, gap, open_in}
+use Rattle.closed_journals.proofs.Blocks.{ends_with_line, open_block_is, some_bytes}
+use Rattle.closed_journals.proofs.Cuts.{Begins, EndsLine, gap, open_in}
 use Rattle.closed_journals.proofs.Digits.{IsDecided}
 use Rattle.closed_journals.proofs.Entries.{AreLinesOf, again, closing_title, entry_lines, opening_title, txn_is}
 use Rattle.closed_journals.proofs.Booked.{IsBooked, IsToldBook, book_told}
 use Rattle.closed_journals.proofs.Bounds.{bounded_lines}
 use Rattle.closed_journals.proofs.Declared.{AreToldItems, context_told, items_told}
+use Rattle.closed_journals.proofs.Fronts.{EndOf, Ended, IsFront, does_end, does_lack, end_of, front_is, long as too_long, reads}
+use Rattle.closed_journals.proofs.Grown.{Lacks}
 use Rattle.closed_journals.proofs.Judging.{IsWritten, all_written, judged, judged_lines, none_late, opposites_are, whole_lines}
 use Rattle.closed_journals.proofs.Pieces.{items_at}
-use Rattle.closed_journals.proofs.Whole.{Ends, both_end, loads, long, out}
+use Rattle.closed_journals.proofs.Whole.{Ends, begins, both_end, lines_then, loads, long, out}
 
 decided_list : (context : Context) (ms : List Moved) → AreLinesOf context ms → AllByRecursion (λ m. IsDecided (decided_mark context m.symbol)) ms
 decided_list context [] are = tt
 decided_list context (m ∷ ms) are = ((are.0).decided, decided_list context ms are.1)
 
+-- ---- what is written ends with a line's end
+
+clash : (text : List ℕ) → Lacks (text ++ gap) → ⊥
+clash [] h = false≢true (sym h)
+clash (a ∷ []) h = false≢true (sym h)
+clash (a ∷ b ∷ bs) h = clash (b ∷ bs) h
+
+whole_ended : (text : List ℕ) → line_end (text ++ gap) ≡ []
+whole_ended [] = refl
+whole_ended (b ∷ bs) = by (end_of b (bs ++ gap))
+  where
+    by : EndOf (b ∷ (bs ++ gap)) → line_end (b ∷ (bs ++ gap)) ≡ []
+    by (does_end e h) = e
+    by (does_lack e h) = absurd (clash (b ∷ bs) h)
+
+pair_ended : (context : Context) (entries : Option (Txn × Txn)) → line_end (pair_text context entries) ≡ []
+pair_ended context None = refl
+pair_ended context (Some entries) =
+    let first = entry_text context entries.0 in
+    let second = txn_text (entry_shape context) detail.Written entries.1 in
+    ap line_end (sym (append_assoc first second gap)) ∙ whole_ended (first ++ second)
+
 module _ (year : Option ℕ) (text output : List ℕ) (closed : Closed) (book : Book) (read : items_in year text ≡ Ok closed.items) (loaded : load closed.items ≡ Ok book) (txns : closed.txns ≡ book.txns)
-    (within : IsDay closed.on) (early : closed.on < last_day) (is : IsEnded text) (passes : first_cause closed ≡ None) (into : is_utf8 closed.into ≡ true)
+    (within : IsDay closed.on) (early : closed.on < last_day) (passes : first_cause closed ≡ None) (into : is_utf8 closed.into ≡ true)
     (out_is : output ≡ pair_text (context_at_end closed.items) (made closed)) where
   abbrev styles : Writing
   styles = style_of closed.items
@@ -72,12 +102,6 @@ module _ (year : Option ℕ) (text output : List ℕ) (closed : Closed) (book : 
 
   late : first_late closed.on book.txns ≡ None
   late = sym (ap (first_late closed.on) txns) ∙ none_late closed passes
-
-  ends : EndsLine text
-  ends = ends_with_line text is.line
-
-  shut : open_in 0 (lines_of text) ≡ false
-  shut = sym (open_block_is text) ∙ is.block
 
   told : AreToldItems closed.items
   told = items_told year text closed.items read
@@ -130,41 +154,29 @@ module _ (year : Option ℕ) (text output : List ℕ) (closed : Closed) (book : 
     abbrev second : List ℕ
     second = joined (entry_lines c styles (closed.on + 1) (codes "opening") twos)
 
-    abbrev all : List ℕ
-    all = text ++ (first ++ (gap ++ (second ++ gap)))
-
     first_text : entry_text at_end closing ≡ first ++ gap
     first_text = ap (λ (xs : List ℕ). xs ++ gap) (txn_is c styles closed.on (codes "closing") ones closing_title (decided_list c ones one_are))
 
     second_text : entry_text at_end opening ≡ second ++ gap
     second_text = ap (λ (xs : List ℕ). xs ++ gap) (txn_is c styles (closed.on + 1) (codes "opening") twos opening_title (decided_list c twos two_are))
 
-    whole_is : text ++ output ≡ all
-    whole_is =
-        ap (λ (xs : List ℕ). text ++ xs)
-        (out_is
+    out_all : output ≡ first ++ (gap ++ (second ++ gap))
+    out_all =
+        out_is
         ∙ ap (λ (l : List Moved). pair_text at_end (entries_with styles closed.on l)) e
         ∙ (λ i. first_text i ++ second_text i)
-        ∙ append_assoc first gap (second ++ gap))
+        ∙ append_assoc first gap (second ++ gap)
+
+    begins_out : Begins (lines_of output)
+    begins_out =
+        subst Begins
+        (sym (ap lines_of out_all ∙ lines_then c styles closed.on (codes "closing") ones within closing_title one_are (gap ++ (second ++ gap))))
+        (begins c styles closed.on (codes "closing") ones within closing_title one_are _)
 
     close : Close closed (entry_on styles closed.on (codes "closing") (closing_lines closed), entry_on styles (closed.on + 1) (codes "opening") (opening_lines closed))
     close =
         subst (λ (l : List Moved). Close closed (entry_on styles closed.on (codes "closing") l, entry_on styles (closed.on + 1) (codes "opening") (map opposite l))) (sym e)
         (subst (λ (l : List Moved). Settles closed (entries_with styles closed.on l)) e settled)
-
-    closes : (number other : ℕ) → (items_in year all >>= load) ≡ Ok (record { txns = book.txns ++ entry_at (again c styles) number closed.on (codes "closing") ones ∷ entry_at (again c styles) other (closed.on + 1) (codes "opening") twos ∷ [] })
-        → Closes closed year (text ++ output)
-    closes number other h = let back = sym txns in let lines_back = sym e in record {
-      shape = again c styles;
-      first = number;
-      second = other;
-      loads =
-          ap (λ (t : List ℕ). items_in year t >>= load) whole_is
-          ∙ h
-          ∙ (λ i. Ok (record { txns = back i ++ entry_at (again c styles) number closed.on (codes "closing") (lines_back i) ∷ entry_at (again c styles) other (closed.on + 1) (codes "opening") (map opposite (lines_back i)) ∷ [] }));
-      emptied = emptied closed (again c styles) styles number other (closing_lines closed) (opening_lines closed) (codes "closing") (codes "opening") close;
-      restored = restored closed (again c styles) styles number other (closing_lines closed) (opening_lines closed) (codes "closing") (codes "opening") close;
-    }
 
     one_more : (xs ys : List ℕ) → ys ≡ xs ++ gap → 65536 < length xs → 65536 + 1 < length ys
     one_more xs ys same h = omega (arith, ap length same, length-append xs gap, h)
@@ -173,32 +185,101 @@ module _ (year : Option ℕ) (text output : List ℕ) (closed : Closed) (book : 
     is_long (inl h) = inl (one_more first (entry_text at_end closing) first_text h)
     is_long (inr h) = inr (one_more second (entry_text at_end opening) second_text h)
 
-    fails : (fault : Fault) → (items_in year all >>= load) ≡ Err fault → Fails year (text ++ output) fault
-    fails fault h = ap (λ (t : List ℕ). items_in year t >>= load) whole_is ∙ h
+    -- behind a text that reads to the same transactions and directives
+    module _ (front : List ℕ) (placed : List Placed) (front_read : items_in year front ≡ Ok placed) (front_loaded : load placed ≡ Ok book) (same : context_of year (items_at placed) ≡ c)
+        (ends : EndsLine front) (shut : open_in 0 (lines_of front) ≡ false) where
+      abbrev all : List ℕ
+      all = front ++ (first ++ (gap ++ (second ++ gap)))
 
-    abbrev number : ℕ
-    number = 1 + length (lines_of text)
+      whole_is : front ++ output ≡ all
+      whole_is = ap (λ (xs : List ℕ). front ++ xs) out_all
 
-    two_added : Added closed year text output (Some (closing, opening))
-    two_added =
-        by _ _ (both_end year text closed.items book styles closed.on m ms read loaded late within within_two closing_title opening_title ends shut one_are two_are even even_two)
-      where
-        by : (a b : ℕ) → Ends year all first second (book.txns ++ entry_at (again c styles) a closed.on (codes "closing") ones ∷ entry_at (again c styles) b (closed.on + 1) (codes "opening") twos ∷ [])
-            → Closes closed year (text ++ output) ⊎ IsRefused closed (closing, opening) year (text ++ output)
-        by a b (loads h) = inl (closes a b h)
-        by a b (out line h) = inr (record { fault = record { line = line; cause = cause.Range }; fails = fails (record { line = line; cause = cause.Range }) h; cause = inl refl })
-        by a b (long line size h) = inr (record { fault = record { line = line; cause = cause.TooLong }; fails = fails (record { line = line; cause = cause.TooLong }) h; cause = inr (refl, is_long size) })
+      closes : (number other : ℕ) → (items_in year all >>= load) ≡ Ok (record { txns = book.txns ++ entry_at (again c styles) number closed.on (codes "closing") ones ∷ entry_at (again c styles) other (closed.on + 1) (codes "opening") twos ∷ [] })
+          → Closes closed year (front ++ output)
+      closes number other h = let back = sym txns in let lines_back = sym e in record {
+        shape = again c styles;
+        first = number;
+        second = other;
+        loads =
+            ap (λ (t : List ℕ). items_in year t >>= load) whole_is
+            ∙ h
+            ∙ (λ i. Ok (record { txns = back i ++ entry_at (again c styles) number closed.on (codes "closing") (lines_back i) ∷ entry_at (again c styles) other (closed.on + 1) (codes "opening") (map opposite (lines_back i)) ∷ [] }));
+        emptied = emptied closed (again c styles) styles number other (closing_lines closed) (opening_lines closed) (codes "closing") (codes "opening") close;
+        restored = restored closed (again c styles) styles number other (closing_lines closed) (opening_lines closed) (codes "closing") (codes "opening") close;
+      }
 
-  by_lines : (lines : List Moved) → closing_lines closed ≡ lines → Added closed year text output (entries_with styles closed.on lines)
-  by_lines [] e = (
+      fails : (fault : Fault) → (items_in year all >>= load) ≡ Err fault → Fails year (front ++ output) fault
+      fails fault h = ap (λ (t : List ℕ). items_in year t >>= load) whole_is ∙ h
+
+      two_added : Added closed year front output (Some (closing, opening))
+      two_added =
+          by _ _ (both_end year front placed book styles closed.on m ms c same front_read front_loaded late within within_two closing_title opening_title ends shut one_are two_are even even_two)
+        where
+          by : (a b : ℕ) → Ends year all first second (book.txns ++ entry_at (again c styles) a closed.on (codes "closing") ones ∷ entry_at (again c styles) b (closed.on + 1) (codes "opening") twos ∷ [])
+              → Closes closed year (front ++ output) ⊎ IsRefused closed (closing, opening) year (front ++ output)
+          by a b (loads h) = inl (closes a b h)
+          by a b (out line h) = inr (record { fault = record { line = line; cause = cause.Range }; fails = fails (record { line = line; cause = cause.Range }) h; cause = inl refl })
+          by a b (long line size h) = inr (record { fault = record { line = line; cause = cause.TooLong }; fails = fails (record { line = line; cause = cause.TooLong }) h; cause = inr (refl, is_long size) })
+
+  none_added : closing_lines closed ≡ [] → (output ≡ []) × AreEmpty closed closed.txns
+  none_added e = (
     out_is ∙ ap (λ (l : List Moved). pair_text at_end (entries_with styles closed.on l)) e,
     subst (λ (l : List Moved). Settles closed (entries_with styles closed.on l)) e settled,
   )
-  by_lines (m ∷ ms) e = two_added m ms e
+
+  by_lines : EndsLine text → open_in 0 (lines_of text) ≡ false → (lines : List Moved) → closing_lines closed ≡ lines → Added closed year text output (entries_with styles closed.on lines)
+  by_lines ends shut [] e = none_added e
+  by_lines ends shut (m ∷ ms) e = two_added m ms e text closed.items read loaded refl ends shut
 
   -- What is added loads, or is refused.
-  pub is_added : Added closed year text output (made closed)
-  is_added = by_lines (closing_lines closed) refl
+  pub is_added : IsEnded text → Added closed year text output (made closed)
+  is_added is = by_lines (ends_with_line text is.line) (sym (open_block_is text) ∙ is.block) (closing_lines closed) refl
+
+  -- ---- behind the text with its end
+
+  out_ended : line_end output ≡ []
+  out_ended = ap line_end out_is ∙ pair_ended at_end (made closed)
+
+  abbrev full : List ℕ
+  full = text ++ (line_end text ++ (block_end text ++ blank_line text))
+
+  joined_is : full ++ output ≡ text ++ added text output
+  joined_is =
+      let no_more : output ≡ output ++ line_end output = sym (append-nil output) ∙ ap (λ (xs : List ℕ). output ++ xs) (sym out_ended) in
+      append_assoc text (line_end text ++ (block_end text ++ blank_line text)) output
+      ∙ ap (λ (xs : List ℕ). text ++ (xs ++ output)) (sym (append_assoc (line_end text) (block_end text) (blank_line text)))
+      ∙ ap (λ (xs : List ℕ). text ++ (((line_end text ++ block_end text) ++ blank_line text) ++ xs)) no_more
+
+  module _ (m : Moved) (ms : List Moved) (e : closing_lines closed ≡ m ∷ ms) where
+    abbrev pair : Txn × Txn
+    pair = (closing m ms e, opening m ms e)
+
+    whole_added : Closes closed year (full ++ output) ⊎ IsRefused closed pair year (full ++ output) → Joined closed year text output (Some pair)
+    whole_added (inl h) = inl (subst (λ (t : List ℕ). Closes closed year t) joined_is h)
+    whole_added (inr h) = inr (inl (subst (λ (t : List ℕ). IsRefused closed pair year t) joined_is h))
+
+    by_ended : EndsLine full → open_in 0 (lines_of full) ≡ false → Ended year text full closed.items → Joined closed year text output (Some pair)
+    by_ended ends shut (reads placed r context same) = whole_added (two_added m ms e full placed r (ap (λ (ts : List Txn). book_of (assigned ts)) same ∙ loaded) context ends shut)
+    by_ended ends shut (too_long p last size line f) = inr (inr (record {
+      item = p;
+      last = last;
+      size = size;
+      line = line;
+      fails = ap (λ (t : List ℕ). items_in year t >>= load) (sym joined_is) ∙ ap (λ (r : Result (List Placed) Fault). r >>= load) (f output (begins_out m ms e));
+    }))
+
+  by_joined : EndsLine full → open_in 0 (lines_of full) ≡ false → Ended year text full closed.items → (lines : List Moved) → closing_lines closed ≡ lines → Joined closed year text output (entries_with styles closed.on lines)
+  by_joined ends shut ended [] e = none_added e
+  by_joined ends shut ended (m ∷ ms) e = by_ended m ms e ends shut ended
+
+  pub is_joined : IsFront year text full closed.items → Joined closed year text output (made closed)
+  is_joined is = by_joined is.ends is.shut is.ended (closing_lines closed) refl
+
+front_of : (year : Option ℕ) (text : List ℕ) (items : List Placed) → items_in year text ≡ Ok items → IsFront year text (text ++ (line_end text ++ (block_end text ++ blank_line text))) items
+front_of year [] items read = record { ends = tt; shut = refl; ended = reads items read refl refl }
+front_of year (b ∷ bs) items read =
+    subst (λ (t : List ℕ). IsFront year (b ∷ bs) ((b ∷ bs) ++ (line_end (b ∷ bs) ++ (block_end (b ∷ bs) ++ t))) items)
+    (sym (ap (λ (t : Bool). cond {A = List ℕ} t [] gap) (some_bytes b bs))) (front_is year b bs items read)
 
 -- ---- what a command answers
 
@@ -268,5 +349,20 @@ is_closed day year asked text output within early into ended h =
       loaded = m.loaded;
       terms = t.terms;
       query = t.query;
-      added = is_added year text output closed m.book m.read m.loaded refl within early ended (t.is).passes into (t.is).is;
+      added = is_added year text output closed m.book m.read m.loaded refl within early (t.is).passes into (t.is).is ended;
+    }
+
+pub is_joined_text : (day : ℕ) (year : Option ℕ) (asked : CloseAsked) (text output : List ℕ) → IsDay asked.on → asked.on < last_day → is_utf8 asked.into ≡ true → judge day year (works.Close asked) text ≡ Ok (written output) → IsJoined day year asked text output
+is_joined_text day year asked text output within early into h =
+    let m = judged_is (close_made asked day) year text (written output) h in
+    let t = made_terms asked day m.items m.book output m.is in
+    let closed = closed_over asked m.items m.book t.terms in
+    record {
+      items = m.items;
+      read = m.read;
+      book = m.book;
+      loaded = m.loaded;
+      terms = t.terms;
+      query = t.query;
+      joined = is_joined year text output closed m.book m.read m.loaded refl within early (t.is).passes into (t.is).is (front_of year text m.items m.read);
     }

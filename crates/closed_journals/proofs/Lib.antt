@@ -9,7 +9,10 @@ pub mod Digits
 pub mod Entered
 pub mod Entries
 pub mod Even
+pub mod Fronts
+pub mod Grown
 pub mod Judging
+pub mod Lasts
 pub mod Lawful
 pub mod Lined
 pub mod Loading

@@ -34,13 +34,13 @@ concat_take zero ls = omega arith
 concat_take (suc n) [] = omega arith
 concat_take (suc n) (l ∷ ls) = omega (arith, concat_take n ls, length-append l (concat (take n ls)), length-append l (concat ls))
 
-abbrev Ends : ℕ → Piece → Type 0
+abbrev pub Ends : ℕ → Piece → Type 0
 Ends most p = p.at + p.len ≤ most
 
 all_same : (a b : ℕ) (ps : List Piece) → a ≡ b → AllByRecursion (Ends a) ps → AllByRecursion (Ends b) ps
 all_same a b ps e h = subst (λ (n : ℕ). AllByRecursion (Ends n) ps) e h
 
-within_cut : (taken at line : ℕ) (ls : List (List ℕ)) → AllByRecursion (Ends (at + length (concat ls))) (cut_from taken at line ls)
+pub within_cut : (taken at line : ℕ) (ls : List (List ℕ)) → AllByRecursion (Ends (at + length (concat ls))) (cut_from taken at line ls)
 within_cut taken at line [] = tt
 within_cut (suc taken) at line (l ∷ ls) =
     all_same (at + length l + length (concat ls)) (at + length (concat (l ∷ ls))) (cut_from taken (at + length l) (line + 1) ls) (omega (arith, length-append l (concat ls))) (within_cut taken (at + length l) (line + 1) ls)
@@ -68,28 +68,28 @@ within_text text = all_same (0 + length (concat (lines_of text))) (length text) 
     same : (xs : List ℕ) → xs ≡ text → 0 + length xs ≡ length text
     same xs e = omega (arith, ap length e)
 
-front_bytes : (text more : List ℕ) (p : Piece) → Ends (length text) p → take p.len (drop p.at (text ++ more)) ≡ take p.len (drop p.at text)
+pub front_bytes : (text more : List ℕ) (p : Piece) → Ends (length text) p → take p.len (drop p.at (text ++ more)) ≡ take p.len (drop p.at text)
 front_bytes text more p h =
     ap (take p.len) (drop-append-le p.at text more (omega arith)) ∙ take-append-le p.len (drop p.at text) more (omega (arith, length-drop p.at text))
 
 -- ---- reading one after another
 
-record Bound {A B : Type 0} (r : Result A Fault) (f : A → Result B Fault) (y : B) : Type 0 where
-  value : A
-  first : r ≡ Ok value
-  second : f value ≡ Ok y
+pub record Bound {A B : Type 0} (r : Result A Fault) (f : A → Result B Fault) (y : B) : Type 0 where
+  pub value : A
+  pub first : r ≡ Ok value
+  pub second : f value ≡ Ok y
 
-bound : {A B : Type 0} (r : Result A Fault) (f : A → Result B Fault) (y : B) → (r >>= f) ≡ Ok y → Bound r f y
+pub bound : {A B : Type 0} (r : Result A Fault) (f : A → Result B Fault) (y : B) → (r >>= f) ≡ Ok y → Bound r f y
 bound (Ok x) f y h = record { value = x; first = refl; second = h }
 bound (Err fault) f y h = absurd (let never : ⊥ = cc in never)
 
 abbrev pub items_at : List Placed → List Item
 items_at placed = map (λ p. p.item) placed
 
-abbrev placed_as : Piece → Item → Placed
+abbrev pub placed_as : Piece → Item → Placed
 placed_as p i = record { piece = p; item = i }
 
-abbrev Read : Type 0
+abbrev pub Read : Type 0
 Read = Result (List Placed) Fault
 
 -- items before others that are still to be read
@@ -100,11 +100,11 @@ none_before : (r : Read) → before_more [] r ≡ r
 none_before (Ok more) = refl
 none_before (Err fault) = refl
 
-one_before : (p : Placed) (front : List Placed) (r : Read) → (before_more front r >>= λ more. Ok (p ∷ more)) ≡ before_more (p ∷ front) r
+pub one_before : (p : Placed) (front : List Placed) (r : Read) → (before_more front r >>= λ more. Ok (p ∷ more)) ≡ before_more (p ∷ front) r
 one_before p front (Ok more) = refl
 one_before p front (Err fault) = refl
 
-ok_same : (xs ys : List Placed) → (let r : Read = Ok xs in r) ≡ Ok ys → xs ≡ ys
+pub ok_same : (xs ys : List Placed) → (let r : Read = Ok xs in r) ≡ Ok ys → xs ≡ ys
 ok_same xs ys h = cc
 
 -- Where pieces of a front were read, they are read in the whole, and those behind them after their items.
@@ -130,10 +130,10 @@ read_front year before text more (p ∷ ps) qs placed within h =
 
 -- ---- one piece
 
-not_long : (n : ℕ) → n ≤ 65536 → nat_lt 65536 n ≡ false
+pub not_long : (n : ℕ) → n ≤ 65536 → nat_lt 65536 n ≡ false
 not_long n h = grind (arith, nat_tests)
 
-too_long : (n : ℕ) → 65536 < n → nat_lt 65536 n ≡ true
+pub too_long : (n : ℕ) → 65536 < n → nat_lt 65536 n ≡ true
 too_long n h = grind (arith, nat_tests)
 
 pub reading_entry : (context : Context) (line : ℕ) (bytes : List ℕ) (i : Item) → is_utf8 bytes ≡ true → kind_of (first_line bytes) ≡ kinds.Entry → length bytes ≤ 65536
@@ -158,7 +158,7 @@ unfolding reading
 reading_gap context line =
     ap (λ (t : Bool). cond {A = Result Item Fault} t (Ok item.Gap) (Err (fault_at (broken_line line (10 ∷ [])) cause.Encoding))) end_line_utf8
 
-bytes_at : (text front mid back : List ℕ) (at n : ℕ) → text ≡ front ++ (mid ++ back) → at ≡ length front → n ≡ length mid → take n (drop at text) ≡ mid
+pub bytes_at : (text front mid back : List ℕ) (at n : ℕ) → text ≡ front ++ (mid ++ back) → at ≡ length front → n ≡ length mid → take n (drop at text) ≡ mid
 bytes_at text front mid back at n is ea en =
     ap (λ (t : List ℕ). take n (drop at t)) is
     ∙ ap (λ (k : ℕ). take n (drop k (front ++ (mid ++ back)))) ea
@@ -167,7 +167,7 @@ bytes_at text front mid back at n is ea en =
     ∙ take-append_seam mid back
 
 -- an item that is no directive leaves the context as it is
-same_context : (year : Option ℕ) (before : List Item) (i : Item) → directive_in i ≡ [] → context_of year (before ++ i ∷ []) ≡ context_of year before
+pub same_context : (year : Option ℕ) (before : List Item) (i : Item) → directive_in i ≡ [] → context_of year (before ++ i ∷ []) ≡ context_of year before
 same_context year before i none =
     ap (context_from year) (flat_map-append directive_in before (i ∷ []) ∙ ap (λ (ds : List Directive). directives_in before ++ (ds ++ [])) none ∙ append-nil (directives_in before))
 
@@ -208,17 +208,17 @@ placed_of l e f one two =
     ∷ placed_as (piece (l.at + length e + 1) (length f) l.second_line kinds.Entry) (item.Txn two)
     ∷ placed_as (piece (l.at + length e + 1 + length f) 1 l.second_gap kinds.Gap) item.Gap ∷ []
 
-one_read : (year : Option ℕ) (before : List Item) (all : List ℕ) (p : Piece) (ps : List Piece) (i : Item) → reading (context_of year before) p.line (take p.len (drop p.at all)) ≡ Ok i
+pub one_read : (year : Option ℕ) (before : List Item) (all : List ℕ) (p : Piece) (ps : List Piece) (i : Item) → reading (context_of year before) p.line (take p.len (drop p.at all)) ≡ Ok i
     → reading_from year before all (p ∷ ps) ≡ (reading_from year (before ++ i ∷ []) all ps >>= λ rest. Ok (placed_as p i ∷ rest))
 unfolding reading_from
 one_read year before all p ps i is = ap (λ (r : Result Item Fault). r >>= λ j. reading_from year (before ++ j ∷ []) all ps >>= λ rest. Ok (placed_as p j ∷ rest)) is
 
-one_fails : (year : Option ℕ) (before : List Item) (all : List ℕ) (p : Piece) (ps : List Piece) (fault : Fault) → reading (context_of year before) p.line (take p.len (drop p.at all)) ≡ Err fault
+pub one_fails : (year : Option ℕ) (before : List Item) (all : List ℕ) (p : Piece) (ps : List Piece) (fault : Fault) → reading (context_of year before) p.line (take p.len (drop p.at all)) ≡ Err fault
     → reading_from year before all (p ∷ ps) ≡ Err fault
 unfolding reading_from
 one_fails year before all p ps fault is = ap (λ (r : Result Item Fault). r >>= λ j. reading_from year (before ++ j ∷ []) all ps >>= λ rest. Ok (placed_as p j ∷ rest)) is
 
-none_left : (year : Option ℕ) (before : List Item) (all : List ℕ) → reading_from year before all [] ≡ Ok []
+pub none_left : (year : Option ℕ) (before : List Item) (all : List ℕ) → reading_from year before all [] ≡ Ok []
 unfolding reading_from
 none_left year before all = refl
 

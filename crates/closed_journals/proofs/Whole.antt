@@ -1,5 +1,5 @@
 -- A text with the entries of what is closed behind it.
-use Rattle.std.proofs.Common.{ℕ, suc, pos, ◌≡◌, ◌+◌, ◌<◌, ◌≤◌, inl, inr, ◌⊎◌, true, false, List, [], ◌∷◌, ◌++◌, length, map, codes, Option, None, Result, Ok, Err, refl, sym, ap, ◌∙◌, arith, append_assoc, length-append}
+use Rattle.std.proofs.Common.{ℕ, suc, pos, ◌≡◌, ◌+◌, ◌<◌, ◌≤◌, inl, inr, ◌⊎◌, true, false, List, [], ◌∷◌, ◌++◌, length, map, codes, Option, None, Result, Ok, Err, refl, sym, ap, subst, ◌∙◌, arith, append_assoc, length-append}
 use Rattle.std.specs.List.{concat, prefix_len}
 use Rattle.std.proofs.lemmas.Grind.{flat_map-append}
 use Rattle.hl_base.specs.Items.{cut_from, is_remark, items_of, kind_of}
@@ -66,13 +66,13 @@ module _ (context : Context) (styles : Writing) (day : ℕ) (d : List ℕ) (ms :
     says = ap (entry_of context line) (contents_joined lines is_lines) ∙ entry_read context styles line day d ms within title are;
   }
 
-  lines_then : (rest : List ℕ) → lines_of (bytes ++ rest) ≡ head ∷ (below ++ lines_of rest)
+  pub lines_then : (rest : List ℕ) → lines_of (bytes ++ rest) ≡ head ∷ (below ++ lines_of rest)
   lines_then rest = lines_joined lines rest is_lines
 
   size_is : length head + length (concat below) ≡ length bytes
   size_is = sym (length-append head (concat below)) ∙ ap length (concat_ended lines)
 
-  begins : (more : List (List ℕ)) → Begins (head ∷ more)
+  pub begins : (more : List (List ℕ)) → Begins (head ∷ more)
   begins more = entry_begins head more first_digit
 
   -- it is cut with the empty line behind it
@@ -98,15 +98,12 @@ pub data Ends (year : Option ℕ) (all e f : List ℕ) (txns : List Txn) : Type 
   out : (line : ℕ) → (items_in year all >>= load) ≡ Err (record { line = line; cause = cause.Range }) → Ends year all e f txns
   long : (line : ℕ) → (65536 < length e) ⊎ (65536 < length f) → (items_in year all >>= load) ≡ Err (record { line = line; cause = cause.TooLong }) → Ends year all e f txns
 
-module _ (year : Option ℕ) (text : List ℕ) (items : List Placed) (book : Book) (styles : Writing) (on : ℕ) (m : Moved) (ms : List Moved)
+module _ (year : Option ℕ) (text : List ℕ) (items : List Placed) (book : Book) (styles : Writing) (on : ℕ) (m : Moved) (ms : List Moved) (c : Context) (same : context_of year (items_at items) ≡ c)
     (read : items_in year text ≡ Ok items) (loaded_is : load items ≡ Ok book) (late : first_late on book.txns ≡ None)
     (within_one : IsDay on) (within_two : IsDay (on + 1)) (title_one : IsTitle (codes "closing")) (title_two : IsTitle (codes "opening"))
     (ends : EndsLine text) (shut : open_in 0 (lines_of text) ≡ false)
-    (one_are : AreLinesOf (context_of year (items_at items)) (m ∷ ms)) (two_are : AreLinesOf (context_of year (items_at items)) (opposite m ∷ map opposite ms))
+    (one_are : AreLinesOf c (m ∷ ms)) (two_are : AreLinesOf c (opposite m ∷ map opposite ms))
     (even : (symbol : List ℕ) → lines_in symbol (m ∷ ms) ≡ pos 0) (even_two : (symbol : List ℕ) → lines_in symbol (opposite m ∷ map opposite ms) ≡ pos 0) where
-  abbrev c : Context
-  c = context_of year (items_at items)
-
   abbrev ones : List Moved
   ones = m ∷ ms
 
@@ -211,5 +208,5 @@ module _ (year : Option ℕ) (text : List ℕ) (items : List Placed) (book : Boo
   pub both_end : Ends year all e f (book.txns ++ one ∷ two ∷ [])
   both_end =
       by_read (two_read year (items_at items) lying text e f one two at_is
-      (says c styles on (codes "closing") ones within_one title_one one_are lying.first_line)
-      (says c styles (on + 1) (codes "opening") twos within_two title_two two_are lying.second_line))
+      (subst (λ (context : Context). Says context lying.first_line e one) (sym same) (says c styles on (codes "closing") ones within_one title_one one_are lying.first_line))
+      (subst (λ (context : Context). Says context lying.second_line f two) (sym same) (says c styles (on + 1) (codes "opening") twos within_two title_two two_are lying.second_line)))

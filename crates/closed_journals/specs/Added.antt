@@ -1,5 +1,7 @@
 -- Closing entries that are added to the text of which they are made.
 use Rattle.std.specs.Prelude.{◌≡◌, ◌<◌, ℕ, suc, ◌+◌, ◌⊎◌, true, false, List, [], ◌∷◌, ◌++◌, length, codes, Option, Some, None, Ok, Err}
+use Rattle.hl_base.specs.Items.{items_of}
+use Rattle.hl_base.specs.declared.items.Piece.{Piece}
 use Rattle.book.specs.declared.amount.Written.{Written}
 use Rattle.book.specs.declared.fault.Cause.TheVariants as cause
 use Rattle.book.specs.declared.fault.Fault.{Fault}
@@ -20,7 +22,7 @@ use Rattle.book_commands.specs.Works.{closed_over, entry_text}
 use Rattle.book_commands.specs.declared.work.CloseAsked.{CloseAsked}
 use Rattle.entry_reader.specs.Causes.{◌>>=◌}
 use Rattle.journal_reader.specs.Items.{items_in}
-use Rattle.live_journal.specs.Edits.{has_open_block, line_end}
+use Rattle.live_journal.specs.Edits.{added, has_open_block, last_piece, line_end}
 use Rattle.query_terms.specs.Reading.{terms_of}
 use Rattle.query_terms.specs.declared.kinds.Term.{Term}
 
@@ -111,3 +113,30 @@ pub record IsClosed (day : ℕ) (year : Option ℕ) (asked : CloseAsked) (text o
   pub terms : List Term
   pub query : terms_of day asked.words ≡ Ok terms
   pub added : Added (closed_over asked items book terms) year text output (made (closed_over asked items book terms))
+
+-- ---- both entries added to any text
+
+-- The text's last item has exactly 65,536 bytes, without a line's end: with one it is too long, and this is the fault.
+pub record IsOver (year : Option ℕ) (text whole : List ℕ) : Type 0 where
+  pub item : Piece
+  pub last : last_piece (items_of text) ≡ Some item
+  pub size : item.len ≡ 65536
+  pub line : line_end text ≡ 10 ∷ []
+  pub fails : Fails year whole (record { line = item.line; cause = cause.TooLong })
+
+-- What becomes of a text to which the entries are added as any entry is: behind a line's end where the last line lacks one,
+-- the end of a comment block that is left open, and an empty line.
+abbrev pub Joined : Closed → Option ℕ → List ℕ → List ℕ → Option (Txn × Txn) → Type 0
+Joined closed year text output None = (output ≡ []) × AreEmpty closed closed.txns
+Joined closed year text output (Some entries) =
+    Closes closed year (text ++ added text output) ⊎ (IsRefused closed entries year (text ++ added text output) ⊎ IsOver year text (text ++ added text output))
+
+-- What a text was read and loaded to where its accounts are closed, and what becomes of it where the entries are added to it.
+pub record IsJoined (day : ℕ) (year : Option ℕ) (asked : CloseAsked) (text output : List ℕ) : Type 0 where
+  pub items : List Placed
+  pub read : items_in year text ≡ Ok items
+  pub book : Book
+  pub loaded : load items ≡ Ok book
+  pub terms : List Term
+  pub query : terms_of day asked.words ≡ Ok terms
+  pub joined : Joined (closed_over asked items book terms) year text output (made (closed_over asked items book terms))

@@ -6,7 +6,7 @@ ghost use Rattle.refusals.specs.Outcomes.{written};
 ghost use Rattle.book_commands.specs.Works.{judge};
 ghost use Rattle.book_commands.specs.declared.work.CloseAsked.{CloseAsked};
 ghost use Rattle.book_commands.specs.declared.work.Work.TheVariants as works;
-ghost use Rattle.closed_journals.specs.Added.{IsClosed, IsEnded};
+ghost use Rattle.closed_journals.specs.Added.{IsClosed, IsEnded, IsJoined};
 
 /// Where `close` writes something for a text that is empty or ends with a line's end, outside a comment block, that text
 /// with it behind it loads to the book of the text and the two entries behind it. Behind the first each closed account is
@@ -17,4 +17,14 @@ pub fn closing_loads()
         → IsDay asked.on → asked.on < last_day → is_utf8 asked.into ≡ true → IsEnded text
         → judge day year (works.Close asked) text ≡ Ok (written output)
         → IsClosed day year asked text output }
+{}
+
+/// The same for any text, where what is written is added to it as an entry is: behind a line's end where its last line lacks
+/// one, the end of a comment block that it leaves open, and an empty line. Then there is one more cause of a refusal: its last
+/// item has 65,536 bytes and no line's end, and is too long with one.
+pub fn closing_joins()
+    ensures { (day : ℕ) (year : Option ℕ) (asked : CloseAsked) (text output : List ℕ)
+        → IsDay asked.on → asked.on < last_day → is_utf8 asked.into ≡ true
+        → judge day year (works.Close asked) text ≡ Ok (written output)
+        → IsJoined day year asked text output }
 {}

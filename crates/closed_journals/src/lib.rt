@@ -5,4 +5,4 @@ mod laws;
 #[cfg(test)]
 mod tests;
 
-pub use laws::closing_loads;
+pub use laws::{closing_joins, closing_loads};

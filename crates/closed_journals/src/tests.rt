@@ -3,4 +3,5 @@ use super::*;
 #[test]
 fn the_law_holds() {
     closing_loads();
+    closing_joins();
 }
