@@ -1,10 +1,11 @@
 -- Facts on integers, powers of ten and units.
-use Rattle.std.proofs.Common.{ℕ, ℤ, pos, negsuc, ◌≡◌, ◌+◌, ◌-◌, ◌*◌, ◌^◌, ◌<◌, ◌≤◌, ◌+ℤ◌, ◌*ℤ◌, neg_ℤ, refl, sym, ap, ◌∙◌, arith, lit<, unsigned_abs, zero, suc, zero-mul}
+use Rattle.std.proofs.Common.{ℕ, ℤ, pos, negsuc, ◌≡◌, ◌+◌, ◌-◌, ◌*◌, ◌^◌, ◌<◌, ◌≤◌, ◌+ℤ◌, ◌*ℤ◌, neg_ℤ, refl, sym, ap, ◌∙◌, arith, lit<, unsigned_abs, zero, suc, zero-mul, Bool, true, ◌&&◌, nat_lt}
 use Rattle.std.proofs.lemmas.Int.{unsigned_abs-mul}
+use Rattle.std.proofs.lemmas.Bool.Decides.{nat_tests}
 use Rattle.std.proofs.lemmas.Nat.{pow-add}
 use Rattle.std.proofs.Math.Nat.{pow-le-pow_right, mul_assoc, mul-le-mul_left}
 use borrow.Author.Differences.{up, down, product_is, sum_is_lem, same_in}
-use Rattle.hl_num.specs.Decimal.{Decimal, units_of, mantissa_at}
+use Rattle.hl_num.specs.Decimal.{Decimal, units_of, mantissa_at, sum_fits_at}
 
 pub up-mul : (a : ℤ) (n : ℕ) → up (a *ℤ pos n) ≡ up a * n
 up-mul a n = omega (arith, (product_is a (pos n)).0)
@@ -60,3 +61,36 @@ zero-from_units m n positive none =
     unsigned_abs-zero : (z : ℤ) → unsigned_abs z ≡ 0 → z ≡ pos 0
     unsigned_abs-zero (pos a) e = ap pos e
     unsigned_abs-zero (negsuc a) e = absurd (omega arith)
+
+mul-one : (a : ℤ) → a *ℤ pos 1 ≡ a
+mul-one (pos a) =
+    let e : a * 1 ≡ a = omega arith in
+    ap pos e
+mul-one (negsuc a) =
+    let e : suc a * 1 ≡ suc a = omega arith in
+    ap (λ (k : ℕ). neg_ℤ (pos k)) e
+
+-- at its own number of places a mantissa stays as it is
+pub mantissa_at-own : (d : Decimal) (p : ℕ) → d.places ≡ p → mantissa_at d p ≡ d.mantissa
+mantissa_at-own d p e =
+    let none : p - d.places ≡ 0 = omega arith in
+    ap (λ (k : ℕ). d.mantissa *ℤ pos (10 ^ k)) none ∙ mul-one d.mantissa
+
+is_below : (n : ℕ) → n < 2 ^ 127 → nat_lt n (2 ^ 127) ≡ true
+is_below n h = grind (arith, nat_tests)
+
+-- the sum of two numbers with the same places is that of their mantissas
+pub sum-alike : (a b : Decimal) (p : ℕ) → a.places ≡ p → b.places ≡ p → mantissa_at a p +ℤ mantissa_at b p ≡ a.mantissa +ℤ b.mantissa
+sum-alike a b p ea eb =
+    ap (λ (x : ℤ). x +ℤ mantissa_at b p) (mantissa_at-own a p ea)
+    ∙ ap (λ (y : ℤ). a.mantissa +ℤ y) (mantissa_at-own b p eb)
+
+-- and fits where that does
+pub fits-alike : (a b : Decimal) (p : ℕ) → a.places ≡ p → b.places ≡ p → unsigned_abs a.mantissa < 2 ^ 127 → unsigned_abs b.mantissa < 2 ^ 127 → sum_fits_at a b p ≡ nat_lt (unsigned_abs (a.mantissa +ℤ b.mantissa)) (2 ^ 127)
+fits-alike a b p ea eb fa fb =
+    let fits : ℤ → ℤ → Bool = λ x y. nat_lt (unsigned_abs x) (2 ^ 127) && nat_lt (unsigned_abs y) (2 ^ 127) && nat_lt (unsigned_abs (x +ℤ y)) (2 ^ 127) in
+    let sum : Bool = nat_lt (unsigned_abs (a.mantissa +ℤ b.mantissa)) (2 ^ 127) in
+    ap (λ (x : ℤ). fits x (mantissa_at b p)) (mantissa_at-own a p ea)
+    ∙ ap (λ (y : ℤ). fits a.mantissa y) (mantissa_at-own b p eb)
+    ∙ ap (λ (t : Bool). t && nat_lt (unsigned_abs b.mantissa) (2 ^ 127) && sum) (is_below (unsigned_abs a.mantissa) fa)
+    ∙ ap (λ (t : Bool). t && sum) (is_below (unsigned_abs b.mantissa) fb)

@@ -135,6 +135,7 @@ impl Dec {
 
     /// The sum, with the greater number of places. `Range` comes exactly where a term or the sum reaches 2^127 in
     /// that unit.
+    #[inline]
     pub fn add(self, other: Dec) -> Result<Dec, Range>
         ensures value { IfOk result (λ sum. units_of sum ≡ units_of self +ℤ units_of other) }
         ensures places { IfOk result (λ sum. sum.places ≡ max self.places other.places) }
@@ -148,8 +149,35 @@ impl Dec {
         }
     }
 
-    /// The mantissa of the sum at a number of places.
+    /// The mantissa of the sum at a number of places. Most terms are written with the same places, and need no power of
+    /// ten.
+    #[inline]
     fn sum_at(self, other: Dec, places: u8) -> Option<i128>
+        requires more { self.places ≤ places }
+        requires more_still { other.places ≤ places }
+        requires few { places ≤ 36 }
+        ensures value { IfSome result (λ sum. sum ≡ mantissa_at self places +ℤ mantissa_at other places) }
+        ensures fits { is_some result ≡ sum_fits_at self other places }
+    {
+        if self.places == places && other.places == places {
+            self.sum_alike(other)
+        } else {
+            self.sum_scaled(other, places)
+        }
+    }
+
+    /// The sum of the mantissas as they are.
+    #[inline]
+    fn sum_alike(self, other: Dec) -> Option<i128>
+        ensures value { IfSome result (λ sum. sum ≡ self.mantissa +ℤ other.mantissa) }
+        ensures fits { is_some result ≡ nat_lt (unsigned_abs (self.mantissa +ℤ other.mantissa)) (2 ^ 127) }
+    {
+        bounded(self.mantissa.checked_add(other.mantissa)?)
+    }
+
+    /// The sum of the mantissas at a number of places.
+    #[inline(never)]
+    fn sum_scaled(self, other: Dec, places: u8) -> Option<i128>
         requires more { self.places ≤ places }
         requires more_still { other.places ≤ places }
         requires few { places ≤ 36 }
