@@ -5,6 +5,7 @@ pub mod Filled
 pub mod InPlace
 pub mod Named
 pub mod Only
+pub mod Pairs
 pub mod Settling
 pub mod Sides
 pub mod Trimmed

@@ -1,6 +1,7 @@
 pub mod Check
 pub mod Entry
 pub mod Fill
+pub mod Pair
 pub mod Settled
 pub mod Tally
 pub mod Turnover

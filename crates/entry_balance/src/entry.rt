@@ -7,11 +7,13 @@ ghost use Rattle.entry_balance.specs.Check.{cause_of};
 ghost use Rattle.entry_balance.specs.Entry.{balanced, costs_fit, misses, found_values, recorded_cost, unbalanced_by, unbalanced_sums, solved, moved};
 ghost use Rattle.entry_balance.specs.Entry.{settled, has_assignment, assignment_fault};
 ghost use Rattle.book.specs.declared.transaction.Txn.{Txn};
+ghost use Rattle.entry_balance.specs.Pair.{is_pair};
 ghost use Rattle.entry_balance.specs.Settled.{IsSettled};
 ghost use Rattle.entry_balance.specs.Tally.{turnover_fits};
 
 use crate::fault::BalanceFault;
 use crate::fill::fill;
+use crate::pair::{fill_pair, is_pair};
 use crate::plan::{Plan, make_plan};
 use crate::rules::{assignment_fault, has_assignment, has_two_missing};
 use crate::sums::turnover_fits;
@@ -63,6 +65,9 @@ pub fn settle(alloc: Global, txn: Txn) -> Result<Settled, Memory>
     ensures { IfOk result (λ s. IsSettled txn s.txn s.cause) }
 {
     let postings = txn.postings.as_slice();
+    if is_pair(postings) {
+        return settle_pair(alloc, txn);
+    }
     if has_assignment(postings) {
         let cause = assignment_fault(postings);
         return unsettled(alloc, txn, cause);
@@ -123,7 +128,6 @@ fn solve(alloc: Global, txn: Txn, plan: Plan) -> Result<Settled, Memory>
         postings,
     } = txn;
     let postings = fill(alloc, postings, &plan)?;
-    let fits = turnover_fits(alloc, postings.as_slice())?;
     let txn = Txn {
         line,
         day,
@@ -134,11 +138,49 @@ fn solve(alloc: Global, txn: Txn, plan: Plan) -> Result<Settled, Memory>
         tags,
         postings,
     };
+    judged(alloc, txn, plan.cause)
+}
+
+/// Finds the missing amount of a pair, and judges what it moves.
+fn settle_pair(alloc: Global, txn: Txn) -> Result<Settled, Memory>
+    requires { is_pair txn.postings ≡ true }
+    ensures { IfOk result (λ s. IsSettled txn s.txn s.cause) }
+{
+    let Txn {
+        line,
+        day,
+        mark,
+        code,
+        description,
+        comment,
+        tags,
+        postings,
+    } = txn;
+    let postings = fill_pair(alloc, postings)?;
+    let txn = Txn {
+        line,
+        day,
+        mark,
+        code,
+        description,
+        comment,
+        tags,
+        postings,
+    };
+    judged(alloc, txn, None)
+}
+
+/// A transaction in which nothing is missing, with what is wrong with it: what it moves is out of range, or the cause that
+/// is told.
+fn judged(alloc: Global, txn: Txn, why: Option<Boxed<Cause>>) -> Result<Settled, Memory>
+    requires { costs_fit txn.postings ≡ true }
+    ensures txn { IfOk result (λ s. s.txn ≡ txn) }
+    ensures cause { IfOk result (λ s. s.cause
+        ≡ (if turnover_fits (moved txn.postings) then why else Some cause.Range)) }
+{
+    let fits = turnover_fits(alloc, txn.postings.as_slice())?;
     if !fits {
         return faulty(alloc, txn, Cause::Range);
     }
-    Ok(Settled {
-        txn,
-        cause: plan.cause,
-    })
+    Ok(Settled { txn, cause: why })
 }

@@ -4,6 +4,7 @@
 pub mod entry;
 pub mod fault;
 pub mod fill;
+mod pair;
 mod plan;
 pub mod rules;
 mod sums;
