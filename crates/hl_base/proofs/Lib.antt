@@ -3,6 +3,7 @@ mod CutLemmas
 pub mod DiskLaws
 pub mod DoorLaws
 pub mod Files
+pub mod FirstEnds
 pub mod LineLemmas
 pub mod Replays
 pub mod ShelfLaws

@@ -4,6 +4,7 @@ ghost use Rattle.hl_base.specs.Lines.{first_line, content_length};
 ghost use Rattle.hl_base.specs.Items.{is_white, is_blank, is_remark, is_indented, is_word, begins_entry, closes_block, opens_block, kind_of};
 
 use crate::items::Kind;
+use memchr::memchr;
 
 /// Where the line's content ends, and where the next line begins. A line ends at LF, and a CR directly before the
 /// LF or at the end of the text belongs to the line's end.
@@ -38,11 +39,12 @@ pub fn line_at(text: &[u8], at: usize) -> (&[u8], usize)
 }
 
 /// How many bytes stand before the first LF, or before the end.
+#[tactic(auto, using(crate::proofs::FirstEnds::first_end, crate::proofs::FirstEnds::no_end))]
 fn before_end(text: &[u8]) -> usize
     ensures count { result ≡ length (take_while (λ b. not (b == 10)) text.now) }
     ensures bound { result ≤ length text.now }
 {
-    text.iter().take_while(|b| **b != b'\n').count()
+    memchr(b'\n', text).unwrap_or(text.len())
 }
 
 /// White space: a space, a tab or a CR.
