@@ -12,13 +12,13 @@ use Rattle.text_store.specs.declared.fault.StoreFault.TheVariants as store_fault
 use Rattle.text_store.specs.declared.image.Image.{Image}
 use Rattle.text_store.specs.declared.store.Store.{Store}
 use Rattle.text_store.specs.Edits.{whole_size}
-use Rattle.text_store.specs.Files.{HaveShortNames, IsWritable, WhileOpened, fresh, opened_limit}
+use Rattle.text_store.specs.Files.{HaveShortNames, IsWritable, WhileOpened, file_in_use, fresh, opened_limit, uses_second}
 use Rattle.text_store.specs.Image.{Half, NoImage, have_own_names, image, live}
 use Rattle.text_store.specs.Refusals.{CreateRefused, OpenRefused, ReadTheSame}
 use Rattle.text_store.specs.Stores.{Holds, IsChosen, Keeps, Leads, Tell, Throughout, disks, image_beside, limit_of, placed, size_of}
 use Rattle.text_store.proofs.Holding.{led}
 use Rattle.desk.specs.Keeping.{are_writable, have_short_names}
-use Rattle.desk.specs.Openings.{ImageStays, MakingRefused, OpeningRefused, TellImage, file_in_use, load_refusal, store_refusal, uses_second}
+use Rattle.desk.specs.Openings.{ImageStays, MakingRefused, OpeningRefused, TellImage, load_refusal, store_refusal}
 
 -- a journal that was opened is the one that was asked for
 opened_by : (j : Journal) (o : Option OpenFault) (live : Journal) → or_fault j o ≡ Ok live → live ≡ j

@@ -1,5 +1,5 @@
 -- Why a machine isn't made or opened.
-use Rattle.std.specs.Prelude.{◌≡◌, ◌==◌, ℕ, ◌+◌, ◌%◌, Bool, true, false, List, Option, Some, None, if◌then◌else◌, Result, Ok, Err}
+use Rattle.std.specs.Prelude.{◌≡◌, ℕ, List, Some, None, Result, Ok, Err}
 use Rattle.hl_base.specs.declared.disk.Disk.{Ghosts}
 use Rattle.live_journal.specs.declared.fault.OpenFault.{OpenFault}
 use Rattle.live_journal.specs.declared.fault.OpenFault.TheVariants as unopened
@@ -9,7 +9,7 @@ use Rattle.text_store.specs.declared.fault.StoreFault.TheVariants as store_fault
 use Rattle.text_store.specs.declared.image.Image.{Image}
 use Rattle.text_store.specs.Edits.{whole_size}
 use Rattle.text_store.specs.Files.{fresh}
-use Rattle.text_store.specs.Image.{Half, NoImage, image, live}
+use Rattle.text_store.specs.Image.{NoImage, image}
 use Rattle.text_store.specs.Refusals.{CreateRefused, OpenRefused, Told}
 use Rattle.desk.specs.declared.desk.Desk.{Desk}
 use Rattle.desk.specs.declared.fault.DeskFault.{DeskFault}
@@ -61,16 +61,6 @@ OpeningRefused g old new (desk_fault.Load fault) = Told g old (Unloaded fault) �
 OpeningRefused g old new (desk_fault.Store store_fault.Memory) = ⊥
 OpeningRefused g old new (desk_fault.Store fault) = OpenRefused g old new fault
 OpeningRefused g old new desk_fault.Memory = ImageStays g old new
-
--- of two halves the second is the one in use
-abbrev pub uses_second : Option Half → Option Half → Bool
-uses_second None second = true
-uses_second (Some first) None = false
-uses_second (Some first) (Some second) = second.generation == (first.generation + 1) % 3
-
--- the file of the half in use
-abbrev pub file_in_use : List ℕ → List ℕ → List ℕ
-file_in_use first second = if uses_second (live first) (live second) then second else first
 
 -- the disks of what was made or opened, or those that are given back
 abbrev pub disks_of : {D : Type 0} {g : Ghosts D} → (Desk D g → D × D) → Result (Desk D g) (D × D × DeskFault) → D × D

@@ -38,13 +38,13 @@ fn store_refusal(fault: StoreFault) -> DeskFault
 
 impl<D: Disk> Desk<D> {
     ghost use Rattle.std.specs.Prelude.{◌≡◌, ◌≤◌, [], None, Ok, IfOk, IfErr, OnOk, max, length};
-    ghost use Rattle.text_store.specs.Files.{fresh, WhileMade, WhileOpened, opened_limit, opened_size};
+    ghost use Rattle.text_store.specs.Files.{fresh, WhileMade, WhileOpened, file_in_use, opened_limit, opened_size};
     ghost use Rattle.text_store.specs.Image.{image};
     ghost use Rattle.text_store.specs.Edits.{whole_size};
     ghost use Rattle.text_store.specs.Refusals.{Told};
     ghost use Rattle.text_store.specs.Stores.{disks, Keeps, Tell, Throughout, bounds, fault_count, limit_of};
     ghost use Rattle.desk.specs.Desks.{counts_of, faults_of, shown_by, state_of};
-    ghost use Rattle.desk.specs.Openings.{MakingRefused, OpeningRefused, disks_of, file_in_use};
+    ghost use Rattle.desk.specs.Openings.{MakingRefused, OpeningRefused, disks_of};
     ghost use Rattle.desk.specs.Stands.{Stands};
     ghost use Rattle.desk.specs.States.{State};
 

@@ -197,6 +197,13 @@ module _ {D : Type 0} (g : Ghosts D) (first second : D) (f s : List ℕ) (u : In
       (shut (take u.gate file) (place file aside u shown at) (stands_shut file aside u shown at g counts_now pair.0 pair.1 next live_rests)))
       (subst (λ (d : D). RestsAs g.seen g.tells_crashes g.may_leave d aside) (sym spare) spare_rests)
 
+  -- and the half in use then has its bytes up to the last gate
+  pub resume_bytes : (next : D) → ((disk : D) (t : ℕ) (c : List ℕ) → t ≤ g.moment disk → g.may_leave disk c → g.left_since disk t c)
+      → ((front : List ℕ) → length front ≡ u.gate → StandsIn g.seen g.tells_crashes g.may_leave pair.0 (IsShutAt front) → RestsAs g.seen g.tells_crashes g.may_leave next (front ++ 0 ∷ []))
+      → g.seen next ≡ Some (take u.gate file ++ 0 ∷ [])
+  resume_bytes next counts_now shut =
+      (shut (take u.gate file) (place file aside u shown at) (stands_shut file aside u shown at g counts_now pair.0 pair.1 next live_rests)).told
+
 -- no half is chosen of files of which none is live
 pub none_live : (a b : Option Half) → chosen a b ≡ None → (a ≡ None) × (b ≡ None)
 none_live None b none = (refl, none)

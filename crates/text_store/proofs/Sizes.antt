@@ -1,20 +1,22 @@
 -- The length of a half whose records were read, and of a store that is opened.
-use Rattle.std.proofs.Common.{◌≡◌, ◌∙◌, ℕ, zero, suc, ◌+◌, ◌^◌, ◌<◌, ◌≤◌, ◌==◌, ◌&&◌, nat_lt, nat_le, Bool, true, false, if◌then◌else◌, List, [], ◌∷◌, ◌++◌, length, take, drop, Option, Some, None, refl, sym, ap, subst, arith, length-take, length-drop}
+use Rattle.std.proofs.Common.{◌≡◌, ◌∙◌, ℕ, zero, suc, ◌+◌, ◌-◌, ◌%◌, ◌^◌, ◌<◌, ◌≤◌, ◌==◌, ◌&&◌, nat_lt, nat_le, Bool, true, false, if◌then◌else◌, List, [], ◌∷◌, ◌++◌, length, take, drop, Option, Some, None, refl, sym, ap, subst, arith, length-take, length-drop}
 use Rattle.std.specs.Prelude.{sum_by}
 use Rattle.std.specs.Int.{w64, from_le_bytes}
 use Rattle.std.proofs.lemmas.Bool.Decides.{nat_tests}
 use Rattle.std.proofs.lemmas.List.Sums.{sum_by-cons}
 use Rattle.hl_base.specs.declared.change.Latest.{Latest}
+use Rattle.hl_base.specs.declared.disk.Disk.{Ghosts}
 use Rattle.text_store.specs.declared.finding.InUse.{InUse}
 use Rattle.text_store.specs.declared.finding.Place.TheVariants.{Half as InHalf, Older}
 use Rattle.text_store.specs.declared.image.Image.{Image}
+use Rattle.text_store.specs.declared.store.Store.{Store}
 use Rattle.text_store.specs.Edits.{whole_size}
 use Rattle.text_store.specs.Entries.{Entry, body, open_from, open_entries}
-use Rattle.text_store.specs.Files.{record_size, half_size, size_in, opened_size}
+use Rattle.text_store.specs.Files.{record_size, half_size, size_in, opened_size, opened_limit, new_front, uses_second, file_in_use, rest_in, rest_of}
 use Rattle.text_store.specs.Found.{half_found, IsFound}
 use Rattle.text_store.specs.Halves.{IsHalf}
-use Rattle.text_store.specs.Image.{Half, Content, number_4, number_8, mark_at, marks_at, more_marks, with_first, have_own_names, content_of, checkpointed, started, first_of, live}
-use Rattle.text_store.specs.Stores.{placed}
+use Rattle.text_store.specs.Image.{Half, Content, number_4, number_8, mark_at, marks_at, more_marks, with_first, have_own_names, content_of, checkpointed, started, first_of, live, image}
+use Rattle.text_store.specs.Stores.{IsChosen, disks, limit_of, placed}
 use Rattle.text_store.proofs.Growing.{none_some}
 use Rattle.text_store.proofs.HalfImages.{half_grows}
 use Rattle.text_store.proofs.OpenEntries.{shut_behind}
@@ -150,15 +152,63 @@ live_size file half is = by_head _ is
 
 -- ---- which size a store has that was found
 
-pub size_found : (f s : List ℕ) (u : InUse) (shown : Image) → half_found f s u.in_second u shown → opened_size f s ≡ u.gate + 1
-size_found f s u shown is =
+half_found_size : (f s : List ℕ) (u : InUse) (shown : Image) (is : half_found f s u.in_second u shown) → half_size (in_place f s u.in_second u shown is).half ≡ u.gate + 1
+half_found_size f s u shown is =
     let at = in_place f s u.in_second u shown is in
     let file : List ℕ = (placed u.in_second f s).0 in
     let size : length (take u.gate file) ≡ u.gate = omega (arith, length-take u.gate file, at.inside) in
     let front : length (take u.gate file) ≡ 32 + sum_by record_size (open_entries 32 file) = front_size (take u.gate file) (open_entries 32 file) at.is_half in
     let whole : 33 + sum_by record_size (open_entries 32 file) ≡ half_size at.half = live_size file at.half at.is_live in
     let same : half_size at.half ≡ u.gate + 1 = omega (arith, size, front, whole) in
-    (λ i. size_in (picked f s u shown is i) (shown_by f s shown (InHalf u) is i)) ∙ same
+    same
+
+pub size_found : (f s : List ℕ) (u : InUse) (shown : Image) → half_found f s u.in_second u shown → opened_size f s ≡ u.gate + 1
+size_found f s u shown is = (λ i. size_in (picked f s u shown is i) (shown_by f s shown (InHalf u) is i)) ∙ half_found_size f s u shown is
 
 pub size_older : (f s : List ℕ) (shown : Image) (limit : ℕ) → IsFound f s shown (Older limit) → whole_size shown ≡ opened_size f s
 size_older f s shown limit found = sym (λ i. size_in (found.0 i) (found.1 i))
+
+-- ---- which bytes its half in use has then
+
+second_used : (o : Option Half) (half : Half) (generation : ℕ) → IsChosen true generation o → half.generation ≡ generation → uses_second o (Some half) ≡ true
+second_used None half generation is_chosen is = refl
+second_used (Some other) half generation is_chosen is = ap (λ (n : ℕ). n == (other.generation + 1) % 3) is ∙ is_chosen
+
+first_used : (o : Option Half) (half : Half) (generation : ℕ) → IsChosen false generation o → half.generation ≡ generation → uses_second (Some half) o ≡ false
+first_used None half generation is_chosen is = refl
+first_used (Some other) half generation is_chosen is = ap (λ (n : ℕ). other.generation == (n + 1) % 3) is ∙ is_chosen
+
+-- the file that is a half in use beside the other
+pub used_file : (b : Bool) (f s : List ℕ) (half : Half) (generation : ℕ) → live (placed b f s).0 ≡ Some half → half.generation ≡ generation
+    → IsChosen b generation (live (placed b f s).1) → file_in_use f s ≡ (placed b f s).0
+used_file true f s half generation is_live is is_chosen =
+    ap (λ (o : Option Half). if uses_second (live f) o then s else f) is_live
+    ∙ ap (λ (t : Bool). if t then s else f) (second_used (live f) half generation is_chosen is)
+used_file false f s half generation is_live is is_chosen =
+    ap (λ (o : Option Half). if uses_second o (live s) then s else f) is_live
+    ∙ ap (λ (t : Bool). if t then s else f) (first_used (live s) half generation is_chosen is)
+
+one_less : (size gate : ℕ) → size ≡ gate + 1 → size - 1 ≡ gate
+one_less size gate is = omega (arith, is)
+
+pub rest_found : (f s : List ℕ) (u : InUse) (shown : Image) → half_found f s u.in_second u shown → take u.gate (placed u.in_second f s).0 ++ 0 ∷ [] ≡ rest_of f s
+rest_found f s u shown is =
+    let at = in_place f s u.in_second u shown is in
+    let file : List ℕ = (placed u.in_second f s).0 in
+    let gate : half_size at.half - 1 ≡ u.gate = one_less (half_size at.half) u.gate (half_found_size f s u shown is) in
+    let used : file_in_use f s ≡ file = used_file u.in_second f s at.half u.generation at.is_live at.generation at.is_chosen in
+    let rest : rest_of f s ≡ take (half_size at.half - 1) file ++ 0 ∷ [] =
+    λ i. rest_in (picked f s u shown is i) (used i) (opened_limit f s) (image f s) in
+    ap (λ (n : ℕ). take n file ++ 0 ∷ []) (sym gate) ∙ sym rest
+
+rest_older : (f s : List ℕ) (shown : Image) (limit : ℕ) → IsFound f s shown (Older limit) → rest_of f s ≡ new_front (opened_limit f s) 1 shown ++ 0 ∷ []
+rest_older f s shown limit found = λ i. rest_in (found.0 i) (file_in_use f s) (opened_limit f s) (found.1 i)
+
+-- an older store that was written into the second file
+pub older_used : {D : Type 0} {g : Ghosts D} (store : Store D g) (f s : List ℕ) (shown : Image) (limit : ℕ) → IsFound f s shown (Older limit) → store.in_second ≡ true
+    → limit_of store ≡ opened_limit f s → g.seen (disks store).1 ≡ Some (new_front (limit_of store) 1 shown ++ 0 ∷ []) → g.seen store.live.device ≡ Some (rest_of f s)
+older_used {D} {g} store f s shown limit found second same seen =
+    ap (λ (b : Bool). g.seen (placed b store.live.device store.spare).1) (sym second)
+    ∙ seen
+    ∙ ap (λ (n : ℕ). Some (new_front n 1 shown ++ 0 ∷ [])) same
+    ∙ ap (λ (l : List ℕ). Some l) (sym (rest_older f s shown limit found))

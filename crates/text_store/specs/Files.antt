@@ -1,5 +1,5 @@
 -- The bytes of a half that was just written, and the moments of making and opening a store.
-use Rattle.std.specs.Prelude.{◌≡◌, ◌⊎◌, ℕ, ◌+◌, ◌%◌, ◌^◌, ◌<◌, max, true, List, [], ◌∷◌, ◌++◌, length, flat_map, sum_by, drop, Option, Some, None, Result, Ok, Err, IsErr}
+use Rattle.std.specs.Prelude.{◌≡◌, ◌⊎◌, ℕ, ◌+◌, ◌-◌, ◌%◌, ◌^◌, ◌<◌, ◌==◌, max, Bool, true, false, if◌then◌else◌, List, [], ◌∷◌, ◌++◌, length, flat_map, sum_by, take, drop, Option, Some, None, Result, Ok, Err, IsErr}
 use Rattle.std.specs.Int.{w32, w64, to_le_bytes}
 use Rattle.hl_base.specs.declared.change.Latest.{Latest}
 use Rattle.hl_base.specs.declared.disk.Disk.{Ghosts}
@@ -85,3 +85,23 @@ size_in (Some half) (Ok shown) = half_size half
 
 abbrev pub opened_size : List ℕ → List ℕ → ℕ
 opened_size first second = size_in (chosen (live first) (live second)) (image first second)
+
+-- of two halves the second is the one in use
+abbrev pub uses_second : Option Half → Option Half → Bool
+uses_second None second = true
+uses_second (Some first) None = false
+uses_second (Some first) (Some second) = second.generation == (first.generation + 1) % 3
+
+-- the file of the half in use
+abbrev pub file_in_use : List ℕ → List ℕ → List ℕ
+file_in_use first second = if uses_second (live first) (live second) then second else first
+
+-- the bytes of a half of a file up to its last gate, and that gate shut; of an older store those of a new half that holds its image
+abbrev pub rest_in : Option Half → List ℕ → ℕ → Result Image NoImage → List ℕ
+rest_in (Some half) file limit found = take (half_size half - 1) file ++ 0 ∷ []
+rest_in None file limit (Ok shown) = new_front limit 1 shown ++ 0 ∷ []
+rest_in None file limit (Err none) = []
+
+-- the bytes of the half in use of a store of two files, once it is opened
+abbrev pub rest_of : List ℕ → List ℕ → List ℕ
+rest_of first second = rest_in (chosen (live first) (live second)) (file_in_use first second) (opened_limit first second) (image first second)

@@ -40,7 +40,7 @@ impl<D: Disk> Store<D> {
     ghost use Rattle.text_store.specs.Faults.{ReadRefused};
     ghost use Rattle.text_store.specs.Frames.{frames_of};
     ghost use Rattle.text_store.specs.Image.{image, live, chosen};
-    ghost use Rattle.text_store.specs.Files.{new_front, next_generation, IsWritable, fresh, WhileMade, WhileOpened, ShowsOf, opened_limit, opened_size};
+    ghost use Rattle.text_store.specs.Files.{new_front, next_generation, IsWritable, fresh, WhileMade, WhileOpened, ShowsOf, opened_limit, opened_size, rest_of};
     ghost use Rattle.text_store.specs.Refusals.{PutRefused, CreateRefused, OpenRefused, RenewRefused, Told};
     ghost use Rattle.text_store.specs.Stores.{disks, disks_made, disks_opened, size_of, limit_of, repair_due, Tell, fault_count, placed, Throughout, Shows, ShowsEither, Holds, MayShow, bounds, NoWider, Keeps};
 
@@ -131,6 +131,9 @@ impl<D: Disk> Store<D> {
         ensures ready { IfOk result (λ opened. repair_due opened.0 ≡ false) }
         ensures cause { IfErr result (λ e. OpenRefused D.Disk (first, second) (e.0, e.1) e.2) }
 
+        // The half in use has the bytes that it had up to its last gate, which is shut and the file's last byte.
+        ensures in_use { IfOk result (λ opened. Told D.Disk (first, second) (λ f s. D.seen opened.0.live.device ≡ Some (rest_of f s))) }
+
         // An older store stays in the first file as it is.
         ensures older { IfOk result (λ opened. Told D.Disk (first, second) (λ f s. chosen (live f) (live s) ≡ None
             → (D.seen (disks opened.0).0 ≡ Some f) × (D.seen (disks opened.0).1 ≡ Some (new_front (limit_of opened.0) 1 opened.1 ++ 0 ∷ [])))) }
@@ -175,6 +178,9 @@ impl<D: Disk> Store<D> {
         requires generation { place.generation < 3 }
         ensures opened { IfOk result (λ store. (f s : List ℕ) (shown : Image) → RestsAs D.seen D.tells_crashes D.may_leave first f
             → RestsAs D.seen D.tells_crashes D.may_leave second s → half_found f s place.in_second place shown → Holds store shown) }
+        ensures bytes { IfOk result (λ store. (f s : List ℕ) (shown : Image) → RestsAs D.seen D.tells_crashes D.may_leave first f
+            → RestsAs D.seen D.tells_crashes D.may_leave second s → half_found f s place.in_second place shown
+            → D.seen store.live.device ≡ Some (take place.gate (placed place.in_second f s).0 ++ 0 ∷ [])) }
         ensures numbers { IfOk result (λ store. (limit_of store ≡ place.limit) × (size_of store ≡ place.gate + 1) × (store.in_second ≡ place.in_second) × (repair_due store ≡ false)) }
         ensures any_moment { (f s : List ℕ) (shown : Image) → RestsAs D.seen D.tells_crashes D.may_leave first f
             → RestsAs D.seen D.tells_crashes D.may_leave second s → half_found f s place.in_second place shown → Tell D.Disk (first, second)
@@ -256,6 +262,9 @@ impl<D: Disk> Store<D> {
             → RestsAs D.seen D.tells_crashes D.may_leave second s → IsFound f s found.image found.place
             → Holds opened.0 opened.1 × (limit_of opened.0 ≡ opened_limit f s)) }
         ensures size { IfOk result (λ opened. (f s : List ℕ) → IsFound f s found.image found.place → size_of opened.0 ≡ opened_size f s) }
+        ensures in_use { IfOk result (λ opened. (f s : List ℕ) → RestsAs D.seen D.tells_crashes D.may_leave first f
+            → RestsAs D.seen D.tells_crashes D.may_leave second s → IsFound f s found.image found.place
+            → D.seen opened.0.live.device ≡ Some (rest_of f s)) }
         ensures image { IfOk result (λ opened. opened.1 ≡ found.image) }
         ensures ready { IfOk result (λ opened. repair_due opened.0 ≡ false) }
         ensures older { IfOk result (λ opened. (f s : List ℕ) → RestsAs D.seen D.tells_crashes D.may_leave first f

@@ -55,6 +55,17 @@ returns-clause-size g c =
     sized f s found)
     c.take_up.ensures.size
 
+pub returns-clause-in_use : goal.returns-clause-in_use
+returns-clause-in_use g c =
+    let shown = c.in-Ok-read_image.found.image in
+    let place = c.in-Ok-read_image.found.place in
+    if_ok_map c.take_up.result _ _
+    (λ opened used f s is_first is_second.
+    let rests = c.in-Ok.ensures.rests f s is_first is_second in
+    let found = found_in c.deref.result.now c.deref-in-Ok.result.now f s shown place (c.deref.ensures.value ∙ rests.0) (c.deref-in-Ok.ensures.value ∙ rests.1) c.in-Ok-read_image.ensures.found in
+    used f s rests.2 rests.3 found)
+    c.take_up.ensures.in_use
+
 pub returns-clause-older : goal.returns-clause-older
 returns-clause-older g c =
     let shown = c.in-Ok-read_image.found.image in

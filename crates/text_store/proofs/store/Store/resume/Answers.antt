@@ -1,7 +1,7 @@
-use Rattle.std.proofs.Common.{refl, sym, subst}
+use Rattle.std.proofs.Common.{refl, sym, subst, ap, ◌∙◌}
 use Rattle.text_store.specs.Files.{ShowsOf}
 use Rattle.text_store.specs.Stores.{placed, Throughout}
-use Rattle.text_store.proofs.Opening.{resume_run, resume_opened}
+use Rattle.text_store.proofs.Opening.{resume_run, resume_opened, resume_bytes}
 use Rattle.text_store.proofs.store.Store.resume.Goals as goal
 
 pub returns-in-Err-clause-any_moment : goal.returns-in-Err-clause-any_moment
@@ -18,6 +18,13 @@ returns-in-Ok-clause-opened g c f s shown first second found =
     let d = g.D.Disk in
     resume_opened d c.args.first c.args.second f s c.args.place shown first second found c.in_order-live.result c.in_order-live.ensures _ c.shut_gate.new.device refl refl
     c.new.ensures.gate c.new.ensures.device refl g.met.D.Disk.counts_now (λ front size stands. c.in-Ok.ensures.shut_end front size stands)
+
+pub returns-in-Ok-clause-bytes : goal.returns-in-Ok-clause-bytes
+returns-in-Ok-clause-bytes g c f s shown first second found =
+    let d = g.D.Disk in
+    ap d.seen c.new.ensures.device
+    ∙ resume_bytes d c.args.first c.args.second f s c.args.place shown first second found c.in_order-live.result c.in_order-live.ensures c.shut_gate.new.device
+    g.met.D.Disk.counts_now (λ front size stands. c.in-Ok.ensures.shut_end front size stands)
 
 pub returns-in-Ok-clause-any_moment : goal.returns-in-Ok-clause-any_moment
 returns-in-Ok-clause-any_moment g c f s shown first second found tell =

@@ -1,7 +1,7 @@
-use Rattle.std.proofs.Common.{◌∙◌, sym, ap}
+use Rattle.std.proofs.Common.{◌∙◌, ℕ, List, Some, sym, ap}
 use Rattle.text_store.proofs.Growing.{none_some}
 use Rattle.text_store.proofs.Opening.{found_in_half, found_older, half_chosen, keeps_half, limit_found, limit_older}
-use Rattle.text_store.proofs.Sizes.{size_found, size_older}
+use Rattle.text_store.proofs.Sizes.{older_used, rest_found, size_found, size_older}
 use Rattle.text_store.proofs.store.Store.take_up.Goals as goal
 
 pub returns-in-Err-clause-keeps : goal.returns-in-Err-clause-keeps
@@ -18,6 +18,11 @@ pub returns-in-Ok-clause-size : goal.returns-in-Ok-clause-size
 returns-in-Ok-clause-size g c f s found =
     let half = found_in_half f s c.args.found.image c.args.found.place c.in-Half.place c.in-Half.is found in
     c.in-Ok.ensures.numbers.1 ∙ sym (size_found f s c.in-Half.place c.args.found.image half)
+
+pub returns-in-Ok-clause-in_use : goal.returns-in-Ok-clause-in_use
+returns-in-Ok-clause-in_use g c f s first second found =
+    let half = found_in_half f s c.args.found.image c.args.found.place c.in-Half.place c.in-Half.is found in
+    c.in-Ok.ensures.bytes f s c.args.found.image first second half ∙ ap (λ (l : List ℕ). Some l) (rest_found f s c.in-Half.place c.args.found.image half)
 
 pub returns-in-Ok-clause-older : goal.returns-in-Ok-clause-older
 returns-in-Ok-clause-older g c f s first second found none =
@@ -43,6 +48,14 @@ pub returns-in-Ok-renew-clause-size : goal.returns-in-Ok-renew-clause-size
 returns-in-Ok-renew-clause-size g c f s found =
     let old = found_older f s c.args.found.image c.args.found.place c.in-Older.limit c.in-Older.is found in
     c.in-Ok-renew.ensures.numbers.1 ∙ size_older f s c.args.found.image c.in-Older.limit old
+
+pub returns-in-Ok-renew-clause-in_use : goal.returns-in-Ok-renew-clause-in_use
+returns-in-Ok-renew-clause-in_use g c f s first second found =
+    let shown = c.args.found.image in
+    let limit = c.in-Older.limit in
+    let old = found_older f s shown c.args.found.place limit c.in-Older.is found in
+    let e = c.in-Ok-renew.ensures in
+    older_used c.in-Ok-renew.store f s shown limit old e.numbers.2 (e.numbers.0 ∙ limit_older f s shown limit old) (e.bytes s second)
 
 pub returns-in-Ok-renew-clause-older : goal.returns-in-Ok-renew-clause-older
 returns-in-Ok-renew-clause-older g c f s first second found none =
