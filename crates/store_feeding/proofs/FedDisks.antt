@@ -1,5 +1,5 @@
 -- What two disks read as once a store that was opened and fed gives them back.
-use Rattle.std.proofs.Common.{◌≡◌, ◌⊎◌, inl, inr, ℕ, ◌+◌, max, List, [], ◌∷◌, ◌++◌, length, Result, Ok, Err, OnOk, IfErr, IfOk, IfSome, refl, sym, ◌∙◌, ap, subst, arith}
+use Rattle.std.proofs.Common.{◌≡◌, ◌⊎◌, inl, inr, ℕ, ◌+◌, max, List, [], ◌∷◌, ◌++◌, length, Some, Result, Ok, Err, OnOk, IfErr, IfOk, IfSome, refl, sym, ◌∙◌, ap, subst, arith}
 use Rattle.std.proofs.lemmas.List.{length-append}
 use Rattle.hl_base.specs.Causes.{Rose}
 use Rattle.hl_base.specs.declared.disk.Disk.{Ghosts as Disks}
@@ -8,9 +8,9 @@ use Rattle.text_store.specs.declared.fault.StoreFault.TheVariants as store_fault
 use Rattle.text_store.specs.declared.image.Image.{Image}
 use Rattle.text_store.specs.declared.store.Store.{Store}
 use Rattle.text_store.specs.Faults.{ReadRefused}
-use Rattle.text_store.specs.Files.{WhileOpened, opened_limit, opened_size}
+use Rattle.text_store.specs.Files.{WhileOpened, opened_limit, opened_size, rest_of}
 use Rattle.text_store.specs.Frames.{frames_of}
-use Rattle.text_store.specs.Image.{NoImage, image}
+use Rattle.text_store.specs.Image.{NoImage, image, live}
 use Rattle.text_store.specs.Refusals.{OpenRefused, Told}
 use Rattle.text_store.specs.Stores.{Holds, Keeps, Shows, Tell, Throughout, disks, fault_count, limit_of, size_of}
 use Rattle.text_store.proofs.Both.{less_said, then_on}
@@ -27,6 +27,9 @@ refused r = Err r
 
 abbrev pub fed_frames : List ℕ → Result (List ℕ) StoreRefusal
 fed_frames frames = Ok frames
+
+some_same : (a b : List ℕ) → Some a ≡ Some b → a ≡ b
+some_same a b is = cc
 
 -- a refusal that the files don't decide
 without_cause : (P : StoreRefusal → Type 0) (r : StoreRefusal) → (r ≡ refusal.DiskFault) ⊎ (r ≡ refusal.Memory) → IfSome (cause_of r) P
@@ -133,21 +136,23 @@ module _ {D : Type 0} (g : Disks D) where
     -- a store that was opened, and then fed
     module _ (store : Store D g) (shown : Image)
         (opened : Told g old (λ f s. (image f s ≡ Ok shown) × Holds store shown × (limit_of store ≡ opened_limit f s)))
-        (size : Told g old (λ f s. size_of store ≡ opened_size f s)) (moments : Moments (disks store)) (bounds : Bounds (disks store))
+        (size : Told g old (λ f s. size_of store ≡ opened_size f s)) (used : Told g old (λ f s. g.seen store.live.device ≡ Some (rest_of f s)))
+        (moments : Moments (disks store)) (bounds : Bounds (disks store))
         (same : fault_count g (disks store) ≡ fault_count g old) where
       feeds_so : (back : D × D) (result : Result (List ℕ) StoreRefusal) → FeedsOpen store back result → Told g old (λ f s. Feeds result f s)
       feeds_so back (Ok frames) fed f s is_first is_second =
           let o = opened f s is_first is_second in
           let held = o.1 in
+          let file : held.front ++ 0 ∷ [] ≡ rest_of f s =
+          some_same (held.front ++ 0 ∷ []) (rest_of f s) (sym held.settled.rests.told ∙ used f s is_first is_second) in
           record {
-            file = held.front ++ 0 ∷ [];
             half = held.leads.half;
             shown = shown;
-            is_live = held.leads.is_live;
+            is_live = ap live (sym file) ∙ held.leads.is_live;
             gives = held.leads.gives;
             same = o.0;
-            size = length-append held.front (0 ∷ []) ∙ ap (λ (n : ℕ). n + 1) held.settled.place ∙ size f s is_first is_second;
-            frames_are = fed.frames shown held;
+            size = ap length (sym file) ∙ length-append held.front (0 ∷ []) ∙ ap (λ (n : ℕ). n + 1) held.settled.place ∙ size f s is_first is_second;
+            frames_are = fed.frames shown held ∙ ap frames_of file;
           }
       feeds_so back (Err r) fed f s is_first is_second = without_cause (RefusedFor (image f s)) r fed.kind
 

@@ -6,7 +6,7 @@ use Rattle.hl_base.specs.declared.shelf.Shelf.{Ghosts as Shelves}
 use Rattle.text_store.specs.declared.fault.StoreFault.{StoreFault}
 use Rattle.text_store.specs.declared.image.Image.{Image}
 use Rattle.text_store.specs.declared.store.Store.{Store}
-use Rattle.text_store.specs.Files.{opened_limit, opened_size}
+use Rattle.text_store.specs.Files.{opened_limit, opened_size, rest_of}
 use Rattle.text_store.specs.Frames.{frames_of}
 use Rattle.text_store.specs.Image.{Half, NoImage, half_image, image, live}
 use Rattle.text_store.specs.Refusals.{Told}
@@ -18,17 +18,16 @@ use Rattle.store_text.specs.Shelved.{image_in, image_under, or_empty, second_nam
 use Rattle.store_text.specs.declared.refusal.StoreRefusal.{StoreRefusal}
 use Rattle.store_text.specs.declared.refusal.StoreRefusal.TheVariants as refusal
 
--- Frames of two files: those of the records of a half that is in use. It has the image of the files, and as many bytes as what is in
--- use of them.
+-- Frames of two files: those of the records of the half in use, up to its last gate; of an older store those of the half that is
+-- written of it. That half has the image of the files, and as many bytes as what is in use of them.
 pub record AreFed (first second frames : List ℕ) : Type 0 where
-  pub file : List ℕ
   pub half : Half
   pub shown : Image
-  pub is_live : live file ≡ Some half
+  pub is_live : live (rest_of first second) ≡ Some half
   pub gives : half_image half ≡ Ok shown
   pub same : image first second ≡ Ok shown
-  pub size : length file ≡ opened_size first second
-  pub frames_are : frames ≡ frames_of file
+  pub size : length (rest_of first second) ≡ opened_size first second
+  pub frames_are : frames ≡ frames_of (rest_of first second)
 
 -- files without an image are refused for this
 abbrev pub RefusedFor : Result Image NoImage → StoreRefusal → Type 0

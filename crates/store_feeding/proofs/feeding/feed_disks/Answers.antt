@@ -7,7 +7,7 @@ use Rattle.store_feeding.proofs.feeding.feed_disks.Goals as goal
 pub returns-in-Ok : goal.returns-in-Ok
 returns-in-Ok g c =
     let o = c.in-Ok.ensures in
-    opened_fed g.D.Disk (c.args.first, c.args.second) c.in-Ok.store _ o.opened o.size o.any_moment o.keeps o.no_fault
+    opened_fed g.D.Disk (c.args.first, c.args.second) c.in-Ok.store _ o.opened o.size o.in_use o.any_moment o.keeps o.no_fault
     (c.feed_open.result.0, c.feed_open.result.1) c.feed_open.result.2 c.feed_open.ensures
 
 pub returns-in-Err : goal.returns-in-Err
