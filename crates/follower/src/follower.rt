@@ -42,7 +42,7 @@ impl<D: Disk> Follower<D> {
     ghost use Rattle.text_store.specs.Files.{WhileMade, WhileOpened, opened_limit};
     ghost use Rattle.text_store.specs.Image as files;
     ghost use Rattle.text_store.specs.Refusals.{Told};
-    ghost use Rattle.text_store.specs.Stores.{disks, size_of, limit_of, Tell, Throughout, Keeps};
+    ghost use Rattle.text_store.specs.Stores.{bounds, disks, fault_count, size_of, limit_of, Tell, Throughout, Keeps};
     ghost use Rattle.follower.specs.Accepting.{Accepts, HasNoRoom, IsUnmade, MakingRefused, OpeningRefused, disks_of};
     ghost use Rattle.follower.specs.Histories.{Becomes};
     ghost use Rattle.follower.specs.Images.{snapshot};
@@ -94,6 +94,11 @@ impl<D: Disk> Follower<D> {
             → Throughout D.Disk (first, second) (disks_of result) (WhileOpened D.Disk (first, second) f s)) }
         ensures keeps { Told D.Disk (first, second) (λ f s. Keeps D.Disk (first, second) (disks_of result)
             (max (opened_limit f s) (length f), max (opened_limit f s) (length s))) }
+
+        // No call since reaches further than the limit, or than the length that the file had.
+        ensures bounds { IfOk result (λ opened. Told D.Disk (first, second) (λ f s. ((bounds opened.store).0 ≤ max (limit_of opened.store) (length f))
+            × ((bounds opened.store).1 ≤ max (limit_of opened.store) (length s)))) }
+        ensures no_fault { IfOk result (λ opened. fault_count D.Disk (disks opened.store) ≡ fault_count D.Disk (first, second)) }
     {
         match Store::open(alloc, first, second) {
             Ok((store, image)) => Ok(Follower { store, image }),

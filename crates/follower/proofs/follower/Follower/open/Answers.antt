@@ -9,6 +9,12 @@ returns-in-Ok-clause-opened g c = λ f s a b.
     let m = c.in-Ok.ensures.opened f s a b in
     (m.0, inl (c.in-Ok.ensures.ready, m.1), m.2)
 
+pub returns-in-Ok-clause-bounds : goal.returns-in-Ok-clause-bounds
+returns-in-Ok-clause-bounds g c = c.in-Ok.ensures.bounds
+
+pub returns-in-Ok-clause-no_fault : goal.returns-in-Ok-clause-no_fault
+returns-in-Ok-clause-no_fault g c = c.in-Ok.ensures.no_fault
+
 pub returns-in-Err-clause-cause : goal.returns-in-Err-clause-cause
 returns-in-Err-clause-cause g c =
     subst (λ (e : FollowFault). OpeningRefused g.D.Disk (c.args.first, c.args.second) (c.in-Err.first, c.in-Err.second) e) (sym c.refusal_of.ensures)
