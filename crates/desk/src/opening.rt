@@ -38,6 +38,7 @@ fn store_refusal(fault: StoreFault) -> DeskFault
 
 impl<D: Disk> Desk<D> {
     ghost use Rattle.std.specs.Prelude.{◌≡◌, ◌≤◌, [], None, Ok, IfOk, IfErr, OnOk, max, length};
+    ghost use Rattle.live_journal.specs.Loading.{fault_of};
     ghost use Rattle.text_store.specs.Files.{fresh, WhileMade, WhileOpened, file_in_use, opened_limit, opened_size};
     ghost use Rattle.text_store.specs.Image.{image};
     ghost use Rattle.text_store.specs.Edits.{whole_size};
@@ -69,6 +70,7 @@ impl<D: Disk> Desk<D> {
         }) }
         ensures made { IfOk result (λ desk. Told D.Disk (first, second) (λ f s.
             (f ≡ []) × (s ≡ []) × Stands desk.store (shown_by desk) None)) }
+        ensures loads { IfOk result (λ desk. fault_of None (state_of desk).text ≡ None) }
         ensures counts { IfOk result (λ desk. counts_of desk ≡ (0, 0)) }
         ensures cause { IfErr result (λ e.
             MakingRefused D.Disk (first, second) (e.0, e.1) text.now limit e.2) }
@@ -111,6 +113,7 @@ impl<D: Disk> Desk<D> {
             (image f s ≡ Ok (shown_by desk)) × Stands desk.store (shown_by desk) None
             × ((state_of desk).limit ≡ opened_limit f s))) }
         ensures allowed { IfOk result (λ desk. (state_of desk).allowed ≡ allow) }
+        ensures loads { IfOk result (λ desk. fault_of None (state_of desk).text ≡ None) }
 
         // Its size is that of the half that the files showed, and the length that the half in use has then.
         ensures half { IfOk result (λ desk. Told D.Disk (first, second) (λ f s.

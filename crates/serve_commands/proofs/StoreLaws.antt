@@ -232,6 +232,7 @@ module _ {S D : Type 0} (s : Shelves S D) (g : Disks D) (name : List ℕ) (old :
             last = last;
             history = history;
             opened = stands_for post.allow opening opens;
+            loads = opens.loads;
             allowed = opens.allows;
             counts = opens.counts;
             hosts = hosted.hosts;

@@ -11,6 +11,7 @@ use Rattle.desk.specs.declared.request.Allow.{Allow}
 use Rattle.desk.specs.Desks.{counts_of, shown_by, state_of}
 use Rattle.desk.specs.Entries.{Entry}
 use Rattle.desk.specs.Stands.{Stands}
+use Rattle.shared_desk.specs.Histories.{Loads}
 use Rattle.shared_desk.specs.Stays.{KitTold}
 use Rattle.desk_team.specs.Hostings.{Hosts, Unserved as UnservedHouse}
 use Rattle.desk_team.specs.Houses.{Bound, HouseTold, bound_once_more}
@@ -60,6 +61,8 @@ module _ {D : Type 0} {g : Disks D} where
 pub record OpensWith {D : Type 0} (g : Disks D) (allowed : Allow) (old : D × D) (desk : Desk D g) : Type 0 where
   pub shown : Told g old (λ f s. (image f s ≡ Ok (shown_by desk)) × Stands desk.store (shown_by desk) None × ((state_of desk).limit ≡ opened_limit f s))
   pub allows : (state_of desk).allowed ≡ allowed
+  -- its text makes a journal
+  pub loads : Loads (state_of desk)
   -- its size is that of the half that they showed
   pub size : Told g old (λ f s. (state_of desk).size ≡ opened_size f s)
   pub counts : counts_of desk ≡ (0, 0)

@@ -10,7 +10,7 @@ use Rattle.desk.specs.declared.desk.Desk.{Desk}
 use Rattle.desk.specs.declared.request.Allow.{Allow}
 use Rattle.desk.specs.Desks.{counts_of, shown_by, state_of}
 use Rattle.desk.specs.Entries.{Entry}
-use Rattle.shared_desk.specs.Histories.{IsRefused, count_told, has_fault, is_refusal}
+use Rattle.shared_desk.specs.Histories.{IsRefused, Loads, count_told, has_fault, is_refusal}
 use Rattle.shared_desk.specs.Stays.{KitTold}
 use Rattle.desk_team.specs.Hostings.{Hosts, Unserved as UnservedHouse}
 use Rattle.desk_team.specs.Houses.{HouseTold}
@@ -67,8 +67,9 @@ module _ {S D : Type 0} (s : Shelves S D) (g : Disks D) (name : List ℕ) where
     pub opening : Desk D g
     pub last : Desk D g
     pub history : List (Entered Entry)
-    -- it was opened as the store's image, with what is allowed, and had counted nothing
+    -- it was opened as the store's image, whose text makes a journal, with what is allowed, and had counted nothing
     pub opened : IsTrue ((s.tells old).files) → StandsFor (s.file old) name opening
+    pub loads : Loads (state_of opening)
     pub allowed : (state_of opening).allowed ≡ post.allow
     pub counts : counts_of opening ≡ (0, 0)
     -- the house was asked to bind once, at the address; it handed out a kit for each worker, these served the machine, and the kits

@@ -84,6 +84,7 @@ module _ {D : Type 0} (g : Disks D) (old : D × D) where
             faults = faults_of desk;
             faults_now = faults_of asked.now;
             state = state_of asked.now;
+            loads = subst (λ (x : State). fault_of None x.text ≡ None) e opens.loads;
             step = subst (λ (x : State). Step x (faults_of desk) day.0 request r (state_of asked.now) (faults_of asked.now)) e asked.served.serves.gives;
             shows = subst (λ (x : State). ShowsAfter (next x) r (state_of asked.now) found) e shows;
             safe = λ a b left. subst (λ (x : State). ShowsAfter (next x) r (state_of asked.now) (Some (image a b))) e (safe a b left);

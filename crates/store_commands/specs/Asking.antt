@@ -13,7 +13,7 @@ use Rattle.text_store.specs.declared.image.Image.{Image}
 use Rattle.text_store.specs.Files.{WhileOpened, opened_limit, opened_size}
 use Rattle.text_store.specs.Image.{NoImage, image}
 use Rattle.text_store.specs.Refusals.{Told}
-use Rattle.text_store.specs.Stores.{Keeps, Tell, Throughout, disks, fault_count}
+use Rattle.text_store.specs.Stores.{Keeps, Tell, Throughout, bounds, disks, fault_count, limit_of}
 use Rattle.desk.specs.declared.desk.Desk.{Desk}
 use Rattle.desk.specs.declared.fault.DeskFault.{DeskFault}
 use Rattle.desk.specs.declared.fault.DeskFault.TheVariants as desk_fault
@@ -59,11 +59,16 @@ PatternsStay p = Stays p.before p.now p.last_before p.last_now
 pub record OpensAs {D : Type 0} (g : Disks D) (old : D × D) (desk : Desk D g) : Type 0 where
   pub shown : Told g old (λ f s. (image f s ≡ Ok (shown_by desk)) × Stands desk.store (shown_by desk) None × ((state_of desk).limit ≡ opened_limit f s))
   pub allowed : (state_of desk).allowed ≡ allow.Edit
+  -- its text makes a journal
+  pub loads : fault_of None (state_of desk).text ≡ None
   -- its size is that of the half that they showed
   pub size : Told g old (λ f s. (state_of desk).size ≡ opened_size f s)
   -- a crash at any moment leaves files that it might have left before, or files with the image, or the want of one, of these
   pub any_moment : Told g old (λ f s. Tell g old → Throughout g old (disks desk.store) (WhileOpened g old f s))
   pub keeps : Told g old (λ f s. Keeps g old (disks desk.store) (max (opened_limit f s) (length f), max (opened_limit f s) (length s)))
+  -- no call since reaches further than the limit, or than the length that the file had
+  pub bounds : Told g old (λ f s.
+      ((bounds desk.store).0 ≤ max (limit_of desk.store) (length f)) × ((bounds desk.store).1 ≤ max (limit_of desk.store) (length s)))
   pub no_fault : faults_of desk ≡ fault_count g old
 
 -- Two disks weren't opened, for this.
@@ -113,6 +118,8 @@ pub record IsStep (opened : State) (request : Request) (day : ℕ) (p : Patterns
   pub faults : ℕ
   pub faults_now : ℕ
   pub state : State
+  -- the text of the state in which it was opened makes a journal
+  pub loads : fault_of None opened.text ≡ None
   pub step : Step opened faults day request r state faults_now
   pub shows : ShowsAfter (next_of (answer_to opened day request)) r state found
   pub safe : (f t : List ℕ) → IsLeft f t → ShowsAfter (next_of (answer_to opened day request)) r state (Some (image f t))

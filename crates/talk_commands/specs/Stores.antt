@@ -31,6 +31,8 @@ use Rattle.talk_commands.specs.Links.{IsHeld, IsSilent, Wire}
 pub record IsOpened {D : Type 0} (g : Disks D) (level : Allow) (old : D × D) (desk : Desk D g) : Type 0 where
   pub shown : Told g old (λ f s. (image f s ≡ Ok (shown_by desk)) × Stands desk.store (shown_by desk) None × ((state_of desk).limit ≡ opened_limit f s))
   pub allowed : (state_of desk).allowed ≡ level
+  -- its text makes a journal
+  pub loads : fault_of None (state_of desk).text ≡ None
   -- its size is that of the half that they showed
   pub size : Told g old (λ f s. (state_of desk).size ≡ opened_size f s)
   -- a crash at any moment leaves files that it might have left before, or files with the image, or the want of one, of these

@@ -5,7 +5,16 @@ pub returns-in-Ok : goal.returns-in-Ok
 returns-in-Ok g c =
     let o = c.in-Ok.ensures in (
       c.in-Ok.desk,
-      record { shown = o.opened; allowed = o.allowed; size = o.half; any_moment = o.any_moment; keeps = o.keeps; no_fault = o.no_fault },
+      record {
+        shown = o.opened;
+        allowed = o.allowed;
+        loads = o.loads;
+        size = o.half;
+        any_moment = o.any_moment;
+        keeps = o.keeps;
+        bounds = o.bounds;
+        no_fault = o.no_fault;
+      },
       c.ask_desk-first.ensures,
     )
 

@@ -8,7 +8,7 @@ returns-in-Ok-clause-talks g c =
       talked.0,
       (
         c.in-Ok.desk,
-        record { shown = o.opened; allowed = o.allowed; size = o.half; any_moment = o.any_moment; keeps = o.keeps; bounds = o.bounds; no_fault = o.no_fault },
+        record { shown = o.opened; allowed = o.allowed; loads = o.loads; size = o.half; any_moment = o.any_moment; keeps = o.keeps; bounds = o.bounds; no_fault = o.no_fault },
         talked.1,
       ),
     )

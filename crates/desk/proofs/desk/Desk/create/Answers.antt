@@ -1,6 +1,7 @@
-use Rattle.std.proofs.Common.{[], None, inl, List, sym, subst}
+use Rattle.std.proofs.Common.{[], None, inl, List, ap, sym, subst, ◌∙◌}
 use Rattle.hl_base.specs.declared.change.Latest.{Latest}
 use Rattle.live_journal.specs.Journals.{Journal}
+use Rattle.live_journal.specs.Loading.{fault_of}
 use Rattle.text_store.specs.Stores.{Holds}
 use Rattle.text_store.proofs.Both.{stays}
 use Rattle.desk.specs.declared.fault.DeskFault.{DeskFault}
@@ -15,6 +16,7 @@ returns-in-Err g c =
     record {
       state = tt;
       made = tt;
+      loads = tt;
       counts = tt;
       cause = subst (λ (e : DeskFault). MakingRefused g.D.Disk (c.args.first, c.args.second) (c.args.first, c.args.second) c.args.text.now c.args.limit e) (sym c.load_refusal.ensures)
           (unmade g.D.Disk (c.args.first, c.args.second) c.args.text.now c.args.limit c.in-Err.fault (tells_of c.in-Err.fault j c.in-Err.ensures));
@@ -31,6 +33,11 @@ returns-in-Err-create-clause-cause g c =
 
 pub returns-in-Ok-create-clause-no_fault : goal.returns-in-Ok-create-clause-no_fault
 returns-in-Ok-create-clause-no_fault g c = c.in-Ok-create.ensures.no_fault
+
+pub returns-in-Ok-create-clause-loads : goal.returns-in-Ok-create-clause-loads
+returns-in-Ok-create-clause-loads g c =
+    let j : Journal = record { text = c.args.text.now; year = None; revision = 0 } in
+    ap (λ (j : Journal). fault_of None j.text) (opened_is j c.in-Ok.live c.in-Ok.ensures) ∙ loads j c.in-Ok.live c.in-Ok.ensures
 
 pub returns-in-Ok-create-clause-made : goal.returns-in-Ok-create-clause-made
 returns-in-Ok-create-clause-made g c = λ f s a b.

@@ -5,7 +5,7 @@ use Rattle.text_store.specs.declared.image.Image.{Image}
 use Rattle.text_store.specs.Stores.{Holds}
 use Rattle.desk.specs.declared.fault.DeskFault.{DeskFault}
 use Rattle.desk.specs.Openings.{OpeningRefused}
-use Rattle.desk.proofs.Opened.{can_write, held_size, kept_moved, moved, opened_is, tells_of, unloaded_store, unread}
+use Rattle.desk.proofs.Opened.{can_write, held_size, kept_moved, loads, moved, opened_is, tells_of, unloaded_store, unread}
 use Rattle.desk.proofs.desk.Desk.open.Goals as goal
 
 pub invariant_of-result : goal.invariant_of-result
@@ -27,6 +27,11 @@ returns-in-Ok-open-clause-opened g c = λ f s a b.
     let same = sym (ap F live ∙ ap G c.as_slice.ensures) in
     let H : Image → Type 0 = λ i. Holds c.in-Ok.opened.0 i in
     (m.0 ∙ ap Ok same, inl (c.in-Ok.ensures.ready, subst H same m.1), m.2)
+
+pub returns-in-Ok-open-clause-loads : goal.returns-in-Ok-open-clause-loads
+returns-in-Ok-open-clause-loads g c =
+    let j : Journal = record { text = c.as_slice.result.now; year = None; revision = c.in-Ok.opened.1.revision } in
+    ap (λ (j : Journal). fault_of None j.text) (opened_is j c.in-Ok-open.live c.in-Ok-open.ensures) ∙ loads j c.in-Ok-open.live c.in-Ok-open.ensures
 
 pub returns-in-Ok-open-clause-half : goal.returns-in-Ok-open-clause-half
 returns-in-Ok-open-clause-half g c = c.in-Ok.ensures.size
@@ -53,6 +58,7 @@ returns-in-Err-open g c =
     record {
       opened = tt;
       allowed = tt;
+      loads = tt;
       half = tt;
       size = tt;
       counts = tt;
