@@ -23,8 +23,9 @@ use Rattle.plan_commands.specs.Bounds.{given_bounds}
 use Rattle.plan_commands.specs.Reports.{Report}
 use Rattle.plan_commands.specs.declared.fault.PlanFault.TheVariants as plan_fault
 use Rattle.desk.specs.declared.request.Request.{Request}
+use Rattle.desk.specs.declared.request.Request.TheVariants as request
 use Rattle.desk.specs.declared.reply.Reply.{Reply}
-use Rattle.desk.specs.Reports.{IsRefusedPattern, IsRefusedRule, Reports, if_made, lines_by, pattern_line, refusable_lines, refusable_words, refusable_words_by, refusable_words_in, rule_lines, words_over}
+use Rattle.desk.specs.Reports.{IsRefusedPattern, IsRefusedRule, Reports, TellsRule, if_made, lines_by, pattern_line, refusable_lines, refusable_words, refusable_words_by, refusable_words_in, rule_lines, words_over}
 use Rattle.desk.specs.States.{Replies, made_reply, refused_pattern, refused_rule, report_reply}
 use Rattle.desk.specs.Steps.{TellsReply}
 
@@ -210,3 +211,46 @@ module _ (revision day : ℕ) (year : Option ℕ) (text : List ℕ) (words : Lis
   tells q (Err (plan_fault.Generated (gen_fault.TooMany count limit))) h = h.1
   tells q (Err (plan_fault.Generated gen_fault.Memory)) h = h.1
   tells q (Err plan_fault.Memory) h = h
+
+  -- and of which rule of the text a pattern was refused
+  pub tells_rule : (made : Report) → year ≡ None → Reports day year text words before now last_before last_now made
+      → TellsRule (request.Report words) text day before now last_now (made_reply revision made)
+  tells_rule (Ok bytes) no_year h = tt
+  tells_rule (Err (plan_fault.Words (words_fault.NoCommand word))) no_year h = tt
+  tells_rule (Err (plan_fault.Words (words_fault.BadOption word))) no_year h = tt
+  tells_rule (Err (plan_fault.Words (words_fault.Conflict a b))) no_year h = tt
+  tells_rule (Err (plan_fault.Words (words_fault.BadTerm word))) no_year h = tt
+  tells_rule (Err (plan_fault.Words (words_fault.PatternRefused word))) no_year h = tt
+  tells_rule (Err (plan_fault.Words (words_fault.Report fault))) no_year h = tt
+  tells_rule (Err (plan_fault.Words words_fault.Memory)) no_year h = tt
+  tells_rule (Err (plan_fault.Generated (gen_fault.Journal fault))) no_year h = tt
+  tells_rule (Err (plan_fault.Generated (gen_fault.BadTerm line))) no_year h = tt
+  tells_rule (Err (plan_fault.Generated (gen_fault.PatternRefused line))) no_year h =
+      subst (λ (y : Option ℕ). IsRefusedRule day y text words line before now last_now) no_year h
+  tells_rule (Err (plan_fault.Generated (gen_fault.TooMany count limit))) no_year h = tt
+  tells_rule (Err (plan_fault.Generated gen_fault.Memory)) no_year h = tt
+  tells_rule (Err plan_fault.Memory) no_year h = tt
+
+-- so of a request that is one for a report, and of each other nothing is owed
+module _ (q : Request) (text : List ℕ) (day before now : ℕ) (last_now : Option (List ℕ)) (r : Reply) where
+  same_rule : (x : Request) → q ≡ x → TellsRule x text day before now last_now r → TellsRule q text day before now last_now r
+  same_rule x is h = subst (λ (x : Request). TellsRule x text day before now last_now r) (sym is) h
+
+  pub rule_of_report : (words : List (List ℕ)) → q ≡ request.Report words → TellsRule (request.Report words) text day before now last_now r
+      → TellsRule q text day before now last_now r
+  rule_of_report words is h = same_rule (request.Report words) is h
+
+  pub no_rule_of_download : q ≡ request.Download → TellsRule q text day before now last_now r
+  no_rule_of_download is = same_rule request.Download is tt
+
+  pub no_rule_of_add : (entry : List ℕ) → q ≡ request.Add entry → TellsRule q text day before now last_now r
+  no_rule_of_add entry is = same_rule (request.Add entry) is tt
+
+  pub no_rule_of_change : (base item : ℕ) (entry : List ℕ) → q ≡ request.Change base item entry → TellsRule q text day before now last_now r
+  no_rule_of_change base item entry is = same_rule (request.Change base item entry) is tt
+
+  pub no_rule_of_replace : (base : ℕ) (new_text : List ℕ) → q ≡ request.Replace base new_text → TellsRule q text day before now last_now r
+  no_rule_of_replace base new_text is = same_rule (request.Replace base new_text) is tt
+
+  pub no_rule_of_import : (name rules csv : List ℕ) → q ≡ request.Import name rules csv → TellsRule q text day before now last_now r
+  no_rule_of_import name rules csv is = same_rule (request.Import name rules csv) is tt

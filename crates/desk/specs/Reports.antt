@@ -1,5 +1,5 @@
 -- What the words of a report give over a journal's text.
-use Rattle.std.specs.Prelude.{◌≡◌, ℕ, List, [], ◌∷◌, ◌++◌, Option, Result, Ok, Err, if◌then◌else◌}
+use Rattle.std.specs.Prelude.{◌≡◌, ℕ, List, [], ◌∷◌, ◌++◌, Option, None, Result, Ok, Err, if◌then◌else◌}
 use Rattle.book.specs.declared.fault.Fault.{Fault}
 use Rattle.book.specs.declared.item.Book.{Book}
 use Rattle.book.specs.declared.item.Placed.{Placed}
@@ -23,6 +23,10 @@ use Rattle.plan_commands.specs.Commands.{asked_of}
 use Rattle.plan_commands.specs.Reports.{Report, report_over}
 use Rattle.plan_commands.specs.Telling.{RefusesLast}
 use Rattle.plan_commands.specs.declared.fault.PlanFault.TheVariants as plan_fault
+use Rattle.desk.specs.declared.request.Request.{Request}
+use Rattle.desk.specs.declared.request.Request.TheVariants as request
+use Rattle.desk.specs.declared.reply.Reply.{Reply}
+use Rattle.desk.specs.declared.reply.Reply.TheVariants as reply
 
 -- the report of a text that loads, as each journal's does
 abbrev pub shown : Result Report Fault → Report
@@ -113,3 +117,15 @@ Reports day year text words before now last_before last_now (Err (plan_fault.Gen
 Reports day year text words before now last_before last_now (Err plan_fault.Memory) = Stays before now last_before last_now
 Reports day year text words before now last_before last_now report =
     (words_over day year text words ≡ report) × Stays before now last_before last_now
+
+-- where the reply is that a pattern of an automated rule was refused, it is a pattern of the text's rule at the line that is told
+abbrev pub TellsRuleOf : List (List ℕ) → List ℕ → ℕ → ℕ → ℕ → Option (List ℕ) → Reply → Type 0
+TellsRuleOf words text day before now last_now (reply.Words (plan_fault.Generated (gen_fault.PatternRefused line))) =
+    IsRefusedRule day None text words line before now last_now
+TellsRuleOf words text day before now last_now other = Unit {0}
+
+-- Where the reply to a report is that a pattern of an automated rule was refused, the words ask for what automated rules add, those
+-- before the one at this line are read, and the maker refused a pattern of that one as its last.
+abbrev pub TellsRule : Request → List ℕ → ℕ → ℕ → ℕ → Option (List ℕ) → Reply → Type 0
+TellsRule (request.Report words) text day before now last_now r = TellsRuleOf words text day before now last_now r
+TellsRule other text day before now last_now r = Unit {0}

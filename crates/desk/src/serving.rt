@@ -35,6 +35,7 @@ impl<D: Disk> Desk<D> {
     ghost use Rattle.desk.specs.Keeping.{are_writable};
     ghost use Rattle.hl_time.specs.Calendar.{IsDay};
     ghost use Rattle.desk.specs.States.{Replies};
+    ghost use Rattle.desk.specs.Reports.{TellsRule};
     ghost use Rattle.desk.specs.Steps.{Completes, TellsReply, counted};
 
     /// Answers a request that comes on a day, with the patterns of its words built by the maker. It is one step of the
@@ -56,6 +57,10 @@ impl<D: Disk> Desk<D> {
         requires { IsDay day.0 }
         ensures maker { TellsReply request.now day.0 (M.refusals maker.old) (M.refusals maker.new)
             (M.last_refused maker.old) (M.last_refused maker.new) result }
+
+        // A pattern of an automated rule is told as refused with the line of that rule.
+        ensures rule { TellsRule request.now (state_of self.old).text day.0
+            (M.refusals maker.old) (M.refusals maker.new) (M.last_refused maker.new) result }
         ensures served { IsServed self.old (record {
           request = request.now;
           day = day;
@@ -98,6 +103,8 @@ impl<D: Disk> Desk<D> {
         requires { IsDay day.0 }
         ensures maker { TellsReply request.now day.0 (M.refusals maker.old) (M.refusals maker.new)
             (M.last_refused maker.old) (M.last_refused maker.new) result }
+        ensures rule { TellsRule request.now (state_of self.old).text day.0
+            (M.refusals maker.old) (M.refusals maker.new) (M.last_refused maker.new) result }
         ensures served { Serves (state.answer_to (state_of self.old) day.0 request.now)
             (state.deed_in (state_of self.old) request.now) self.old result self.new }
         ensures counts { counts_of self.new ≡ counts_of self.old }
@@ -141,6 +148,8 @@ impl<D: Disk> Desk<D> {
         ensures maker { (q : Asked) → TellsReply q day.0
             (M.refusals maker.old) (M.refusals maker.new)
             (M.last_refused maker.old) (M.last_refused maker.new) result }
+        ensures rule { TellsRule (Request.Report words.now) self.now.live.text day.0
+            (M.refusals maker.old) (M.refusals maker.new) (M.last_refused maker.new) result }
         ensures reply { Replies self.now.live.revision day.0 self.now.live.text words.now result }
     {
         let made = report_text(alloc, &self.live, words, day, maker, steps);

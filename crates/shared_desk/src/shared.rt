@@ -1,6 +1,7 @@
 //! The machine of a journal, as a lock keeps it.
 ghost use Rattle.std.specs.Prelude.{◌≡◌};
-ghost use Rattle.desk.specs.Desks.{IsServed};
+ghost use Rattle.desk.specs.Desks.{IsServed, state_of};
+ghost use Rattle.desk.specs.Reports.{TellsRule};
 ghost use Rattle.desk.specs.Steps.{TellsReply};
 ghost use Rattle.hl_time.specs.Calendar.{IsDay};
 
@@ -89,6 +90,8 @@ impl<D: Disk> Shared<D> {
             ≡ record { request = request.now; day = day; reply = result.reply; revision = result.revision } }
         ensures maker { TellsReply request.now day.0 (M.refusals maker.old) (M.refusals maker.new)
             (M.last_refused maker.old) (M.last_refused maker.new) result.reply }
+        ensures rule { TellsRule request.now (state_of self.old.desk).text day.0
+            (M.refusals maker.old) (M.refusals maker.new) (M.last_refused maker.new) result.reply }
         ensures served { IsServed self.old.desk result.note self.new.desk }
     {
         let reply = self.desk.request(alloc, request, day, maker, steps);

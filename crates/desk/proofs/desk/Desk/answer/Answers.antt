@@ -6,6 +6,7 @@ use Rattle.desk.specs.Desks.{state_of}
 use Rattle.desk.specs.States.{plain}
 use Rattle.desk.proofs.Imported.{tells_import}
 use Rattle.desk.proofs.Quiet.{quiet_download, quiet_edit}
+use Rattle.desk.proofs.Refused.{no_rule_of_add, no_rule_of_change, no_rule_of_download, no_rule_of_import, no_rule_of_replace, rule_of_report}
 use Rattle.desk.proofs.Served.{downloaded, reported, was_add, was_change, was_import, was_replace}
 use Rattle.desk.proofs.desk.Desk.answer.Goals as goal
 
@@ -64,3 +65,33 @@ returns-in-Import-clause-maker g c =
     let maker = g.M.Maker in
     tells_import c.args.request.now _ _ _ c.args.day.0 (maker.refusals c.args.maker.now) (maker.refusals c.import.new.maker) (maker.last_refused c.args.maker.now) (maker.last_refused c.import.new.maker) c.import.result c.in-Import.is
     (rw (c.as_slice-in-Import.ensures, c.as_slice-in-Import-2.ensures) at (c.import.ensures.maker c.args.day.0))
+
+pub returns-in-Report-clause-rule : goal.returns-in-Report-clause-rule
+returns-in-Report-clause-rule g c =
+    let maker = g.M.Maker in
+    rule_of_report c.args.request.now c.args.self.now.live.text c.args.day.0 (maker.refusals c.args.maker.now) (maker.refusals c.report.new.maker) (maker.last_refused c.report.new.maker) c.report.result _ c.in-Report.is (rw c.as_slice.ensures at c.report.ensures.rule)
+
+pub returns-in-Download-clause-rule : goal.returns-in-Download-clause-rule
+returns-in-Download-clause-rule g c =
+    let maker = g.M.Maker in
+    no_rule_of_download c.args.request.now c.args.self.now.live.text c.args.day.0 (maker.refusals c.args.maker.now) (maker.refusals c.args.maker.now) (maker.last_refused c.args.maker.now) c.download.result c.in-Download.is
+
+pub returns-in-Add-clause-rule : goal.returns-in-Add-clause-rule
+returns-in-Add-clause-rule g c =
+    let maker = g.M.Maker in
+    no_rule_of_add c.args.request.now c.args.self.now.live.text c.args.day.0 (maker.refusals c.args.maker.now) (maker.refusals c.args.maker.now) (maker.last_refused c.args.maker.now) c.edit.result _ c.in-Add.is
+
+pub returns-in-Change-clause-rule : goal.returns-in-Change-clause-rule
+returns-in-Change-clause-rule g c =
+    let maker = g.M.Maker in
+    no_rule_of_change c.args.request.now c.args.self.now.live.text c.args.day.0 (maker.refusals c.args.maker.now) (maker.refusals c.args.maker.now) (maker.last_refused c.args.maker.now) c.edit-in-Change.result _ _ _ c.in-Change.is
+
+pub returns-in-Replace-clause-rule : goal.returns-in-Replace-clause-rule
+returns-in-Replace-clause-rule g c =
+    let maker = g.M.Maker in
+    no_rule_of_replace c.args.request.now c.args.self.now.live.text c.args.day.0 (maker.refusals c.args.maker.now) (maker.refusals c.args.maker.now) (maker.last_refused c.args.maker.now) c.edit-in-Replace.result _ _ c.in-Replace.is
+
+pub returns-in-Import-clause-rule : goal.returns-in-Import-clause-rule
+returns-in-Import-clause-rule g c =
+    let maker = g.M.Maker in
+    no_rule_of_import c.args.request.now c.args.self.now.live.text c.args.day.0 (maker.refusals c.args.maker.now) (maker.refusals c.import.new.maker) (maker.last_refused c.import.new.maker) c.import.result _ _ _ c.in-Import.is
