@@ -314,6 +314,7 @@ module _ {A K D : Type 0} {g : Ghosts D} (tell : A → KitTold K) (coming sent :
         kits = kits;
         kits_now = kits_now;
         many = many;
+        fresh = fresh;
         given = b.given ∙ t.given;
         back = b.back ∙ ap (λ (o : Option (List A)). and_then o kits_now) t.back;
         team = team;
@@ -334,6 +335,7 @@ module _ {A K D : Type 0} {g : Ghosts D} (tell : A → KitTold K) (coming sent :
     kits = h.kits;
     kits_now = h.kits_now;
     many = h.many;
+    fresh = h.fresh;
     given = h.given ∙ ap (λ (o : Option (List A)). and_then o h.kits) b.given;
     back = h.back ∙ ap (λ (o : Option (List A)). and_then o h.kits_now) b.back;
     team = h.team;

@@ -1,5 +1,5 @@
 -- What became of a house whose workers served a journal.
-use Rattle.std.specs.Prelude.{◌≡◌, ℕ, ◌<◌, Bool, List, [], ◌∷◌, length, map, Option, MatchBool}
+use Rattle.std.specs.Prelude.{◌≡◌, ℕ, ◌<◌, All, Bool, List, [], ◌∷◌, length, map, Option, MatchBool}
 use Rattle.hl_base.specs.Causes.{Rose}
 use Rattle.hl_base.specs.declared.disk.Disk.{Ghosts}
 use Rattle.turn_lock.specs.declared.known.Entered.{Entered}
@@ -62,6 +62,8 @@ pub record Hosts {A K D : Type 0} {g : Ghosts D} (tell : A → KitTold K) (comin
   pub kits : List A
   pub kits_now : List A
   pub many : length kits ≡ workers
+  -- none of their doors had given a link or failed, and none of their makers had refused a pattern
+  pub fresh : All (FreshBy tell) kits
   pub given : new.given ≡ and_then old.given kits
   pub back : new.back ≡ and_then old.back kits_now
   pub team : ServesTeam coming sent limit opening (map tell kits) (map tell kits_now) failed history last
