@@ -31,7 +31,7 @@ pub enum LogForm {
     Dot,
 }
 
-/// The day of a closing entry: one before the last of the calendar. Contracts see its number.
+/// The day of a closing entry: one of the calendar before its last. Contracts see its number.
 #[derive(Clone, Copy)]
 pub struct ClosingDay {
     number: u32,
@@ -45,7 +45,7 @@ impl Model for ClosingDay {
 
     ghost view = { λ d. d.number };
 
-    ghost invariant = { λ d. d.number < last_day };
+    ghost invariant = { λ d. (0 < d.number) × (d.number < last_day) };
 
     ghost inverse = { λ v. record { number = v } };
 }
@@ -53,6 +53,7 @@ impl Model for ClosingDay {
 impl ClosingDay {
     /// That day, if it is before the last one.
     pub fn new(day: Day) -> Option<ClosingDay>
+        requires { IsDay day.0 }
         ensures { result ≡ closing_day day }
     {
         if day.0 < DAY_END - 1 {
@@ -66,6 +67,7 @@ impl ClosingDay {
     pub fn day(self) -> Day
         ensures value { result.0 ≡ self }
         ensures bound { result.0 < last_day }
+        ensures within { 0 < result.0 }
     {
         Day(self.number)
     }
