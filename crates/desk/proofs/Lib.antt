@@ -2,7 +2,7 @@ mod Again
 mod Complete
 mod Converted
 mod Done
-mod Edited
+pub mod Edited
 mod Imported
 mod Keeping
 mod Named

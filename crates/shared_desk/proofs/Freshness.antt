@@ -45,7 +45,7 @@ use Rattle.shared_desk.proofs.Answering.{between, fresh}
 
 module _ {A : Type 0} where
   -- where none of some is there, neither the first nor one of the others is
-  none_first : (o : Option A) (more : List (Option A)) → first_of (o ∷ more) ≡ None → (o ≡ None) × (first_of more ≡ None)
+  pub none_first : (o : Option A) (more : List (Option A)) → first_of (o ∷ more) ≡ None → (o ≡ None) × (first_of more ≡ None)
   none_first None more e = (refl, e)
   none_first (Some a) more e = absurd cc
 

@@ -1,4 +1,5 @@
 pub mod Answering
+pub mod Changing
 pub mod Counting
 pub mod Faulting
 pub mod Freshness

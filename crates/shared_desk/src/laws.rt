@@ -1,12 +1,16 @@
 //! Laws about the histories of a journal that workers share. Each function does nothing; its contract is the law.
-ghost use Rattle.std.specs.Prelude.{◌≡◌, ◌∷◌, ◌++◌, ℕ, true, List, Option};
+ghost use Rattle.std.specs.Prelude.{◌≡◌, ◌∷◌, ◌++◌, ℕ, true, List, Option, Some};
 ghost use Rattle.hl_base.specs.Causes.{Rose};
-ghost use Rattle.desk.specs.Desks.{counts_of, faults_of, shown_by, state_of};
+ghost use Rattle.desk.specs.Desks.{IsServed, counts_of, faults_of, shown_by, state_of};
 ghost use Rattle.desk.specs.Entries.{Entry};
 ghost use Rattle.desk.specs.Stands.{Stands};
+ghost use Rattle.desk.specs.States.{change_of, deed_in};
+ghost use Rattle.desk.specs.Steps.{is_done};
+ghost use Rattle.desk.specs.declared.deed.Deed.{Deed};
 ghost use Rattle.desk.specs.declared.desk.Desk.{Desk};
 ghost use Rattle.desk.specs.declared.request.Request.TheVariants as request;
 ghost use Rattle.shared_desk.specs.Histories.{IsAnswered, IsFreshRun, IsLegal, Loads, MayBeLeft, RoseBy, has_fault, pattern_refusals, tally};
+ghost use Rattle.text_store.specs.Edits.{edited};
 ghost use Rattle.text_store.specs.declared.image.Image.{Image};
 ghost use Rattle.turn_lock.specs.declared.known.Entered.{Entered};
 ghost use Rattle.web_desk.specs.Makers.{TellsEntries};
@@ -28,6 +32,15 @@ pub fn reports_are_fresh<D: Disk>()
         → IsLegal opening (earlier ++ x ∷ later) last → Loads (state_of opening) → x.entry.request ≡ request.Report words
         → (before : Desk D D.Disk) × IsLegal opening earlier before × Loads (state_of before)
         × IsFreshRun (state_of before) x.entry.day.0 words x.entry.reply }
+{}
+
+/// A request that a machine answers as done asks for an edit, and the change of the store that the edit is makes the image after it
+/// of the one before.
+pub fn done_is_a_change<D: Disk>()
+    ensures { (before after : Desk D D.Disk) (entry : Entry)
+        → IsServed before entry after → is_done entry.reply ≡ true
+        → (deed : Deed) × (deed_in (state_of before) entry.request ≡ Some deed)
+        × (edited (shown_by before) (change_of (state_of before).text deed) ≡ Some (shown_by after)) }
 {}
 
 /// At the end of a legal history the disks show the last state, and beside it at most one edit that was refused for a

@@ -12,7 +12,7 @@ mod shared;
 pub use connection::serve_connection;
 pub use kit::Kit;
 pub use laws::{
-    counts_are_kept, disks_show_the_last, each_is_answered, faults_are_counted,
+    counts_are_kept, disks_show_the_last, done_is_a_change, each_is_answered, faults_are_counted,
     refusals_are_counted, reports_are_fresh,
 };
 pub use locked::Locked;
