@@ -1,5 +1,5 @@
 -- What opening two files comes to.
-use Rattle.std.proofs.Common.{◌≡◌, ◌∙◌, inr, ℕ, List, Result, Ok, Err, IfOk, sym, subst, arith}
+use Rattle.std.proofs.Common.{◌≡◌, ◌∙◌, inr, ℕ, List, Result, Ok, Err, IfOk, IfErr, refl, sym, subst, arith}
 use Rattle.hl_base.specs.declared.disk.Disk.{Ghosts}
 use Rattle.text_store.specs.declared.fault.StoreFault.{StoreFault}
 use Rattle.text_store.specs.declared.fault.StoreFault.TheVariants.{DiskFault, NotAStore, Newer, Full, Exists, Memory}
@@ -9,7 +9,7 @@ use Rattle.text_store.specs.declared.image.Image.{Image}
 use Rattle.text_store.specs.Files.{WhileOpened, ShowsOf}
 use Rattle.text_store.specs.Found.{IsFound, ImageRefused}
 use Rattle.text_store.specs.Image.{image}
-use Rattle.text_store.specs.Refusals.{OpenRefused, ReadTheSame, Told}
+use Rattle.text_store.specs.Refusals.{ImageStays, OpenRefused, ReadTheSame, Told}
 use Rattle.text_store.specs.Rest.{IsReadOn}
 use Rattle.text_store.specs.Stores.{placed, Tell, Throughout, Keeps}
 use Rattle.text_store.proofs.Both.{then_on, less_said}
@@ -19,6 +19,10 @@ use Rattle.text_store.proofs.Resting.{tells_still}
 pub if_ok_map : {T E : Type 0} (r : Result T E) (P R : T → Type 0) → ((v : T) → P v → R v) → IfOk r P → IfOk r R
 if_ok_map (Ok v) P R from p = from v p
 if_ok_map (Err e) P R from p = tt
+
+pub if_err_map : {T E : Type 0} (r : Result T E) (P R : E → Type 0) → ((e : E) → P e → R e) → IfErr r P → IfErr r R
+if_err_map (Ok v) P R from p = tt
+if_err_map (Err e) P R from p = from e p
 
 pub if_ok_two : {T E : Type 0} (r : Result T E) (P Q R : T → Type 0) → ((v : T) → P v → Q v → R v) → IfOk r P → IfOk r Q → IfOk r R
 if_ok_two (Ok v) P Q R from p q = from v p q
@@ -35,6 +39,9 @@ shown_by f s shown (Older limit) found = found.1
 module _ {D : Type 0} (g : Ghosts D) (first second first_1 second_1 : D) (reads : IsReadOn g first first_1 × IsReadOn g second second_1) where
   pub read_the_same : ReadTheSame g (first, second) (first_1, second_1)
   read_the_same = (reads.0.seen, reads.1.seen)
+
+  pub image_stays : ImageStays g (first, second) (first_1, second_1)
+  image_stays f s is_first is_second = (f, s, reads.0.seen ∙ is_first, reads.1.seen ∙ is_second, refl)
 
   pub keeps_after : (end : D × D) (ends : ℕ × ℕ) → Keeps g (first_1, second_1) end ends → Keeps g (first, second) end ends
   keeps_after end ends keeps = record {

@@ -16,6 +16,7 @@ use Rattle.text_store.specs.declared.finding.Place.TheVariants.{Half as InHalf, 
 use Rattle.text_store.specs.Edits.{whole_size}
 use Rattle.text_store.specs.Found.{IsHalfInUse, half_found, IsFound}
 use Rattle.text_store.specs.Image.{Half, live, chosen, image, image_of}
+use Rattle.text_store.specs.Refusals.{TellImage}
 use Rattle.text_store.specs.Rest.{RestsAs, StandsIn, SomeLeft, IsRewritten, IsReadOn}
 use Rattle.text_store.specs.Stores.{Tell, Throughout, Shows, fault_count, image_beside, IsChosen, Leads, Holds, Keeps}
 use Rattle.text_store.proofs.Appending.{rose_left, rose_right}
@@ -155,6 +156,12 @@ pub placed_back : {D : Type 0} (b : Bool) (first second : D) → placed b (place
 placed_back true first second = refl
 placed_back false first second = refl
 
+-- two disks in their places tell a file and the one beside it
+told_image : {D : Type 0} (g : Ghosts D) (b : Bool) (live spare : D) (file beside : List ℕ) (shown : Image) → g.seen live ≡ Some file → g.seen spare ≡ Some beside
+    → image_beside b file beside ≡ Ok shown → TellImage g (placed b live spare) (Ok shown)
+told_image g true live spare file beside shown x y is = (beside, file, y, x, is)
+told_image g false live spare file beside shown x y is = (file, beside, x, y, is)
+
 -- the half in use that was found is mended
 module _ {D : Type 0} (g : Ghosts D) (first second : D) (f s : List ℕ) (u : InUse) (shown : Image) (rests_first : RestsAs g.seen g.tells_crashes g.may_leave first f)
     (rests_second : RestsAs g.seen g.tells_crashes g.may_leave second s) (found : half_found f s u.in_second u shown) (pair : D × D) (is : pair ≡ placed u.in_second first second) where
@@ -203,6 +210,15 @@ module _ {D : Type 0} (g : Ghosts D) (first second : D) (f s : List ℕ) (u : In
       → g.seen next ≡ Some (take u.gate file ++ 0 ∷ [])
   resume_bytes next counts_now shut =
       (shut (take u.gate file) (place file aside u shown at) (stands_shut file aside u shown at g counts_now pair.0 pair.1 next live_rests)).told
+
+  -- and where that failed it still shows its image
+  pub resume_torn : (next : D) → ((disk : D) (t : ℕ) (c : List ℕ) → t ≤ g.moment disk → g.may_leave disk c → g.left_since disk t c)
+      → ((front : List ℕ) → length front ≡ u.gate → StandsIn g.seen g.tells_crashes g.may_leave pair.0 (IsShutAt front) → StandsIn g.seen g.tells_crashes g.may_leave next (IsShutAt front))
+      → TellImage g (placed u.in_second next pair.1) (Ok shown)
+  resume_torn next counts_now shut =
+      let stands = shut (take u.gate file) (place file aside u shown at) (stands_shut file aside u shown at g counts_now pair.0 pair.1 next live_rests) in
+      told_image g u.in_second next pair.1 stands.file aside shown stands.told spare_rests.told
+      (led u.in_second u.generation stands.file aside shown (leads_at file aside u shown at stands.file stands.fits))
 
 -- no half is chosen of files of which none is live
 pub none_live : (a b : Option Half) → chosen a b ≡ None → (a ≡ None) × (b ≡ None)
@@ -255,6 +271,10 @@ module _ (limit : ℕ) (shown : Image) (small : limit < 2 ^ 64) (within : shown.
       by_half (inl none) = ap (λ (h : Option Half). image_of (chosen (live f) h) f) (none ∙ sym (none_live (live f) (live s) no_half).1) ∙ is
       by_half (inr some) =
           (λ i. image_of (chosen (none_first i) (some i)) f) ∙ whole_image limit 1 shown small one within writable are fits
+
+  pub renew_torn : {D : Type 0} (g : Ghosts D) (first next : D) → RestsAs g.seen g.tells_crashes g.may_leave first f → image f s ≡ Ok shown
+      → StandsIn g.seen g.tells_crashes g.may_leave next (IsRewritten s head entry) → TellImage g (first, next) (Ok shown)
+  renew_torn g first next rests is stands = (f, stands.file, rests.told, stands.told, renew_shows is stands.file stands.fits)
 
   module _ {D : Type 0} {g : Ghosts D} (store : Store D g) where
     pub renewed : store.in_second ≡ true → store.generation ≡ 1 → store.live.gate + 1 ≡ 33 + length entry

@@ -1,11 +1,12 @@
 -- What each refusal of a store says.
-use Rattle.std.specs.Prelude.{◌≡◌, ℕ, ◌-◌, ◌^◌, ◌≤◌, ◌<◌, min, true, if◌then◌else◌, ◌==◌, List, length, Some, Err}
+use Rattle.std.specs.Prelude.{◌≡◌, ℕ, ◌-◌, ◌^◌, ◌≤◌, ◌<◌, min, true, if◌then◌else◌, ◌==◌, List, length, Some, Result, Err}
 use Rattle.hl_base.specs.declared.disk.Disk.{Ghosts}
 use Rattle.hl_base.specs.Causes.{Rose}
 use Rattle.text_store.specs.declared.fault.StoreFault.{StoreFault}
 use Rattle.text_store.specs.declared.fault.StoreFault.TheVariants.{DiskFault, NotAStore, Newer, Full, Exists, Memory}
+use Rattle.text_store.specs.declared.image.Image.{Image}
 use Rattle.text_store.specs.declared.store.Store.{Store}
-use Rattle.text_store.specs.Image.{NotAStore as NoStore, Newer as NewerStore, image}
+use Rattle.text_store.specs.Image.{NoImage, NotAStore as NoStore, Newer as NewerStore, image}
 use Rattle.text_store.specs.Stores.{disks, fault_count, limit_of, repair_due}
 
 -- Why a half of so many bytes wasn't written: a disk failed and a repair is due, the size is past the limit, or memory ran
@@ -25,6 +26,14 @@ ReadTheSame g old new = (g.seen new.0 ≡ g.seen old.0) × (g.seen new.1 ≡ g.s
 -- where both disks tell what they read as
 abbrev pub Told : {D : Type 0} → Ghosts D → D × D → (List ℕ → List ℕ → Type 0) → Type 0
 Told g pair P = (first second : List ℕ) → g.seen pair.0 ≡ Some first → g.seen pair.1 ≡ Some second → P first second
+
+-- two disks tell their files, which have this image, or the want of one
+abbrev pub TellImage : {D : Type 0} → Ghosts D → D × D → Result Image NoImage → Type 0
+TellImage g pair found = (first : List ℕ) × (second : List ℕ) × (g.seen pair.0 ≡ Some first) × (g.seen pair.1 ≡ Some second) × (image first second ≡ found)
+
+-- disks that told their files still do, and these have the image, or the want of one, that they had
+abbrev pub ImageStays : {D : Type 0} → Ghosts D → D × D → D × D → Type 0
+ImageStays g old new = Told g old (λ first second. TellImage g new (image first second))
 
 -- the length of the first file, or of the second where the first is empty
 abbrev pub first_length : List ℕ → List ℕ → ℕ

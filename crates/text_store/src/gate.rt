@@ -63,6 +63,8 @@ pub fn shut_gate<D: Disk>(device: &mut D, gate: u64) -> Result<(), Failed>
     // Where no open record stands behind the front, none does at any moment.
     ensures shut_end { OnOk result ((front : List ℕ) → length front ≡ gate → StandsIn D.seen D.tells_crashes D.may_leave device.old (IsShutAt front)
         → RestsAs D.seen D.tells_crashes D.may_leave device.new (front ++ 0 ∷ [])) }
+    ensures fault_end { OnErr result ((front : List ℕ) → length front ≡ gate → StandsIn D.seen D.tells_crashes D.may_leave device.old (IsShutAt front)
+        → StandsIn D.seen D.tells_crashes D.may_leave device.new (IsShutAt front)) }
     ensures any_end { (front : List ℕ) → length front ≡ gate → StandsIn D.seen D.tells_crashes D.may_leave device.old (IsShutAt front)
         → IsTrue (D.tells_crashes device.old) → LeavesOnly D.moment D.left_since device.old device.new (IsShutAt front) }
 

@@ -41,7 +41,7 @@ impl<D: Disk> Store<D> {
     ghost use Rattle.text_store.specs.Frames.{frames_of};
     ghost use Rattle.text_store.specs.Image.{image, live, chosen};
     ghost use Rattle.text_store.specs.Files.{new_front, next_generation, IsWritable, fresh, WhileMade, WhileOpened, ShowsOf, opened_limit, opened_size, rest_of};
-    ghost use Rattle.text_store.specs.Refusals.{PutRefused, CreateRefused, OpenRefused, RenewRefused, Told};
+    ghost use Rattle.text_store.specs.Refusals.{PutRefused, CreateRefused, OpenRefused, RenewRefused, ImageStays, TellImage, Told};
     ghost use Rattle.text_store.specs.Stores.{disks, disks_made, disks_opened, size_of, limit_of, repair_due, Tell, fault_count, placed, Throughout, Shows, ShowsEither, Holds, MayShow, bounds, NoWider, Keeps};
 
     /// Makes a store of a text in two empty files, with a limit of each file's length in bytes.
@@ -131,6 +131,9 @@ impl<D: Disk> Store<D> {
         ensures ready { IfOk result (λ opened. repair_due opened.0 ≡ false) }
         ensures cause { IfErr result (λ e. OpenRefused D.Disk (first, second) (e.0, e.1) e.2) }
 
+        // After a disk fault the disks read as files with the image, or the want of one, that they had.
+        ensures stays { IfErr result (λ e. e.2 ≡ FailedDisk → ImageStays D.Disk (first, second) (e.0, e.1)) }
+
         // The half in use has the bytes that it had up to its last gate, which is shut and the file's last byte.
         ensures in_use { IfOk result (λ opened. Told D.Disk (first, second) (λ f s. D.seen opened.0.live.device ≡ Some (rest_of f s))) }
 
@@ -185,6 +188,8 @@ impl<D: Disk> Store<D> {
         ensures any_moment { (f s : List ℕ) (shown : Image) → RestsAs D.seen D.tells_crashes D.may_leave first f
             → RestsAs D.seen D.tells_crashes D.may_leave second s → half_found f s place.in_second place shown → Tell D.Disk (first, second)
             → Throughout D.Disk (first, second) (disks_made result) (ShowsOf D.Disk (first, second) f s shown) }
+        ensures stays { IfErr result (λ e. (f s : List ℕ) (shown : Image) → RestsAs D.seen D.tells_crashes D.may_leave first f
+            → RestsAs D.seen D.tells_crashes D.may_leave second s → half_found f s place.in_second place shown → TellImage D.Disk (e.0, e.1) (Ok shown)) }
         ensures cause { IfErr result (λ e. (e.2 ≡ FailedDisk) × Rose (fault_count D.Disk (first, second)) (fault_count D.Disk (e.0, e.1))) }
         ensures keeps { Keeps D.Disk (first, second) (disks_made result) (if place.in_second then (0, place.gate + 1) else (place.gate + 1, 0)) }
         ensures no_fault { OnOk result (fault_count D.Disk (disks_made result) ≡ fault_count D.Disk (first, second)) }
@@ -220,6 +225,9 @@ impl<D: Disk> Store<D> {
         ensures numbers { IfOk result (λ store. (limit_of store ≡ max limit (whole_size shown.now)) × (size_of store ≡ whole_size shown.now)
             × (store.in_second ≡ true) × (repair_due store ≡ false)) }
         ensures beside { IfOk result (λ store. (disks store).0 ≡ first) }
+        ensures stays { IfErr result (λ e. e.2 ≡ FailedDisk → (f s : List ℕ) → RestsAs D.seen D.tells_crashes D.may_leave first f
+            → RestsAs D.seen D.tells_crashes D.may_leave second s → chosen (live f) (live s) ≡ None → image f s ≡ Ok shown.now
+            → TellImage D.Disk (e.0, e.1) (Ok shown.now)) }
         ensures bytes { IfOk result (λ store. (s : List ℕ) → RestsAs D.seen D.tells_crashes D.may_leave second s
             → D.seen (disks store).1 ≡ Some (new_front (limit_of store) 1 shown.now ++ 0 ∷ [])) }
         ensures any_moment { (f s : List ℕ) → RestsAs D.seen D.tells_crashes D.may_leave first f
@@ -265,6 +273,8 @@ impl<D: Disk> Store<D> {
         ensures in_use { IfOk result (λ opened. (f s : List ℕ) → RestsAs D.seen D.tells_crashes D.may_leave first f
             → RestsAs D.seen D.tells_crashes D.may_leave second s → IsFound f s found.image found.place
             → D.seen opened.0.live.device ≡ Some (rest_of f s)) }
+        ensures stays { IfErr result (λ e. e.2 ≡ FailedDisk → (f s : List ℕ) → RestsAs D.seen D.tells_crashes D.may_leave first f
+            → RestsAs D.seen D.tells_crashes D.may_leave second s → IsFound f s found.image found.place → TellImage D.Disk (e.0, e.1) (Ok found.image)) }
         ensures image { IfOk result (λ opened. opened.1 ≡ found.image) }
         ensures ready { IfOk result (λ opened. repair_due opened.0 ≡ false) }
         ensures older { IfOk result (λ opened. (f s : List ℕ) → RestsAs D.seen D.tells_crashes D.may_leave first f

@@ -108,3 +108,21 @@ returns-clause-comes g c =
     from_before d.moment d.left_since c.args.device.now c.cut_durably.new.device c.write_durably.new.device d.may_leave g.met.D.Disk.counts_now
     (from_step d.moment d.left_since c.args.device.now c.cut_durably.new.device d.may_leave (Cut (c.args.gate + 1)) c.cut_durably.ensures.any_moment)
     (from_step d.moment d.left_since c.cut_durably.new.device c.write_durably.new.device d.may_leave (Torn c.args.gate 1) c.write_durably.ensures.any_moment)
+
+pub returns-in_err-cut_durably-clause-fault_end : goal.returns-in_err-cut_durably-clause-fault_end
+returns-in_err-cut_durably-clause-fault_end g c = on_err_of c.from_residual.result (λ front size stands.
+    let d = g.D.Disk in
+    steps_on d.seen d.tells_crashes d.may_leave c.args.device.now c.cut_durably.new.device (IsShutAt front) (IsShutAt front) (Cut (c.args.gate + 1))
+    stands c.cut_durably.ensures.partial c.cut_durably.ensures.crash c.cut_durably.ensures.tells
+    (λ f left at cut. cut_end_stays front c.args.gate size f left at cut))
+
+pub returns-clause-fault_end : goal.returns-clause-fault_end
+returns-clause-fault_end g c = on_err_of c.write_durably.result (λ front size stands.
+    let d = g.D.Disk in
+    let gate = cut_end_done front c.args.gate size stands.file stands.fits in
+    let file = front ++ gate.0 ∷ [] in
+    let middle = rest_as d.seen d.tells_crashes d.may_leave c.cut_durably.new.device _ file gate.1
+    (c.in_ok-cut_durably.ensures.rests stands.file stands.told) in
+    steps_on d.seen d.tells_crashes d.may_leave c.cut_durably.new.device c.write_durably.new.device (λ f. f ≡ file) (IsShutAt front) (Torn c.args.gate 1)
+    (rest_stands d.seen d.tells_crashes d.may_leave c.cut_durably.new.device file middle) c.write_durably.ensures.torn c.write_durably.ensures.crash c.write_durably.ensures.tells
+    (λ f left is torn. end_shut front c.args.gate size gate.0 left (subst (λ (l : List ℕ). Torn c.args.gate 1 l left) is torn)))

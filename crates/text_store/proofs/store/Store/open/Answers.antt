@@ -1,9 +1,11 @@
-use Rattle.std.proofs.Common.{◌∙◌, max, inl, Ok, length, sym, ap, arith}
+use Rattle.std.proofs.Common.{◌∙◌, max, inl, Result, Ok, length, sym, subst, ap, arith}
 use Rattle.text_store.specs.declared.image.Image.{Image}
 use Rattle.text_store.specs.Files.{opened_limit, WhileOpened}
+use Rattle.text_store.specs.Image.{NoImage}
+use Rattle.text_store.specs.Refusals.{TellImage}
 use Rattle.text_store.specs.Stores.{disks_opened}
 use Rattle.text_store.proofs.Both.{less_said}
-use Rattle.text_store.proofs.Opened.{if_ok_map, if_ok_two, found_in, shown_by, keeps_after, tell_after, refused_at, opened_run}
+use Rattle.text_store.proofs.Opened.{if_err_map, if_ok_map, if_ok_two, found_in, image_stays, shown_by, keeps_after, tell_after, refused_at, opened_run}
 use Rattle.text_store.proofs.store.Store.open.Goals as goal
 
 pub returns-in-Err-clause-any_moment : goal.returns-in-Err-clause-any_moment
@@ -108,3 +110,20 @@ returns-clause-bounds g c =
     let found = found_in c.deref.result.now c.deref-in-Ok.result.now f s shown place (c.deref.ensures.value ∙ rests.0) (c.deref-in-Ok.ensures.value ∙ rests.1) c.in-Ok-read_image.ensures.found in
     less f s found)
     c.take_up.ensures.bounds
+
+pub returns-in-Err-clause-stays : goal.returns-in-Err-clause-stays
+returns-in-Err-clause-stays g c = λ failed. image_stays g.D.Disk c.args.first c.args.second c.read_both.new.first c.read_both.new.second c.read_both.ensures.reads
+
+pub returns-in-Err-read_image-clause-stays : goal.returns-in-Err-read_image-clause-stays
+returns-in-Err-read_image-clause-stays g c = λ failed. image_stays g.D.Disk c.args.first c.args.second c.read_both.new.first c.read_both.new.second c.read_both.ensures.reads
+
+pub returns-clause-stays : goal.returns-clause-stays
+returns-clause-stays g c =
+    let shown = c.in-Ok-read_image.found.image in
+    let place = c.in-Ok-read_image.found.place in
+    if_err_map c.take_up.result _ _
+    (λ e torn failed f s is_first is_second.
+    let rests = c.in-Ok.ensures.rests f s is_first is_second in
+    let found = found_in c.deref.result.now c.deref-in-Ok.result.now f s shown place (c.deref.ensures.value ∙ rests.0) (c.deref-in-Ok.ensures.value ∙ rests.1) c.in-Ok-read_image.ensures.found in
+    subst (λ (r : Result Image NoImage). TellImage g.D.Disk (e.0, e.1) r) (sym (shown_by f s shown place found)) (torn failed f s rests.2 rests.3 found))
+    c.take_up.ensures.stays

@@ -3,10 +3,10 @@ use Rattle.hl_base.specs.Disk.{LeavesOnly}
 use Rattle.text_store.specs.Edits.{whole_size}
 use Rattle.text_store.specs.Entries.{body}
 use Rattle.text_store.specs.Files.{header, whole_payload, ShowsOf}
-use Rattle.text_store.specs.Rest.{RestsAs, IsRewritten}
+use Rattle.text_store.specs.Rest.{RestsAs, StandsIn, IsRewritten}
 use Rattle.text_store.specs.Stores.{Throughout, Keeps}
 use Rattle.text_store.proofs.HalfImages.{length_record}
-use Rattle.text_store.proofs.Opening.{both_shows, renewing, renewed}
+use Rattle.text_store.proofs.Opening.{both_shows, renew_torn, renewing, renewed}
 use Rattle.text_store.proofs.Wholes.{length_whole}
 use Rattle.text_store.proofs.store.Store.renew.Goals as goal
 
@@ -107,3 +107,24 @@ returns-clause-keeps g c =
       later_first = omega arith;
       later_second = c.write_anew.ensures.cause.later;
     })
+
+pub returns-in_default-clause-stays : goal.returns-in_default-clause-stays
+returns-in_default-clause-stays g c = λ is. absurd cc
+
+pub returns-in_default-whole_record-clause-stays : goal.returns-in_default-whole_record-clause-stays
+returns-in_default-whole_record-clause-stays g c = λ is. absurd cc
+
+pub returns-in-Err-clause-stays : goal.returns-in-Err-clause-stays
+returns-in-Err-clause-stays g c failed f s first second none is =
+    let d = g.D.Disk in
+    let shown = c.args.shown.now in
+    let limit = c.max-limit.result in
+    let small : limit < 2 ^ 64 = search rules in
+    let are = c.in-Ok-whole_record.ensures.are_states in
+    let fits : length (whole_payload shown) < 2 ^ 64 = omega (arith, length_whole shown, c.in-Ok-whole_record.ensures.fits) in
+    let head = header limit 1 shown.revision in
+    let same : c.deref.result.now ≡ head ++ 0 ∷ [] = c.deref.ensures.value ∙ c.in-Ok.ensures in
+    let entry : c.deref-2.result.now ≡ body 67 (whole_payload shown) ++ 0 ∷ [] = c.deref-2.ensures.value ∙ c.in-Ok-whole_record.ensures.bytes in
+    renew_torn limit shown small c.requires.revision c.requires.writable are fits f s none d c.args.first c.write_anew.new.device first is
+    (subst (λ (l : List ℕ). StandsIn d.seen d.tells_crashes d.may_leave c.write_anew.new.device (IsRewritten s head l)) entry
+    (c.in-Err.ensures.fault s head same second))

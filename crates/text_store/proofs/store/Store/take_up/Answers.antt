@@ -65,3 +65,12 @@ pub returns-in-Ok-renew-clause-any_moment : goal.returns-in-Ok-renew-clause-any_
 returns-in-Ok-renew-clause-any_moment g c f s first second found tell =
     let old = found_older f s c.args.found.image c.args.found.place c.in-Older.limit c.in-Older.is found in
     c.in-Ok-renew.ensures.any_moment f s first second old.0 old.1 tell
+
+pub returns-in-Err-clause-stays : goal.returns-in-Err-clause-stays
+returns-in-Err-clause-stays g c failed f s first second found =
+    c.in-Err.ensures.stays f s c.args.found.image first second (found_in_half f s c.args.found.image c.args.found.place c.in-Half.place c.in-Half.is found)
+
+pub returns-in-Err-renew-clause-stays : goal.returns-in-Err-renew-clause-stays
+returns-in-Err-renew-clause-stays g c failed f s first second found =
+    let old = found_older f s c.args.found.image c.args.found.place c.in-Older.limit c.in-Older.is found in
+    c.in-Err-renew.ensures.stays failed f s first second old.0 old.1
