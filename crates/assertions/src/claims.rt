@@ -23,12 +23,14 @@ pub fn claim(
     balances: &mut Balances,
     posting: &Posting,
 ) -> Result<Option<Fault>, TallyFault>
-    ensures ok { IfOk result (λ fault. (seen : List Posting) → IsBalance seen balances.old.own balances.old.below
+    ensures ok { IfOk result (λ fault. (seen : List Posting)
+        → IsBalance seen balances.old.own balances.old.below
         → is_asked balances.old.own balances.old.below posting.now ≡ true
         → IsClaimed seen posting.now balances.new.own balances.new.below fault) }
     ensures own { IfOk result (λ fault. balances.new.own.1 ≡ balances.old.own.1) }
     ensures below { IfOk result (λ fault. balances.new.below.1 ≡ balances.old.below.1) }
-    ensures range { IfErr result (λ e. IsRange e → (seen : List Posting) → IsBalance seen balances.old.own balances.old.below
+    ensures range { IfErr result (λ e. IsRange e → (seen : List Posting)
+        → IsBalance seen balances.old.own balances.old.below
         → turnover_fits (moved (seen ++ posting.now ∷ [])) ≡ false) }
 {
     match add_posting(alloc, balances, posting) {
@@ -43,7 +45,8 @@ pub fn claim(
 
 /// The fault of a posting's assertion, if it has one that fails.
 fn failure(alloc: Global, balances: &Balances, posting: &Posting) -> Result<Option<Fault>, Memory>
-    ensures { IfOk result (λ fault. (seen : List Posting) → IsBalance seen balances.now.own balances.now.below
+    ensures { IfOk result (λ fault. (seen : List Posting)
+        → IsBalance seen balances.now.own balances.now.below
         → is_asked balances.now.own balances.now.below posting.now ≡ true
         → fault ≡ failure_of seen posting.now posting.now.wanted) }
 {

@@ -1,16 +1,16 @@
 //! Sums of numbers by their symbols, which keep the symbols themselves.
-ghost use Rattle.std.specs.Prelude.{◌≡◌, [], OnOk, IfErr, IsSomeAnd, true, false, List, filter, option_map};
+ghost use Rattle.std.specs.Prelude.{◌≡◌, [], OnOk, IfErr, IsSomeAnd, Some, true, false, List, filter, option_map};
 ghost use Rattle.std.specs.Ordering.{nat_cmp};
 ghost use Rattle.std.specs.Cmp.Lexicographic.{slice_cmp};
 ghost use Rattle.std.specs.FinMap.Entries.{put};
 ghost use Rattle.book.specs.Entries.{held};
-ghost use Rattle.book.specs.Mixed.{fits_with};
-ghost use Rattle.entry_balance.specs.Tally.{are_within, added_to, sums_of, total_of, IsRange};
+ghost use Rattle.book.specs.Mixed.{fits_with, plus};
+ghost use Rattle.entry_balance.specs.Tally.{are_within, is_within, added_to, sums_of, total_of, IsRange};
 ghost use Rattle.entry_balance.specs.Values.{Value};
 ghost use Rattle.assertions.specs.Assertions.{first_of, is_other};
 ghost use Rattle.assertions.specs.Texts.{values_in};
 
-use entry_balance::{TallyFault, sum_with};
+use entry_balance::{TallyFault, checked_sum, sum_with};
 use hl_base::Memory;
 use hl_num::Dec;
 use std::alloc::Global;
@@ -49,8 +49,11 @@ impl Totals {
         ensures within { OnOk result (are_within self.old ≡ true → are_within self.new ≡ true) }
         ensures range { IfErr result (λ e. IsRange e → fits_with (held symbol.now self.old) value ≡ false) }
     {
-        let sum = sum_with(self.held(symbol), value)?;
-        put(alloc, &mut self.sums, symbol, sum)
+        if let Some(sum) = self.sums.get_mut(symbol) {
+            return raise(sum, value);
+        }
+        let sum = sum_with(None, value)?;
+        insert(alloc, &mut self.sums, symbol, sum)
     }
 
     /// The sum of a symbol, zero where none was added.
@@ -90,21 +93,14 @@ fn is_other(other: &str, sum: Dec, symbol: &str) -> bool
     other != symbol && !sum.is_zero()
 }
 
-/// Puts the sum of a symbol in place of the one that stands there, if one does.
-fn put(
-    alloc: Global,
-    sums: &mut BTreeMap<String, Dec>,
-    symbol: &str,
-    sum: Dec,
-) -> Result<(), TallyFault>
-    ensures ok { OnOk result (values_in sums.new.entries ≡ put (slice_cmp nat_cmp) symbol.now sum (values_in sums.old.entries)) }
-    ensures fault { IfErr result (λ e. IsRange e → ⊥) }
+/// Adds a number to a sum.
+fn raise(sum: &mut Dec, value: Dec) -> Result<(), TallyFault>
+    ensures value { OnOk result (sum.new ≡ plus sum.old value) }
+    ensures within { OnOk result (is_within sum.new ≡ true) }
+    ensures fault { IfErr result (λ e. fits_with (Some sum.old) value ≡ false) }
 {
-    if let Some(old) = sums.get_mut(symbol) {
-        *old = sum;
-        return Ok(());
-    }
-    insert(alloc, sums, symbol, sum)
+    *sum = checked_sum(*sum, value)?;
+    Ok(())
 }
 
 /// Inserts the sum of a symbol.
