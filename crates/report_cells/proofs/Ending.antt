@@ -131,12 +131,12 @@ module _ (reach : Reach) (place : Taken → Option ℕ) (mine : Taken → Bool) 
 
 -- ---- rows and totals
 
-none_past : (k : List ℕ) (es : KeptRows) → T (below_all account_cmp k es) → find account_cmp k es ≡ None
+pub none_past : (k : List ℕ) (es : KeptRows) → T (below_all account_cmp k es) → find account_cmp k es ≡ None
 none_past k [] h = refl
 none_past k (e ∷ es) h =
     ap (λ r. cond (is_eq r) (Some e.1) (find account_cmp k es)) (less _ (first _ _ h)) ∙ none_past k es (second _ _ h)
 
-found_first : (k : List ℕ) (row : List Cell) (es : KeptRows) → find account_cmp k ((k, row) ∷ es) ≡ Some row
+pub found_first : (k : List ℕ) (row : List Cell) (es : KeptRows) → find account_cmp k ((k, row) ∷ es) ≡ Some row
 found_first k row es = ap (λ r. cond (is_eq r) (Some row) (find account_cmp k es)) (tied_itself account_total k)
 
 -- what holds of each row that is found holds of all
@@ -152,7 +152,7 @@ all_from_found P (e ∷ es) ordered found = (
 )
 
 -- lists of one length that look alike at each place
-mapped_alike : {A B C : Type 0} (f : A → C) (g : B → C) (a : A) (b : B) (xs : List A) (ys : List B) → length xs ≡ length ys → ((k : ℕ) → k < length ys → f (slice_index_or xs k a) ≡ g (slice_index_or ys k b)) → map f xs ≡ map g ys
+pub mapped_alike : {A B C : Type 0} (f : A → C) (g : B → C) (a : A) (b : B) (xs : List A) (ys : List B) → length xs ≡ length ys → ((k : ℕ) → k < length ys → f (slice_index_or xs k a) ≡ g (slice_index_or ys k b)) → map f xs ≡ map g ys
 mapped_alike f g a b [] [] len each = refl
 mapped_alike f g a b [] (y ∷ ys) len each = absurd (omega (arith, len))
 mapped_alike f g a b (x ∷ xs) [] len each = absurd (omega (arith, len))
@@ -178,7 +178,7 @@ module _ (reach : Reach) (columns : List Span) (f : Follow columns) (ts : List T
       ap (λ (b : Bool). b || list_any (eq_by_cmp account_cmp q) (map (λ (t : Taken). t.account) us)) (tie-account q u.account)
       ∙ ap (λ (b : Bool). bytes_eq u.account q || b) (any_account q us)
 
-  module _ (rows : KeptRows) (totals : List Cell) (h : IsGathered goes (length columns) most rows totals ts) where
+  module _ (rows : KeptRows) (h : IsGathered goes (length columns) most rows ts) where
     abbrev shown : List ℕ → List Sums
     shown account = map (λ column. cell reach ts column account) columns
 
@@ -203,13 +203,6 @@ module _ (reach : Reach) (columns : List Span) (f : Follow columns) (ts : List T
         find-mapped account_cmp (λ (row : List Cell). map seen (finished reach row)) rows q
         ∙ found_row (find account_cmp q rows) q (h.each q)
         ∙ sym (find-made account_ties shown (accounts_in ts) q ∙ ap (λ (b : Bool). cond b (Some (shown q)) None) (contains-each_once account_ties names q ∙ any_account q ts)))
-
-    -- and kept totals its totals
-    pub totals_are : map seen (finished reach totals) ≡ totals_in reach columns ts
-    totals_are = row_shows (λ t. true) totals h.total
-
-    pub totals_finish : FinishFits reach totals
-    totals_finish = finish_fits reach goes (λ t. true) ts (length columns) most small totals h.total
 
     found_fits : (o : Option (List Cell)) (q : List ℕ) → HoldsFound goes (length columns) most o q ts → AllFound (FinishFits reach) o
     found_fits None q found = tt

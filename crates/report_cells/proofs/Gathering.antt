@@ -1,4 +1,4 @@
--- The rows and the totals hold the sums of the takings that were read, and the next can be added.
+-- The rows hold the sums of the takings that were read, and the next can be added.
 use Rattle.std.proofs.Common.{◌≡◌, ℕ, pos, ◌+◌, ◌-◌, ◌*◌, ◌^◌, ◌<◌, ◌≤◌, ◌+ℤ◌, unsigned_abs, Bool, true, false, ◌&&◌, ◌||◌, cond, List, [], ◌∷◌, ◌++◌, filter, replicate, Option, Some, None, IfSome, unwrap_or, inl, inr, refl, sym, ap, subst, ◌∙◌, arith}
 use Rattle.std.specs.Ordering.{is_eq, eq_by_cmp}
 use Rattle.std.specs.List.{list_any}
@@ -61,19 +61,18 @@ module _ (place : Taken → Option ℕ) where
     HoldsFound None account ts = has_account account ts ≡ false
     HoldsFound (Some row) account ts = HoldsRow row width (λ k q. chosen (in_cell account k) q ts) most × (has_account account ts ≡ true)
 
-    pub record IsGathered (rows : KeptRows) (totals : List Cell) (done : List Taken) : Type 0 where
+    pub record IsGathered (rows : KeptRows) (done : List Taken) : Type 0 where
       pub ordered : AreOrdered rows
       pub each : (account : List ℕ) → HoldsFound (find account_cmp account rows) account done
-      pub total : HoldsRow totals width (λ k q. chosen (λ t. is_at k (place t)) q done) most
 
-    pub gathered_none : IsGathered [] (replicate width []) []
-    gathered_none = record { ordered = tt; each = λ account. refl; total = row_none width most }
+    pub gathered_none : IsGathered [] []
+    gathered_none = record { ordered = tt; each = λ account. refl }
 
     found_holds : (o : Option (List Cell)) (account : List ℕ) (ts : List Taken) → HoldsFound o account ts → HoldsRow (unwrap_or o (replicate width [])) width (λ k q. chosen (in_cell account k) q ts) most
     found_holds None account ts h = row_told (replicate width []) width (λ k q. pos 0) (λ k q. chosen (in_cell account k) q ts) most (row_none width most) (λ k lt q. none_chosen account k q ts h)
     found_holds (Some row) account ts h = h.0
 
-    module _ (rows : KeptRows) (totals : List Cell) (done : List Taken) (t : Taken) (h : IsGathered rows totals done) where
+    module _ (rows : KeptRows) (done : List Taken) (t : Taken) (h : IsGathered rows done) where
       here : HoldsRow (row_at width t.account rows) width (λ k q. chosen (in_cell t.account k) q done) most
       here = found_holds (find account_cmp t.account rows) t.account done (h.each t.account)
 
@@ -109,24 +108,17 @@ module _ (place : Taken → Option ℕ) where
         ]
 
         -- one more taking
-        pub gathered_more : IsGathered (row_with width (place t) t rows) (with_placed (place t) t.amount totals) (done ++ t ∷ [])
+        pub gathered_more : IsGathered (row_with width (place t) t rows) (done ++ t ∷ [])
         gathered_more = record {
           ordered = is_sorted-put account_cmp account_total t.account (with_placed (place t) t.amount (row_at width t.account rows)) rows h.ordered;
           each = each_more;
-          total = row_told (with_placed (place t) t.amount totals) width _ (λ k q. chosen (λ t. is_at k (place t)) q (done ++ t ∷ [])) most
-              (row_more totals width (λ k q. chosen (λ t. is_at k (place t)) q done) most h.total t.amount few within (place t))
-              (λ k lt q. chosen-push q (λ t. is_at k (place t)) done t);
         }
 
-        -- the taking at hand can be added to its row and to the totals
+        -- the taking at hand can be added to its row
         module _ (in_row : IfSome (place t) (λ j. j < width)) (small : (q : List ℕ) → turnover_in q done + unsigned_abs (share_in q t.amount) < 2 ^ 127 * 10 ^ (36 - most q)) where
           pub row_fits : PlacedFits (place t) t.amount (row_at width t.account rows)
           row_fits = placed_fits (row_at width t.account rows) width (λ k q. chosen (in_cell t.account k) q done) most here t.amount few within (place t) in_row
               (λ k q. omega (arith, small q, chosen-le q (in_cell t.account k) done))
-
-          pub totals_fit : PlacedFits (place t) t.amount totals
-          totals_fit = placed_fits totals width (λ k q. chosen (λ t. is_at k (place t)) q done) most h.total t.amount few within (place t) in_row
-              (λ k q. omega (arith, small q, chosen-le q (λ t. is_at k (place t)) done))
 
 -- what is left of all takings stays below the bound
 pub next_small : (done rest : List Taken) (t : Taken) → TurnoverFits (done ++ t ∷ rest) → (q : List ℕ) → turnover_in q done + unsigned_abs (share_in q t.amount) < 2 ^ 127 * 10 ^ (36 - places_in q (done ++ t ∷ rest))

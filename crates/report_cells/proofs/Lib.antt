@@ -8,4 +8,5 @@ pub mod Joining
 pub mod Keeping
 pub mod Sizes
 pub mod Standing
+pub mod Totalling
 pub mod Walking

@@ -11,10 +11,10 @@ use Rattle.report_cells.specs.Taken.{Taken, share_in}
 use Rattle.report_cells.specs.Bounds.{turnover_in, places_at, places_in, TurnoverFits}
 use Rattle.report_cells.specs.Places.{place}
 use Rattle.report_cells.specs.declared.reach.Reach.{Reach}
-use Rattle.report_cells.specs.Kept.{Cell, KeptRows, PlacedFits, row_at, row_with, with_placed, merged, MergeFits, running, RunningFits, HasFewPlaces}
+use Rattle.report_cells.specs.Kept.{Cell, KeptRows, PlacedFits, row_at, row_with, merged, MergeFits, running, RunningFits, HasFewPlaces}
 use Rattle.report_cells.specs.Turned.{Turnovers, turned_with}
 use Rattle.report_cells.proofs.Counting.{place-within}
-use Rattle.report_cells.proofs.Gathering.{IsGathered, gathered_more, row_fits, totals_fit, next_small, next_within}
+use Rattle.report_cells.proofs.Gathering.{IsGathered, gathered_more, row_fits, next_small, next_within}
 use Rattle.report_cells.proofs.Sizes.{Sized, sized_none, sized_more}
 
 pub on_ok : {E P Q : Type 0} (r : Result (Unit {0}) E) → (P → Q) → OnOk r P → OnOk r Q
@@ -22,7 +22,7 @@ on_ok (Ok u) f h = f h
 on_ok (Err e) f h = tt
 
 -- what is left of a list
-cut : {A : Type 0} (xs : List A) (i : ℕ) (x : A) → i < length xs → x ≡ get_or xs i x → drop i xs ≡ x ∷ drop (i + 1) xs
+pub cut : {A : Type 0} (xs : List A) (i : ℕ) (x : A) → i < length xs → x ≡ get_or xs i x → drop i xs ≡ x ∷ drop (i + 1) xs
 cut xs i x within read =
     let at : drop i xs ≡ get_or xs i x ∷ drop (i + 1) xs = rw (add-one, drop-cons xs i x) refl in
     at ∙ ap (λ y. y ∷ drop (i + 1) xs) (sym read)
@@ -129,7 +129,7 @@ module _ {A : Type 0} where
   all-at P [] x u h = h.0
   all-at P (y ∷ xs) x u h = all-at P xs x u h.1
 
--- ---- the rows and the totals
+-- ---- the rows
 
 module _ (reach : Reach) (columns : List Span) (ts : List Taken) (fits : TurnoverFits ts) (few : AllByRecursion (λ t. HasFewPlaces t.amount) ts) where
   abbrev goes : Taken → Option ℕ
@@ -138,7 +138,7 @@ module _ (reach : Reach) (columns : List Span) (ts : List Taken) (fits : Turnove
   abbrev most : List ℕ → ℕ
   most q = places_in q ts
 
-  module _ (i : ℕ) (t : Taken) (within : i < length ts) (read : t ≡ get_or ts i t) (rows : KeptRows) (totals : List Cell) (h : IsGathered goes (length columns) most rows totals (take i ts)) where
+  module _ (i : ℕ) (t : Taken) (within : i < length ts) (read : t ≡ get_or ts i t) (rows : KeptRows) (h : IsGathered goes (length columns) most rows (take i ts)) where
     few_here : HasFewPlaces t.amount
     few_here = few_at ts i t within read few
 
@@ -155,20 +155,13 @@ module _ (reach : Reach) (columns : List Span) (ts : List Taken) (fits : Turnove
       row_next width same =
           subst (λ (o : Option ℕ). PlacedFits o t.amount (row_at width t.account rows)) (sym is)
           (subst (λ w. PlacedFits (goes t) t.amount (row_at w t.account rows)) (sym same)
-          (row_fits goes (length columns) most rows totals (take i ts) t h few_here places_here (place-within reach columns t.day) small_here))
+          (row_fits goes (length columns) most rows (take i ts) t h few_here places_here (place-within reach columns t.day) small_here))
 
-      pub totals_next : PlacedFits at t.amount totals
-      totals_next =
-          subst (λ (o : Option ℕ). PlacedFits o t.amount totals) (sym is)
-          (totals_fit goes (length columns) most rows totals (take i ts) t h few_here places_here (place-within reach columns t.day) small_here)
-
-      pub gathered_next : (width : ℕ) → width ≡ length columns → (new_rows : KeptRows) → new_rows ≡ row_with width at t rows → (new_totals : List Cell) → new_totals ≡ with_placed at t.amount totals → IsGathered goes (length columns) most new_rows new_totals (take (i + 1) ts)
-      gathered_next width same new_rows rows_is new_totals totals_is =
+      pub gathered_next : (width : ℕ) → width ≡ length columns → (new_rows : KeptRows) → new_rows ≡ row_with width at t rows → IsGathered goes (length columns) most new_rows (take (i + 1) ts)
+      gathered_next width same new_rows rows_is =
           let done : take (i + 1) ts ≡ take i ts ++ t ∷ [] = take_more ts i t within ∙ ap (λ x. take i ts ++ x ∷ []) (sym read) in
           let of_rows : new_rows ≡ row_with (length columns) (goes t) t rows =
           rows_is ∙ ap (λ w. row_with w at t rows) same ∙ ap (λ (o : Option ℕ). row_with (length columns) o t rows) is in
-          let of_totals : new_totals ≡ with_placed (goes t) t.amount totals = totals_is ∙ ap (λ (o : Option ℕ). with_placed o t.amount totals) is in
-          subst (λ (r : KeptRows). IsGathered goes (length columns) most r new_totals (take (i + 1) ts)) (sym of_rows)
-          (subst (λ (c : List Cell). IsGathered goes (length columns) most (row_with (length columns) (goes t) t rows) c (take (i + 1) ts)) (sym of_totals)
-          (subst (IsGathered goes (length columns) most (row_with (length columns) (goes t) t rows) (with_placed (goes t) t.amount totals)) (sym done)
-          (gathered_more goes (length columns) most rows totals (take i ts) t h few_here places_here)))
+          subst (λ (r : KeptRows). IsGathered goes (length columns) most r (take (i + 1) ts)) (sym of_rows)
+          (subst (IsGathered goes (length columns) most (row_with (length columns) (goes t) t rows)) (sym done)
+          (gathered_more goes (length columns) most rows (take i ts) t h few_here places_here))

@@ -1,5 +1,5 @@
 -- Sums that are kept while takings are read, one after another.
-use Rattle.std.specs.Prelude.{ℕ, ◌<◌, ◌≤◌, List, [], ◌∷◌, length, replicate, set, slice_index_or, Option, Some, None, unwrap_or, IsTrue, T}
+use Rattle.std.specs.Prelude.{ℕ, zero, suc, ◌<◌, ◌≤◌, List, [], ◌∷◌, ◌++◌, map, length, replicate, set, slice_index_or, Option, Some, None, unwrap_or, IsTrue, T}
 use Rattle.std.specs.FinMap.Entries.{find, put, is_sorted}
 use Rattle.hl_num.specs.Decimal.{Decimal}
 use Rattle.book.specs.Accounts.{account_cmp}
@@ -100,3 +100,24 @@ FinishFits UpTo row = RunningFits [] row
 -- the row of an account
 abbrev pub finished_row : Reach → List ℕ × List (List (List ℕ × Decimal)) → CellRow
 finished_row reach row = record { account = row.0; cells = finished reach row.1 }
+
+-- ---- totals
+
+-- the cells of a column, row by row
+abbrev pub column_of : ℕ → List CellRow → List Cell
+column_of at rows = map (λ row. cell_at row.cells at) rows
+
+-- sums after those of each of some cells
+abbrev pub merged_each : Cell → List Cell → Cell
+merged_each sums [] = sums
+merged_each sums (cell ∷ cells) = merged_each (merged sums cell) cells
+
+-- each of some cells can be added
+abbrev pub EachFits : Cell → List Cell → Type 0
+EachFits sums [] = Unit {0}
+EachFits sums (cell ∷ cells) = MergeFits sums cell × EachFits (merged sums cell) cells
+
+-- the sums of so many columns over all rows
+abbrev pub column_totals : ℕ → List CellRow → List Cell
+column_totals zero rows = []
+column_totals (suc n) rows = column_totals n rows ++ merged_each [] (column_of n rows) ∷ []

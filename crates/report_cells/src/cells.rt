@@ -15,6 +15,7 @@ use crate::reach::Reach;
 use crate::row::Row;
 use crate::running::finished;
 use crate::taking::Taking;
+use crate::totals::totals_of;
 use crate::turnover::check_range;
 use book::Mixed;
 use hl_base::{List, Memory, Text};
@@ -37,7 +38,8 @@ pub struct Cells {
     pub totals: List<Mixed>,
 }
 
-/// The sums of takings by account and column. `Range` names the least symbol whose amounts are too large.
+/// The sums of takings by account and column. The totals are summed from the rows, since those of all accounts go through
+/// zero at each entry. `Range` names the least symbol whose amounts are too large.
 pub fn make_cells(
     alloc: Global,
     takings: &[Taking],
@@ -52,15 +54,15 @@ pub fn make_cells(
     ensures fault { IfErr result (IsFault takings.now) }
 {
     check_range(alloc, takings)?;
+    let width = columns.len();
     let mut rows = BTreeMap::new(alloc);
-    let mut totals = Row::empty(alloc, columns.len())?;
     for taking in takings {
         let place = place_of(columns.as_slice(), reach, taking.day);
-        add_taking(alloc, &mut rows, columns.len(), place, taking)?;
-        totals.add(alloc, place, &taking.amount)?;
+        add_taking(alloc, &mut rows, width, place, taking)?;
     }
     let rows = cell_rows(alloc, rows, reach)?;
-    let totals = finished(alloc, totals, reach)?;
+    let shown = rows.as_slice();
+    let totals = totals_of(alloc, shown, width)?;
     Ok(Cells {
         columns,
         rows,

@@ -38,7 +38,7 @@ fn is_shared(left: &[u8], right: &[u8], at: usize) -> bool
     requires right { at + 8 ≤ length right.now }
     ensures { IsTrue result → take 8 (drop at left.now) ≡ take 8 (drop at right.now) }
 {
-    left[at..at + STEP] == right[at..at + STEP]
+    left[at..].starts_with(&right[at..at + STEP])
 }
 
 /// The same of what follows a front that they share.

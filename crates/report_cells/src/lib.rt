@@ -12,6 +12,7 @@ mod row;
 mod running;
 mod symbol_key;
 pub mod taking;
+mod totals;
 mod turnover;
 
 pub use cells::{CellRow, Cells, make_cells};

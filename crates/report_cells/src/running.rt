@@ -45,7 +45,7 @@ fn copied(alloc: Global, sums: &Mixed) -> Result<Mixed, Memory>
 }
 
 /// Adds each of some sums to others.
-fn add_sums(alloc: Global, sums: &mut Mixed, more: &Mixed) -> Result<(), Memory>
+pub(crate) fn add_sums(alloc: Global, sums: &mut Mixed, more: &Mixed) -> Result<(), Memory>
     requires { MergeFits sums.old more.now }
     ensures { OnOk result (sums.new ≡ merged sums.old more.now) }
 {

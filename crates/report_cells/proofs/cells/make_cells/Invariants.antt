@@ -5,4 +5,4 @@ use Rattle.report_cells.proofs.Gathering.{IsGathered}
 use Rattle.report_cells.proofs.cells.make_cells.Given as goal
 
 abbrev pub invariant-loop-taking : goal.invariant-loop-taking
-invariant-loop-taking l = IsGathered (λ t. place l.reach l.fn.columns t.day) (length l.fn.columns) (λ q. places_in q l.takings) l.rows.entries l.totals (take l.taking-index l.takings)
+invariant-loop-taking l = IsGathered (λ t. place l.reach l.fn.columns t.day) (length l.fn.columns) (λ q. places_in q l.takings) l.rows.entries (take l.taking-index l.takings)
