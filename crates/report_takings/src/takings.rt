@@ -77,6 +77,9 @@ fn take_kept<'a>(
     take_entries(alloc, scope, &entries)
 }
 
+/// How many postings most transactions have. A list of takings that grows is copied on the way.
+const USUAL_POSTINGS: usize = 2;
+
 /// What is taken for their amounts, as they are written, of the postings that are kept for these.
 fn take_written<'a>(
     alloc: Global,
@@ -88,7 +91,8 @@ fn take_written<'a>(
         (filter (spec.is_kept Counted (question_of scope.now) shown) (entries (question_of scope.now)))) }
 {
     let mut search = scope.query.search(alloc)?;
-    let mut takings = Vec::new(alloc);
+    let count = scope.book.txns.len().saturating_mul(USUAL_POSTINGS);
+    let mut takings = Vec::with_capacity(alloc, count)?;
     for txn in scope.book.txns.as_slice() {
         take_all(&mut search, scope, shown, txn, &mut takings)?;
     }
