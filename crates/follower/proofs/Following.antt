@@ -35,7 +35,7 @@ one_after (suc n) start (change ∷ changes) a b x y =
     one_after n x.0 changes a b x.2 (subst (λ (i : Image). IsAfter i n changes b) (some_one (edited start change) y.0 x.0 y.1 x.1) y.2)
 
 -- each change raises the revision by one
-counted : (n : ℕ) (start : Image) (changes : List Change) (shown : Image) → IsAfter start n changes shown → shown.revision ≡ start.revision + n
+pub counted : (n : ℕ) (start : Image) (changes : List Change) (shown : Image) → IsAfter start n changes shown → shown.revision ≡ start.revision + n
 counted zero start changes shown x = let e : shown.revision ≡ start.revision = ap (λ (i : Image). i.revision) x in omega (arith, e)
 counted (suc n) start [] shown x = absurd x
 counted (suc n) start (change ∷ changes) shown x =
@@ -44,7 +44,7 @@ counted (suc n) start (change ∷ changes) shown x =
     omega (arith, rest, first)
 
 -- a C gives its image
-snapshot_is : (shown : Image) (frame : Frame) → IsSnapshot shown frame → frame.revision ≡ shown.revision → shown.revision ≤ 2 ^ 62 → snapshot frame ≡ Some shown
+pub snapshot_is : (shown : Image) (frame : Frame) → IsSnapshot shown frame → frame.revision ≡ shown.revision → shown.revision ≤ 2 ^ 62 → snapshot frame ≡ Some shown
 snapshot_is shown frame is revision small =
     within_is frame.revision (checkpointed frame.payload) (omega (arith, revision, small))
     ∙ (λ i. at_revision (revision i) ((ap checkpointed is.payload ∙ whole_reads shown is.writable is.states) i))
@@ -55,7 +55,7 @@ no_snapshot (Whole text) is = let e : 84 ≡ 67 = is in omega (arith, e)
 no_snapshot (Import state part) is = let e : 73 ≡ 67 = is in omega (arith, e)
 
 -- a record gives the image that its change leads to
-record_is : (before shown : Image) (change : Change) (frame : Frame) → IsRecord change frame → edited before change ≡ Some shown → frame.revision ≡ before.revision + 1 → frame.revision ≤ 2 ^ 62
+pub record_is : (before shown : Image) (change : Change) (frame : Frame) → IsRecord change frame → edited before change ≡ Some shown → frame.revision ≡ before.revision + 1 → frame.revision ≤ 2 ^ 62
     → image_after before frame ≡ Some shown
 record_is before shown change frame is made next small =
     after_change before frame (λ kind. no_snapshot change (sym is.kind ∙ kind))
