@@ -1,3 +1,4 @@
 pub mod Genuine
 pub mod Tallies
 pub mod Walks
+pub mod Whole

@@ -2,6 +2,7 @@
 ghost use Rattle.std.specs.Prelude.{◌<◌, ◌^◌, IfErr};
 ghost use Rattle.follow_commands.specs.Walks.{Follows, IfFailed, OneIsAccepted, StepsOn};
 ghost use Rattle.follow_commands.specs.Genuine.{LeadsOn};
+ghost use Rattle.follow_commands.specs.Whole.{CatchesUp};
 
 use crate::tally::Tally;
 use follower::{Accepted, FollowFault, Follower, Frame, FrameFault, next_frame};
@@ -84,6 +85,9 @@ pub fn follow_source<J: Source, D: Disk>(
 
     // Over frames of one history, in any cutting into reads, a follower that has an image of it has one that isn't earlier.
     ensures genuine { LeadsOn (J.left source.old) follower.old.image follower.new.image }
+
+    // Over all frames of a history in their order, one that has an image of it, or one from before it, has the last one at Ok.
+    ensures whole { CatchesUp (J.left source.old) follower.old.image follower.new.image result }
 {
     follow_all(alloc, source, follower, tally)
 }
