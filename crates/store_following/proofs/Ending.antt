@@ -1,13 +1,16 @@
 -- What two disks hold at the end of a source that they followed.
-use Rattle.std.proofs.Common.{◌≡◌, ◌≢◌, ◌⊎◌, inl, inr, ⊎_elim, ℕ, ◌+◌, ◌^◌, ◌<◌, ◌≤◌, Bool, true, false, List, [], ◌∷◌, ◌++◌, Option, Some, None, IfSome, IfErr, IfOk, OnOk, Result, Ok, Err, sym, ◌∙◌, ap, subst, arith}
+use Rattle.std.proofs.Common.{◌≡◌, ◌≢◌, ◌⊎◌, inl, inr, ⊎_elim, ℕ, ◌+◌, ◌^◌, ◌<◌, ◌≤◌, Bool, true, false, List, [], ◌∷◌, ◌++◌, length, Option, Some, None, IfSome, IfErr, IfOk, OnOk, Result, Ok, Err, refl, sym, ◌∙◌, ap, subst, arith}
 use Rattle.hl_base.specs.Causes.{Rose}
 use Rattle.hl_base.specs.declared.disk.Disk.{Ghosts as Disks}
 use Rattle.hl_base.specs.declared.outside.Source.{Ghosts as Sources}
 use Rattle.text_store.specs.declared.change.Change.{Change}
+use Rattle.text_store.specs.declared.fault.StoreFault.{StoreFault}
 use Rattle.text_store.specs.declared.fault.StoreFault.TheVariants as store_fault
 use Rattle.text_store.specs.declared.image.Image.{Image}
 use Rattle.text_store.specs.declared.store.Store.{Store}
+use Rattle.text_store.specs.Edits.{whole_size}
 use Rattle.text_store.specs.Image.{NoImage, chosen, image, image_of}
+use Rattle.text_store.specs.Refusals.{CreateRefused, OpenRefused}
 use Rattle.text_store.specs.Stores.{Tell, disks, fault_count, IsTornInUse, IsTornBeside}
 use Rattle.text_store.proofs.HalfImages.{either_image}
 use Rattle.text_store.proofs.Holding.{led as leads_shown, live_empty, of_either, whole_front}
@@ -16,6 +19,7 @@ use Rattle.follower.specs.Accepting.{MakingRefused, OpeningRefused}
 use Rattle.follower.specs.Fills.{NextRefused}
 use Rattle.follower.specs.Heads.{BeginsWith}
 use Rattle.follower.specs.Histories.{IsAfter}
+use Rattle.follower.specs.Images.{snapshot}
 use Rattle.follower.specs.Stands.{Stands}
 use Rattle.follower.specs.declared.fault.FollowFault.{FollowFault}
 use Rattle.follower.specs.declared.fault.FollowFault.TheVariants as fault
@@ -23,13 +27,15 @@ use Rattle.follower.specs.declared.fault.FrameFault.{FrameFault}
 use Rattle.follower.specs.declared.fault.FrameFault.TheVariants as frame_fault
 use Rattle.follower.specs.declared.follower.Follower.{Follower}
 use Rattle.follower.specs.declared.frame.Frame.{Frame}
-use Rattle.follower.proofs.Following.{begins as begins_at}
-use Rattle.follow_commands.specs.Genuine.{AreOfOne, bytes_of_all}
-use Rattle.follow_commands.specs.Walks.{IfFailed}
+use Rattle.follower.proofs.Following.{begins as begins_at, snapshot_is, some_one}
+use Rattle.follow_commands.specs.Genuine.{HasFrames, bytes_of_all}
+use Rattle.follow_commands.specs.Walks.{Follows, IfFailed}
+use Rattle.follow_commands.specs.Whole.{HasAll, IsBehind}
 use Rattle.follow_commands.specs.declared.following.Stop.{Stop}
 use Rattle.follow_commands.specs.declared.following.Stop.TheVariants.{Unread, Refused}
 use Rattle.follow_commands.specs.declared.tally.Tally.{Tally}
-use Rattle.follow_commands.proofs.Joining.{first_of}
+use Rattle.follow_commands.proofs.CatchingUp.{State, caught_up, records_count}
+use Rattle.follow_commands.proofs.Joining.{first_of, same_frame, same_rest}
 use Rattle.store_text.specs.Reading.{ReadAs}
 use Rattle.store_text.specs.declared.refusal.StoreRefusal.{StoreRefusal}
 use Rattle.store_text.specs.declared.refusal.StoreRefusal.TheVariants as store_refusal
@@ -57,7 +63,7 @@ followed_as f = Ok f
 pub frame_found : (o : Option Frame) → found_as o ≢ Err frame_fault.ReadFault
 frame_found o e = cc
 
-not_both : (f : Followed) (r : FollowRefusal) → followed_as f ≡ refused r → ⊥
+pub not_both : (f : Followed) (r : FollowRefusal) → followed_as f ≡ refused r → ⊥
 not_both f r e = cc
 
 unread_store : (a : FrameFault) (b : StoreRefusal) → refused (refusal.Unread a) ≡ refused (refusal.Store b) → ⊥
@@ -152,118 +158,198 @@ pub record IsReached (start : Image) (changes : List Change) (end : Image) (n : 
   pub revision : end.revision ≡ start.revision + count
   pub after : IsAfter start count changes end
 
--- what disks hold that read as these files before and followed a source to its end
-pub record AtEnd {J D : Type 0} (i : Sources J) (g : Disks D) (source : J) (first second : List ℕ) (old new : D × D) (followed : Followed) : Type 0 where
+-- two files are empty, or have an image of a history, or one from before it
+abbrev pub IsEarlier : List ℕ → List ℕ → Image → List Change → Type 0
+IsEarlier first second start changes = ((first ≡ []) × (second ≡ [])) ⊎ ((shown : Image) × (image first second ≡ Ok shown) × IsBehind start changes shown)
+
+-- what disks hold that read as these files before and followed a source to its end or to a refusal
+pub record AtEnd {J D : Type 0} (i : Sources J) (g : Disks D) (source : J) (first second : List ℕ) (old new : D × D) (result : Result Followed FollowRefusal) : Type 0 where
   pub end : Follower D g
   pub closed : new ≡ disks end.store
   pub stands : Stands end.store end.image None
-  pub revision : end.image.revision ≡ followed.revision
+  pub revision : IfOk result (λ f. end.image.revision ≡ f.revision)
   pub tells : Tell g old → Tell g new
-  pub begins : first ≡ [] → second ≡ [] → (start : Image) (changes : List Change) (frames : List Frame) → i.left source ≡ Some (bytes_of_all frames)
-      → AreOfOne start changes frames → IsReached start changes end.image 0
-  pub goes_on : (start : Image) (changes : List Change) (frames : List Frame) (n : ℕ) (shown : Image) → i.left source ≡ Some (bytes_of_all frames)
-      → AreOfOne start changes frames → image first second ≡ Ok shown → IsAfter start n changes shown → IsReached start changes end.image n
+  pub begins : first ≡ [] → second ≡ [] → (start : Image) (changes : List Change) → HasFrames (i.left source) start changes → IsReached start changes end.image 0
+  pub goes_on : (start : Image) (changes : List Change) (n : ℕ) (shown : Image) → HasFrames (i.left source) start changes → image first second ≡ Ok shown
+      → IsAfter start n changes shown → IsReached start changes end.image n
+  pub whole : (last : Image) (all : HasAll (i.left source) last) → IsEarlier first second all.start all.changes → OnOk result (end.image ≡ last)
 
-abbrev IsFollowed : Result Followed FollowRefusal → Type 0
-IsFollowed (Ok x) = Unit {0}
-IsFollowed (Err r) = ⊥
+-- or none was followed, and they read as before
+pub record StaysAs {D : Type 0} (g : Disks D) (first second : List ℕ) (new : D × D) (result : Result Followed FollowRefusal) : Type 0 where
+  pub is_first : g.seen new.0 ≡ Some first
+  pub is_second : g.seen new.1 ≡ Some second
+  pub refused_for : (f : Followed) → result ≢ Ok f
 
-told_revision : (done : Result (Unit {0}) Stop) (revision : ℕ) (tally : Tally) (f : Followed) → followed_as f ≡ told_of done revision tally → revision ≡ f.revision
-told_revision (Ok u) revision tally f e = sym (ap of e)
-  where
-    of : Result Followed FollowRefusal → ℕ
-    of (Ok x) = x.revision
-    of (Err r) = 0
-told_revision (Err stop) revision tally f e = absurd (subst IsFollowed e tt)
+abbrev pub Ended : {J D : Type 0} → Sources J → Disks D → J → List ℕ → List ℕ → D × D → D × D → Result Followed FollowRefusal → Type 0
+Ended i g source first second old new result = StaysAs g first second new result ⊎ AtEnd i g source first second old new result
+
+abbrev disk_fault : FollowRefusal
+disk_fault = refusal.Store store_refusal.DiskFault
+
+told_revision : (done : Result (Unit {0}) Stop) (revision : ℕ) (tally : Tally) → IfOk (told_of done revision tally) (λ f. revision ≡ f.revision)
+told_revision (Ok u) revision tally = refl
+told_revision (Err stop) revision tally = tt
 
 module _ {J D : Type 0} (i : Sources J) (g : Disks D) where
-  module _ (source source_then : J) (from : Follower D g) (tally : Tally) (back : D × D) (f : Followed)
-      (led : IsLed i g source source_then from tally back (followed_as f)) (stands : Stands from.store from.image None) where
-    led_stands : Stands led.end.store led.end.image None
-    led_stands = led.rests stands (λ e. not_both f (refusal.Store store_refusal.DiskFault) e)
+  module _ (source source_then : J) (from : Follower D g) (tally : Tally) (back : D × D) (result : Result Followed FollowRefusal)
+      (led : IsLed i g source source_then from tally back result) where
+    led_revision : IfOk result (λ f. led.end.image.revision ≡ f.revision)
+    led_revision =
+        subst (λ (r : Result Followed FollowRefusal). IfOk r (λ f. led.end.image.revision ≡ f.revision)) (sym led.told) (told_revision led.done led.end.image.revision led.tally)
 
-    led_revision : led.end.image.revision ≡ f.revision
-    led_revision = told_revision led.done led.end.image.revision led.tally f led.told
-
-    led_genuine : (start : Image) (changes : List Change) (frames : List Frame) (n : ℕ) → i.left source ≡ Some (bytes_of_all frames) → AreOfOne start changes frames
-        → IsAfter start n changes from.image → IsReached start changes led.end.image n
-    led_genuine start changes frames n left are after =
-        let on = led.genuine start changes n frames left are after in
+    led_genuine : (start : Image) (changes : List Change) (n : ℕ) → HasFrames (i.left source) start changes → IsAfter start n changes from.image
+        → IsReached start changes led.end.image n
+    led_genuine start changes n has after =
+        let on = led.genuine start changes n has after in
         record { count = on.0; later = on.1; revision = on.2; after = on.4 }
 
-  module _ (source source_then : J) (first second : List ℕ) (old new : D × D) (limit : ℕ) (f : Followed) (is_first : g.seen old.0 ≡ Some first) (is_second : g.seen old.1 ≡ Some second)
-      (telling : D × D) (tells_old : Tell g telling → Tell g old) where
+    led_whole : (last : Image) → last.revision ≤ 2 ^ 62 → (frames : List Frame) → i.left source ≡ Some (bytes_of_all frames) → State last from.image frames
+        → OnOk result (led.end.image ≡ last)
+    led_whole last small frames left state = by_done led.done led.follows led.told
+      where
+        by_done : (done : Result (Unit {0}) Stop) → Follows i g source source_then from led.end tally led.tally done → result ≡ told_of done led.end.image.revision led.tally
+            → OnOk result (led.end.image ≡ last)
+        by_done (Ok u) follows told =
+            subst (λ (r : Result Followed FollowRefusal). OnOk r (led.end.image ≡ last)) (sym told)
+            (caught_up last small i source source_then from led.end tally led.tally u follows frames left state)
+        by_done (Err stop) follows told = subst (λ (r : Result Followed FollowRefusal). OnOk r (led.end.image ≡ last)) (sym told) tt
+
+  module _ (source source_then : J) (first second : List ℕ) (old new : D × D) (limit : ℕ) (result : Result Followed FollowRefusal) (unlike : result ≢ refused disk_fault)
+      (is_first : g.seen old.0 ≡ Some first) (is_second : g.seen old.1 ≡ Some second) (telling : D × D) (tells_old : Tell g telling → Tell g old) where
     made_ends : (begun mid : J) (frame : Frame) → frame.revision < 2 ^ 64
         → IfSome (i.left begun) (λ bytes. (rest : List ℕ) × (i.left mid ≡ Some rest) × BeginsWith bytes (Some frame) rest)
-        → IsMade i g frame mid source_then old new limit (followed_as f) → AtEnd i g begun first second telling new f
+        → IsMade i g frame mid source_then old new limit result → AtEnd i g begun first second telling new result
     made_ends begun mid frame small told made =
         let here = made.stands first second is_first is_second in
         record {
           end = made.leads.end;
           closed = made.leads.closed;
-          stands = led_stands mid source_then made.made first_frame new f made.leads here.2;
-          revision = led_revision mid source_then made.made first_frame new f made.leads here.2;
+          stands = made.leads.rests here.2 unlike;
+          revision = led_revision mid source_then made.made first_frame new result made.leads;
           tells = λ tell.
               let before = tells_old tell in
               made.leads.tells (
                 tells_still (g.tells_crashes (disks made.made.store).0) (g.tells_crashes old.0) made.keeps.tells_first before.0,
                 tells_still (g.tells_crashes (disks made.made.store).1) (g.tells_crashes old.1) made.keeps.tells_second before.1,
               );
-          begins = λ _ _ start changes frames left are.
-              let t : (rest : List ℕ) × (i.left mid ≡ Some rest) × BeginsWith (bytes_of_all frames) (Some frame) rest =
-              subst (λ (o : Option (List ℕ)). IfSome o (λ bytes. (rest : List ℕ) × (i.left mid ≡ Some rest) × BeginsWith bytes (Some frame) rest)) left told in
+          begins = λ _ _ start changes has.
+              let t : (rest : List ℕ) × (i.left mid ≡ Some rest) × BeginsWith (bytes_of_all has.frames ++ has.rest) (Some frame) rest =
+              subst (λ (o : Option (List ℕ)). IfSome o (λ bytes. (rest : List ℕ) × (i.left mid ≡ Some rest) × BeginsWith bytes (Some frame) rest)) has.told told in
               let b = t.2 in
-              let one = first_of start changes frame t.0 frames small (omega (arith, b.1)) (sym b.2) are in
+              let one = first_of start changes has.rest has.ends frame t.0 has.frames small b.0 b.1 (sym b.2) has.are in
               let at = begins_at start changes frame made.made.image one.3 made.kind made.image_is in
-              let reached = led_genuine mid source_then made.made first_frame new f made.leads here.2 start changes one.0 at.0
-              (t.1 ∙ ap (λ (l : List ℕ). Some l) one.1) one.2 at.1 in
+              let reached = led_genuine mid source_then made.made first_frame new result made.leads start changes at.0
+              (record { frames = one.0; rest = has.rest; told = t.1 ∙ ap (λ (l : List ℕ). Some l) one.1; ends = has.ends; are = one.2 }) at.1 in
               record { count = reached.count; later = omega arith; revision = reached.revision; after = reached.after };
-          goes_on = λ start changes frames n shown left are is after. absurd (no_image shown first second here.0 here.1 is);
+          goes_on = λ start changes n shown has is after. absurd (no_image shown first second here.0 here.1 is);
+          whole = λ last all earlier.
+              let t : (rest : List ℕ) × (i.left mid ≡ Some rest) × BeginsWith (bytes_of_all (all.first ∷ all.others)) (Some frame) rest =
+              subst (λ (o : Option (List ℕ)). IfSome o (λ bytes. (rest : List ℕ) × (i.left mid ≡ Some rest) × BeginsWith bytes (Some frame) rest)) all.told told in
+              let b = t.2 in
+              let within : all.start.revision ≤ 2 ^ 62 = omega (arith, records_count all.changes all.others all.start last all.are_records, all.within) in
+              let small_then : all.first.revision < 2 ^ 64 = omega (arith, all.is_first.revision, within) in
+              let short : length frame.payload < 2 ^ 64 = omega (arith, b.1) in
+              let same : all.first ≡ frame = same_frame frame all.first t.0 (bytes_of_all all.others) (sym b.2) small small_then short all.is_first.fits in
+              let rest : t.0 ≡ bytes_of_all all.others = same_rest frame all.first t.0 (bytes_of_all all.others) (sym b.2) small small_then short all.is_first.fits in
+              let begun_at : made.made.image ≡ all.start =
+              some_one (snapshot all.first) made.made.image all.start (ap snapshot same ∙ made.image_is)
+              (snapshot_is all.start all.first all.is_first.snapshot all.is_first.revision within) in
+              led_whole mid source_then made.made first_frame new result made.leads last all.within all.others (t.1 ∙ ap (λ (l : List ℕ). Some l) rest)
+              (inr (record { from = all.start; changes = all.changes; n = 0; are = all.are_records; after = begun_at }));
         }
 
-    opened_ends : IsOpened i g source source_then old new (followed_as f) → AtEnd i g source first second telling new f
+    opened_ends : IsOpened i g source source_then old new result → AtEnd i g source first second telling new result
     opened_ends opened =
         let here = opened.stands first second is_first is_second in
         let keeps = opened.keeps first second is_first is_second in
         record {
           end = opened.leads.end;
           closed = opened.leads.closed;
-          stands = led_stands source source_then opened.opened no_frame new f opened.leads here.1;
-          revision = led_revision source source_then opened.opened no_frame new f opened.leads here.1;
+          stands = opened.leads.rests here.1 unlike;
+          revision = led_revision source source_then opened.opened no_frame new result opened.leads;
           tells = λ tell.
               let before = tells_old tell in
               opened.leads.tells (
                 tells_still (g.tells_crashes (disks opened.opened.store).0) (g.tells_crashes old.0) keeps.tells_first before.0,
                 tells_still (g.tells_crashes (disks opened.opened.store).1) (g.tells_crashes old.1) keeps.tells_second before.1,
               );
-          begins = λ no_first no_second start changes frames left are. absurd (no_image opened.opened.image first second no_first no_second here.0);
-          goes_on = λ start changes frames n shown left are is after.
-              led_genuine source source_then opened.opened no_frame new f opened.leads here.1 start changes frames n left are
+          begins = λ no_first no_second start changes has. absurd (no_image opened.opened.image first second no_first no_second here.0);
+          goes_on = λ start changes n shown has is after.
+              led_genuine source source_then opened.opened no_frame new result opened.leads start changes n has
               (subst (λ (x : Image). IsAfter start n changes x) (one_image shown opened.opened.image first second is here.0) after);
+          whole = λ last all earlier.
+              let behind = ⊎_elim (λ empty. absurd (no_image opened.opened.image first second empty.0 empty.1 here.0))
+              (λ there. subst (λ (x : Image). IsBehind all.start all.changes x) (one_image there.0 opened.opened.image first second there.1 here.0) there.2) earlier in
+              led_whole source source_then opened.opened no_frame new result opened.leads last all.within (all.first ∷ all.others) all.told
+              (inl (record { start = all.start; changes = all.changes; is_first = all.is_first; are = all.are_records; behind = behind }));
         }
+
+    -- what a refusal before the first frame leaves
+    stays_as : (r : FollowRefusal) → result ≡ refused r → (g.seen new.0 ≡ Some first) × (g.seen new.1 ≡ Some second) → StaysAs g first second new result
+    stays_as r told reads = record { is_first = reads.0; is_second = reads.1; refused_for = λ f e. not_both f r (sym e ∙ told) }
+
+    same_reads : new ≡ old → (g.seen new.0 ≡ Some first) × (g.seen new.1 ≡ Some second)
+    same_reads same = (ap (λ (d : D × D). g.seen d.0) same ∙ is_first, ap (λ (d : D × D). g.seen d.1) same ∙ is_second)
+
+    not_disk : (e : FollowFault) → result ≡ refused (of_fault e) → of_fault e ≢ disk_fault
+    not_disk e told is = unlike (told ∙ ap (λ (r : FollowRefusal). refused r) is)
+
+    uncreated : (size : ℕ) (cause : StoreFault) → CreateRefused g old new size limit cause → of_fault (fault.Store cause) ≢ disk_fault
+        → (g.seen new.0 ≡ Some first) × (g.seen new.1 ≡ Some second)
+    uncreated size store_fault.DiskFault why other = absurd (other refl)
+    uncreated size (store_fault.Full told most) why other = same_reads why.3
+    uncreated size (store_fault.Exists len) why other = (why.3.0 ∙ is_first, why.3.1 ∙ is_second)
+    uncreated size store_fault.Memory why other = same_reads why
+    uncreated size (store_fault.NotAStore at) why other = absurd why
+    uncreated size (store_fault.Newer version) why other = absurd why
+
+    unmade_reads : (frame : Frame) (e : FollowFault) → MakingRefused g old new frame limit e → of_fault e ≢ disk_fault
+        → (g.seen new.0 ≡ Some first) × (g.seen new.1 ≡ Some second)
+    unmade_reads frame (fault.Store cause) why other = uncreated (whole_size why.1.0) cause why.1.2 other
+    unmade_reads frame (fault.NotASnapshot kind) why other = same_reads why.2
+    unmade_reads frame (fault.BadPayload revision) why other = same_reads why.3
+    unmade_reads frame fault.Memory why other = same_reads why.1
+
+    unopened_store : (cause : StoreFault) → OpenRefused g old new cause → of_fault (fault.Store cause) ≢ disk_fault
+        → (g.seen new.0 ≡ Some first) × (g.seen new.1 ≡ Some second)
+    unopened_store store_fault.DiskFault why other = absurd (other refl)
+    unopened_store (store_fault.NotAStore at) why other = (why.1.0 ∙ is_first, why.1.1 ∙ is_second)
+    unopened_store (store_fault.Newer version) why other = (why.1.0 ∙ is_first, why.1.1 ∙ is_second)
+    unopened_store store_fault.Memory why other = (why.0 ∙ is_first, why.1 ∙ is_second)
+    unopened_store (store_fault.Full told most) why other = absurd why
+    unopened_store (store_fault.Exists len) why other = absurd why
+
+    unopened_reads : (e : FollowFault) → OpeningRefused g old new e → of_fault e ≢ disk_fault → (g.seen new.0 ≡ Some first) × (g.seen new.1 ≡ Some second)
+    unopened_reads (fault.Store cause) why other = unopened_store cause why.0 other
+    unopened_reads fault.Memory why other = (why.0 ∙ is_first, why.1 ∙ is_second)
+    unopened_reads (fault.NotASnapshot kind) why other = absurd why
+    unopened_reads (fault.BadPayload revision) why other = absurd why
 
     starts_ends : (found : Result (Option Frame) FrameFault) (mid : J)
         → IfOk found (λ frame. IfSome (i.left source) (λ bytes. (rest : List ℕ) × (i.left mid ≡ Some rest) × BeginsWith bytes frame rest))
-        → StartsWith i g found mid source_then old new limit (followed_as f) → AtEnd i g source first second telling new f
+        → StartsWith i g found mid source_then old new limit result → Ended i g source first second telling new result
     starts_ends (Ok (Some frame)) mid told starts =
-        ⊎_elim (made_ends source mid frame starts.0 told) (λ unmade. absurd (not_both f (of_fault unmade.fault) unmade.told)) starts.1
-    starts_ends (Ok None) mid told starts = absurd (not_both f refusal.NoSnapshot starts.2)
-    starts_ends (Err e) mid told starts = absurd (not_both f (refusal.Unread e) starts.2)
+        ⊎_elim (λ made. inr (made_ends source mid frame starts.0 told made))
+        (λ unmade. inl (stays_as (of_fault unmade.fault) unmade.told (unmade_reads frame unmade.fault unmade.refused (not_disk unmade.fault unmade.told)))) starts.1
+    starts_ends (Ok None) mid told starts = inl (stays_as refusal.NoSnapshot starts.2 (same_reads starts.1))
+    starts_ends (Err e) mid told starts = inl (stays_as (refusal.Unread e) starts.2 (same_reads starts.1))
 
-    by_length_ends : (empty : Bool) → ByLength i g source source_then old new limit (followed_as f) empty → AtEnd i g source first second telling new f
+    by_length_ends : (empty : Bool) → ByLength i g source source_then old new limit result empty → Ended i g source first second telling new result
     by_length_ends true starts = starts_ends starts.found starts.mid starts.first.told starts.starts
-    by_length_ends false way = ⊎_elim opened_ends (λ unopened. absurd (not_both f (of_fault unopened.fault) unopened.told)) way
+    by_length_ends false way =
+        ⊎_elim (λ opened. inr (opened_ends opened))
+        (λ unopened. inl (stays_as (of_fault unopened.fault) unopened.told (unopened_reads unopened.fault unopened.refused (not_disk unopened.fault unopened.told)))) way
 
-  -- the end of a source that was followed
-  pub follows_ends : (source source_then : J) (first second : List ℕ) (old new : D × D) (limit : ℕ) (f : Followed) → FollowsDisks i g source source_then old new limit (followed_as f)
-      → g.seen old.0 ≡ Some first → g.seen old.1 ≡ Some second → AtEnd i g source first second old new f
-  follows_ends source source_then first second old new limit f (inl asked) is_first is_second =
-      by_length_ends source source_then first second asked.asked new limit f (asked.reads.0.seen ∙ is_first) (asked.reads.1.seen ∙ is_second) old
+  -- the end of a source that was followed, or a refusal, but for one of a disk
+  pub follows_ends : (source source_then : J) (first second : List ℕ) (old new : D × D) (limit : ℕ) (result : Result Followed FollowRefusal) → result ≢ refused disk_fault
+      → FollowsDisks i g source source_then old new limit result → g.seen old.0 ≡ Some first → g.seen old.1 ≡ Some second → Ended i g source first second old new result
+  follows_ends source source_then first second old new limit result unlike (inl asked) is_first is_second =
+      by_length_ends source source_then first second asked.asked new limit result unlike (asked.reads.0.seen ∙ is_first) (asked.reads.1.seen ∙ is_second) old
       (λ tell. (
         tells_still (g.tells_crashes asked.asked.0) (g.tells_crashes old.0) asked.reads.0.tells tell.0,
         tells_still (g.tells_crashes asked.asked.1) (g.tells_crashes old.1) asked.reads.1.tells tell.1,
       )) asked.empty asked.by_length
-  follows_ends source source_then first second old new limit f (inr unasked) is_first is_second = absurd (not_both f (refusal.Store store_refusal.DiskFault) unasked.told)
+  follows_ends source source_then first second old new limit result unlike (inr unasked) is_first is_second = absurd (unlike unasked.told)
 
   -- ---- causes
 

@@ -1,5 +1,5 @@
 -- What following a source comes to, by what was taken and what came back.
-use Rattle.std.proofs.Common.{◌≡◌, ◌≢◌, ◌⊎◌, inl, inr, ℕ, true, List, Option, None, Some, Result, Ok, Err, IfOk, IsTrue, refl, sym, ◌∙◌, ap, subst, arith}
+use Rattle.std.proofs.Common.{◌≡◌, ◌≢◌, ◌⊎◌, inl, inr, ⊎_elim, ℕ, ◌≤◌, true, List, [], Option, None, Some, Result, Ok, Err, IfOk, IfErr, IfSome, OnOk, IsTrue, refl, sym, ◌∙◌, ap, subst, arith}
 use Rattle.hl_base.specs.Causes.{Rose}
 use Rattle.hl_base.specs.declared.disk.Disk.{Ghosts as Disks}
 use Rattle.hl_base.specs.declared.outside.Source.{Ghosts as Sources}
@@ -9,6 +9,8 @@ use Rattle.text_store.specs.declared.image.Image.{Image}
 use Rattle.text_store.specs.Image.{NoImage, image}
 use Rattle.text_store.specs.Stores.{Leaves, Tell}
 use Rattle.follower.specs.declared.fault.FrameFault.TheVariants as frame_fault
+use Rattle.follow_commands.specs.Genuine.{HasFrames}
+use Rattle.follow_commands.specs.Whole.{HasAll}
 use Rattle.store_text.specs.Lending.{AreTaken, AreUntaken, CameBack, ComesBack, IsTaken, IsUntaken}
 use Rattle.store_text.specs.Reading.{ReadAs}
 use Rattle.store_text.specs.Refusals.{IsOfTaking}
@@ -16,12 +18,12 @@ use Rattle.store_text.specs.Shelved.{image_in, image_under, or_empty, second_nam
 use Rattle.store_text.specs.declared.refusal.StoreRefusal.{StoreRefusal}
 use Rattle.store_text.specs.declared.refusal.StoreRefusal.TheVariants as store_refusal
 use Rattle.store_text.proofs.LendingLaws.{apart, back_faults, back_first, back_others, back_second, back_sound, back_tells, both_tell, first_reads, later_faults, left_first, left_second, made_reads, one_failed, out_faults, out_file, out_sound, out_tells, rose_back, second_reads, told_on}
-use Rattle.store_following.specs.Following.{FollowsStore, HasAfter, HasLed}
+use Rattle.store_following.specs.Following.{FollowsStore, HasAfter, HasEarlier, HasLater, HasLed, IsKept, IsNew}
 use Rattle.store_following.specs.Replicas.{FollowsDisks}
 use Rattle.store_following.specs.declared.refusal.FollowRefusal.{FollowRefusal}
 use Rattle.store_following.specs.declared.refusal.FollowRefusal.TheVariants as refusal
 use Rattle.store_following.specs.declared.refusal.Followed.{Followed}
-use Rattle.store_following.proofs.Ending.{AtEnd, IsReached, follows_ends, follows_failed, follows_rose, follows_taken, refused, stands_reads, store_unread}
+use Rattle.store_following.proofs.Ending.{AtEnd, Ended, IsEarlier, IsReached, follows_ends, follows_failed, follows_rose, follows_taken, not_both, refused, stands_reads, store_unread}
 use Rattle.store_following.proofs.LedLaws.{one_rests, refused_is}
 
 abbrev pub untaken_as : StoreRefusal → Result Followed FollowRefusal
@@ -50,6 +52,71 @@ if_ok : {P : Followed → Type 0} (result : Result Followed FollowRefusal) → (
 if_ok (Ok f) from = from f refl
 if_ok (Err r) from = tt
 
+if_err : {P : FollowRefusal → Type 0} (result : Result Followed FollowRefusal) → ((r : FollowRefusal) → result ≡ refused r → P r) → IfErr result P
+if_err (Ok f) from = tt
+if_err (Err r) from = from r refl
+
+on_ok : {P : Type 0} (result : Result Followed FollowRefusal) → ((f : Followed) → result ≡ Ok f → P) → OnOk result P
+on_ok (Ok f) from = from f refl
+on_ok (Err r) from = tt
+
+-- a refusal without a failed call isn't one of a disk
+kept_unlike : (r : FollowRefusal) → IsKept r → refused r ≢ refused (refusal.Store store_refusal.DiskFault)
+kept_unlike r kept e = subst (λ (x : FollowRefusal). IsKept x) (refused_is r (refusal.Store store_refusal.DiskFault) e) kept
+
+-- what a replica shows, by its two files
+under_files : (file : List ℕ → Option (List ℕ)) (name first second : List ℕ) (found : Result Image NoImage) → file name ≡ Some first → or_empty (file (second_name name)) ≡ second
+    → image first second ≡ found → image_under file name ≡ Some found
+under_files file name first second found is_first is_second is =
+    ap (λ (o : Option (List ℕ)). image_in o (file (second_name name))) is_first
+    ∙ ap (λ (l : List ℕ). Some (image first l)) is_second
+    ∙ ap (λ (x : Result Image NoImage). Some x) is
+
+-- of files that were told
+files_under : (file : List ℕ → Option (List ℕ)) (name : List ℕ) (shown : Image) → image_under file name ≡ Some (Ok shown)
+    → image (or_empty (file name)) (or_empty (file (second_name name))) ≡ Ok shown
+files_under file name shown is = of_file (file name) is
+  where
+    of_file : (o : Option (List ℕ)) → image_in o (file (second_name name)) ≡ Some (Ok shown) → image (or_empty o) (or_empty (file (second_name name))) ≡ Ok shown
+    of_file None e = absurd (none_some e)
+      where
+        IsThere : Option (Result Image NoImage) → Type 0
+        IsThere None = ⊥
+        IsThere (Some x) = Unit {0}
+
+        none_some : image_in None (file (second_name name)) ≡ Some (Ok shown) → ⊥
+        none_some e = subst IsThere (sym e) tt
+    of_file (Some f) e = ap of e
+      where
+        of : Option (Result Image NoImage) → Result Image NoImage
+        of None = Ok shown
+        of (Some x) = x
+
+-- files that are as they were
+module _ (old new : List ℕ → Option (List ℕ)) (name : List ℕ) where
+  still_new : or_empty (new name) ≡ or_empty (old name) → or_empty (new (second_name name)) ≡ or_empty (old (second_name name)) → IsNew old name → IsNew new name
+  still_new first second is_new = (first ∙ is_new.0, second ∙ is_new.1)
+
+  still_after : (start : Image) (changes : List Change) (n : ℕ) → new name ≡ Some (or_empty (old name)) → or_empty (new (second_name name)) ≡ or_empty (old (second_name name))
+      → HasAfter start changes old name n → HasLater start changes new name n
+  still_after start changes n first second has = record {
+    count = n;
+    later = omega arith;
+    has = record {
+      shown = has.shown;
+      under = under_files new name (or_empty (old name)) (or_empty (old (second_name name))) (Ok has.shown) first second (files_under old name has.shown has.under);
+      after = has.after;
+    };
+  }
+
+  same_after : (start : Image) (changes : List Change) (n : ℕ) → new name ≡ old name → new (second_name name) ≡ old (second_name name)
+      → HasAfter start changes old name n → HasLater start changes new name n
+  same_after start changes n first second has = record {
+    count = n;
+    later = omega arith;
+    has = record { shown = has.shown; under = (λ i. image_in (first i) (second i)) ∙ has.under; after = has.after };
+  }
+
 reached_led : (start : Image) (changes : List Change) (file : List ℕ → Option (List ℕ)) (name : List ℕ) (n : ℕ) (f : Followed) (end : Image)
     → image_under file name ≡ Some (Ok end) → end.revision ≡ f.revision → IsReached start changes end n → HasLed start changes file name n f
 reached_led start changes file name n f end under revision reached = record {
@@ -70,8 +137,11 @@ module _ {J S D : Type 0} (i : Sources J) (s : Shelves S D) (g : Disks D) (name 
   pub uncalled : Does source old (untaken_as store_refusal.Memory)
   uncalled = record {
     shows = λ told. tt;
-    begins = λ told is_new start changes frames left are. tt;
-    goes_on = λ told start changes frames n left are has. tt;
+    begins = λ told is_new start changes frames. tt;
+    goes_on = λ told start changes n frames has. tt;
+    kept_new = λ told is_new start changes frames kept. inl is_new;
+    kept = λ told start changes n frames has kept. same_after (s.file old) (s.file old) name start changes n refl refl has;
+    whole = λ told last all earlier. tt;
     crash = λ told telling. tt;
     others = λ other first second. refl;
     input_fault = λ e. absurd (store_unread store_refusal.Memory frame_fault.ReadFault e);
@@ -89,8 +159,13 @@ module _ {J S D : Type 0} (i : Sources J) (s : Shelves S D) (g : Disks D) (name 
     first_untaken : IsUntaken s g true name old new r → Does source new (untaken_as r)
     first_untaken unlike = record {
       shows = λ told. tt;
-      begins = λ told is_new start changes frames left are. tt;
-      goes_on = λ told start changes frames n left are has. tt;
+      begins = λ told is_new start changes frames. tt;
+      goes_on = λ told start changes n frames has. tt;
+      kept_new = λ told is_new start changes frames kept.
+          inl (still_new (s.file old) (s.file new) name (ap or_empty (unlike.keeps.files name tt)) (ap or_empty (unlike.keeps.files beside tt)) is_new);
+      kept = λ told start changes n frames has kept.
+          same_after (s.file old) (s.file new) name start changes n (unlike.keeps.files name tt) (unlike.keeps.files beside tt) has;
+      whole = λ told last all earlier. tt;
       crash = λ told telling. tt;
       others = λ other first second. unlike.keeps.files other tt;
       input_fault = λ e. absurd (store_unread r frame_fault.ReadFault e);
@@ -110,10 +185,19 @@ module _ {J S D : Type 0} (i : Sources J) (s : Shelves S D) (g : Disks D) (name 
         let back = comes.back in
         let same_file : (other : List ℕ) → s.file comes.mid other ≡ s.file old other = λ other. unlike.keeps.files other tt ∙ first_taken.keeps.files other tt in
         let same_tells : s.tells comes.mid ≡ s.tells old = unlike.tells ∙ first_taken.tells in
+        let first_file : IsTrue ((s.tells old).files) → s.file new name ≡ Some (or_empty (s.file old name)) = λ told.
+        subst (λ (o : Option (List ℕ)). IfSome o (λ bytes. s.file new name ≡ Some bytes)) (made_reads (s.file old name) (g.seen first) (first_taken.reads told))
+        (back.reads (told_on (s.tells old) (s.tells comes.mid) same_tells told)) in
+        let second_file : s.file new beside ≡ s.file old beside = back.keeps.files beside (λ e. apart name (sym e)) ∙ same_file beside in
         record {
           shows = λ told. tt;
-          begins = λ told is_new start changes frames left are. tt;
-          goes_on = λ told start changes frames n left are has. tt;
+          begins = λ told is_new start changes frames. tt;
+          goes_on = λ told start changes n frames has. tt;
+          kept_new = λ told is_new start changes frames kept.
+              inl (still_new (s.file old) (s.file new) name (ap or_empty (first_file told)) (ap or_empty second_file) is_new);
+          kept = λ told start changes n frames has kept.
+              still_after (s.file old) (s.file new) name start changes n (first_file told) (ap or_empty second_file) has;
+          whole = λ told last all earlier. tt;
           crash = λ told telling. tt;
           others = λ other not_first not_second. back.keeps.files other not_first ∙ same_file other;
           input_fault = λ e. absurd (store_unread r frame_fault.ReadFault e);
@@ -148,42 +232,86 @@ module _ {J S D : Type 0} (i : Sources J) (s : Shelves S D) (g : Disks D) (name 
     told_out : IsTrue ((s.tells old).files) → IsTrue ((s.tells out).files)
     told_out told = told_on (s.tells old) (s.tells out) (out_tells s g true name beside old out lent takes) told
 
-    at_end : IsTrue ((s.tells old).files) → (f : Followed) → result ≡ Ok f → AtEnd i g source (or_empty (s.file old name)) (or_empty (s.file old beside)) lent back f
-    at_end told f is =
-        follows_ends i g source source_then (or_empty (s.file old name)) (or_empty (s.file old beside)) lent back limit f
-        (subst (λ (r : Result Followed FollowRefusal). FollowsDisks i g source source_then lent back limit r) is follows)
+    abbrev first_file : List ℕ
+    first_file = or_empty (s.file old name)
+
+    abbrev second_file : List ℕ
+    second_file = or_empty (s.file old beside)
+
+    at_end : IsTrue ((s.tells old).files) → result ≢ refused (refusal.Store store_refusal.DiskFault) → Ended i g source first_file second_file lent back result
+    at_end told unlike =
+        follows_ends i g source source_then first_file second_file lent back limit result unlike follows
         (made_reads (s.file old name) (g.seen lent.0) (first_reads s g true name beside old out lent takes told))
         (second_reads s g true name beside old out lent takes told)
 
-    under : IsTrue ((s.tells old).files) → (f : Followed) (end : AtEnd i g source (or_empty (s.file old name)) (or_empty (s.file old beside)) lent back f)
-        → image_under (s.file new) name ≡ Some (Ok end.end.image)
-    under told f end =
+    -- at Ok a source was followed
+    ok_end : IsTrue ((s.tells old).files) → (f : Followed) → result ≡ Ok f → AtEnd i g source first_file second_file lent back result
+    ok_end told f is =
+        ⊎_elim (λ stays. absurd (stays.refused_for f is)) (λ end. end)
+        (at_end told (λ e. not_both f (refusal.Store store_refusal.DiskFault) (sym is ∙ e)))
+
+    revision_of : (f : Followed) → result ≡ Ok f → (end : AtEnd i g source first_file second_file lent back result) → end.end.image.revision ≡ f.revision
+    revision_of f is end = subst (λ (r : Result Followed FollowRefusal). IfOk r (λ x. end.end.image.revision ≡ x.revision)) is end.revision
+
+    -- what the two disks read as is what stands under the names
+    reads_under : IsTrue ((s.tells old).files) → (a b : List ℕ) (found : Result Image NoImage) → g.seen back.0 ≡ Some a → g.seen back.1 ≡ Some b → image a b ≡ found
+        → image_under (s.file new) name ≡ Some found
+    reads_under told a b found is_first is_second is =
+        under_files (s.file new) name a b found
+        (back_first s g name beside out new back returns (apart name) (told_out told) a is_first)
+        (ap or_empty (back_second s g name beside out new back returns (apart name) (told_out told) b is_second)) is
+
+    under : IsTrue ((s.tells old).files) → (end : AtEnd i g source first_file second_file lent back result) → image_under (s.file new) name ≡ Some (Ok end.end.image)
+    under told end =
         let r : ReadAs g back (λ a b. image a b ≡ Ok end.end.image) =
         subst (λ (d : D × D). ReadAs g d (λ a b. image a b ≡ Ok end.end.image)) (sym end.closed) (stands_reads end.end.store end.end.image end.stands) in
-        let first : s.file new name ≡ Some r.0 = back_first s g name beside out new back returns (apart name) (told_out told) r.0 r.2 in
-        let second : s.file new beside ≡ Some r.1 = back_second s g name beside out new back returns (apart name) (told_out told) r.1 r.3 in
-        ap (λ (o : Option (List ℕ)). image_in o (s.file new beside)) first
-        ∙ ap (λ (o : Option (List ℕ)). image_in (Some r.0) o) second
-        ∙ ap (λ (x : Result Image NoImage). Some x) r.4
+        reads_under told r.0 r.1 (Ok end.end.image) r.2 r.3 r.4
 
     -- what a replica had before, of the files that were told
-    was : (start : Image) (changes : List Change) (n : ℕ) (has : HasAfter start changes (s.file old) name n) → image (or_empty (s.file old name)) (or_empty (s.file old beside)) ≡ Ok has.shown
-    was start changes n has = of_file (s.file old name) has.under
-      where
-        of_file : (o : Option (List ℕ)) → image_in o (s.file old beside) ≡ Some (Ok has.shown) → image (or_empty o) (or_empty (s.file old beside)) ≡ Ok has.shown
-        of_file None e = absurd (none_some e)
-          where
-            IsThere : Option (Result Image NoImage) → Type 0
-            IsThere None = ⊥
-            IsThere (Some x) = Unit {0}
+    was : (shown : Image) → image_under (s.file old) name ≡ Some (Ok shown) → image first_file second_file ≡ Ok shown
+    was shown is = files_under (s.file old) name shown is
 
-            none_some : image_in None (s.file old beside) ≡ Some (Ok has.shown) → ⊥
-            none_some e = subst IsThere (sym e) tt
-        of_file (Some f) e = ap of e
-          where
-            of : Option (Result Image NoImage) → Result Image NoImage
-            of None = Ok has.shown
-            of (Some x) = x
+    reached_later : IsTrue ((s.tells old).files) → (start : Image) (changes : List Change) (n : ℕ) (end : AtEnd i g source first_file second_file lent back result)
+        → IsReached start changes end.end.image n → HasLater start changes (s.file new) name n
+    reached_later told start changes n end reached = record {
+      count = reached.count;
+      later = reached.later;
+      has = record { shown = end.end.image; under = under told end; after = reached.after };
+    }
+
+    -- the frames before a refusal
+    stays_after : IsTrue ((s.tells old).files) → (start : Image) (changes : List Change) (n : ℕ) → HasFrames (i.left source) start changes
+        → HasAfter start changes (s.file old) name n → result ≢ refused (refusal.Store store_refusal.DiskFault) → HasLater start changes (s.file new) name n
+    stays_after told start changes n frames has unlike =
+        ⊎_elim
+        (λ stays.
+        still_after (s.file old) (s.file new) name start changes n
+        (back_first s g name beside out new back returns (apart name) (told_out told) first_file stays.is_first)
+        (ap or_empty (back_second s g name beside out new back returns (apart name) (told_out told) second_file stays.is_second)) has)
+        (λ end. reached_later told start changes n end (end.goes_on start changes n has.shown frames (was has.shown has.under) has.after))
+        (at_end told unlike)
+
+    begun_after : IsTrue ((s.tells old).files) → IsNew (s.file old) name → (start : Image) (changes : List Change) → HasFrames (i.left source) start changes
+        → result ≢ refused (refusal.Store store_refusal.DiskFault) → IsNew (s.file new) name ⊎ HasLater start changes (s.file new) name 0
+    begun_after told is_new start changes frames unlike =
+        ⊎_elim
+        (λ stays.
+        inl (still_new (s.file old) (s.file new) name
+        (ap or_empty (back_first s g name beside out new back returns (apart name) (told_out told) first_file stays.is_first))
+        (ap or_empty (back_second s g name beside out new back returns (apart name) (told_out told) second_file stays.is_second)) is_new))
+        (λ end. inr (reached_later told start changes 0 end (end.begins is_new.0 is_new.1 start changes frames)))
+        (at_end told unlike)
+
+    earlier_files : (start : Image) (changes : List Change) → IsNew (s.file old) name ⊎ HasEarlier start changes (s.file old) name → IsEarlier first_file second_file start changes
+    earlier_files start changes (inl is_new) = inl is_new
+    earlier_files start changes (inr has) = inr (has.shown, was has.shown has.under, has.behind)
+
+    whole_under : IsTrue ((s.tells old).files) → (last : Image) (all : HasAll (i.left source) last) → IsEarlier first_file second_file all.start all.changes
+        → (f : Followed) → result ≡ Ok f → image_under (s.file new) name ≡ Some (Ok last)
+    whole_under told last all earlier f is =
+        let end = ok_end told f is in
+        let same : end.end.image ≡ last = subst (λ (r : Result Followed FollowRefusal). OnOk r (end.end.image ≡ last)) is (end.whole last all earlier) in
+        under told end ∙ ap (λ (x : Image). Some (Ok x)) same
 
     through : Does source_then new result
     through =
@@ -192,23 +320,28 @@ module _ {J S D : Type 0} (i : Sources J) (s : Shelves S D) (g : Disks D) (name 
         let tells_so : s.tells new ≡ s.tells old = back_tells s g name beside out new back returns (apart name) ∙ out_tells s g true name beside old out lent takes in
         let not_read = follows_taken i g source source_then lent back limit result follows in
         record {
-          shows = λ told. if_ok result (λ f is. let end = at_end told f is in (end.end.image, under told f end, end.revision));
-          begins = λ told is_new start changes frames left are. if_ok result
-              (λ f is. let end = at_end told f is in
-              reached_led start changes (s.file new) name 0 f end.end.image (under told f end) end.revision (end.begins is_new.0 is_new.1 start changes frames left are));
-          goes_on = λ told start changes frames n left are has. if_ok result
-              (λ f is. let end = at_end told f is in
-              reached_led start changes (s.file new) name n f end.end.image (under told f end) end.revision
-              (end.goes_on start changes frames n has.shown left are (was start changes n has) has.after));
+          shows = λ told. if_ok result (λ f is. let end = ok_end told f is in (end.end.image, under told end, revision_of f is end));
+          begins = λ told is_new start changes frames. if_ok result
+              (λ f is. let end = ok_end told f is in
+              reached_led start changes (s.file new) name 0 f end.end.image (under told end) (revision_of f is end) (end.begins is_new.0 is_new.1 start changes frames));
+          goes_on = λ told start changes n frames has. if_ok result
+              (λ f is. let end = ok_end told f is in
+              reached_led start changes (s.file new) name n f end.end.image (under told end) (revision_of f is end)
+              (end.goes_on start changes n has.shown frames (was has.shown has.under) has.after));
+          kept_new = λ told is_new start changes frames. if_err result
+              (λ r is kept. begun_after told is_new start changes frames (λ e. kept_unlike r kept (sym is ∙ e)));
+          kept = λ told start changes n frames has. if_err result
+              (λ r is kept. stays_after told start changes n frames has (λ e. kept_unlike r kept (sym is ∙ e)));
+          whole = λ told last all earlier. on_ok result (λ f is. whole_under told last all (earlier_files all.start all.changes earlier) f is);
           crash = λ told telling. if_ok result
               (λ f is first second of_first of_second.
-              let end = at_end told f is in
+              let end = ok_end told f is in
               let tell = end.tells (both_tell s g true name beside old out lent takes telling) in
               let rests = one_rests end.end end.stands (subst (λ (d : D × D). Tell g d) end.closed tell) in
               let leaves = subst (λ (d : D × D). Leaves g d (λ a b. image a b ≡ Ok end.end.image)) (sym end.closed) rests in
               ap (λ (x : Result Image NoImage). Some x)
               (leaves first second (left_first s g name beside out new back returns (apart name) first of_first) (left_second s g name beside out new back returns (apart name) second of_second))
-              ∙ sym (under told f end));
+              ∙ sym (under told end));
           others = λ other not_first not_second.
               back_others s g name beside out new back returns (apart name) other not_first not_second ∙ out_file s g true name beside old out lent takes other;
           input_fault = λ e. (follows_failed i g source source_then lent back limit result follows e).0;

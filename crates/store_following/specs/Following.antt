@@ -1,5 +1,5 @@
 -- What following a source does to a replica among the files of a shelf.
-use Rattle.std.specs.Prelude.{◌≡◌, ◌≢◌, ◌⊎◌, ℕ, ◌+◌, ◌≤◌, true, List, [], Option, Some, Result, Ok, Err, IfOk, IsTrue}
+use Rattle.std.specs.Prelude.{◌≡◌, ◌≢◌, ◌⊎◌, ℕ, ◌+◌, ◌≤◌, true, List, [], Option, Some, Result, Ok, Err, IfOk, IfErr, OnOk, IsTrue}
 use Rattle.hl_base.specs.Causes.{Rose}
 use Rattle.hl_base.specs.declared.disk.Disk.{Ghosts as Disks}
 use Rattle.hl_base.specs.declared.outside.Source.{Ghosts as Sources}
@@ -9,8 +9,8 @@ use Rattle.text_store.specs.declared.image.Image.{Image}
 use Rattle.text_store.specs.Image.{image}
 use Rattle.follower.specs.Histories.{IsAfter}
 use Rattle.follower.specs.declared.fault.FrameFault.TheVariants as frame_fault
-use Rattle.follower.specs.declared.frame.Frame.{Frame}
-use Rattle.follow_commands.specs.Genuine.{AreOfOne, bytes_of_all}
+use Rattle.follow_commands.specs.Genuine.{HasFrames}
+use Rattle.follow_commands.specs.Whole.{HasAll, IsBehind}
 use Rattle.store_text.specs.Lending.{AreUntaken, Lends}
 use Rattle.store_text.specs.Shelved.{image_under, or_empty, second_name}
 use Rattle.store_text.specs.declared.refusal.StoreRefusal.TheVariants as store_refusal
@@ -36,6 +36,24 @@ pub record HasLed (start : Image) (changes : List Change) (file : List ℕ → O
   pub revision : followed.revision ≡ start.revision + count
   pub has : HasAfter start changes file name count
 
+-- the same of a source that was followed up to a refusal
+pub record HasLater (start : Image) (changes : List Change) (file : List ℕ → Option (List ℕ)) (name : List ℕ) (n : ℕ) : Type 0 where
+  pub count : ℕ
+  pub later : n ≤ count
+  pub has : HasAfter start changes file name count
+
+-- its image is one of a history, or one from before it
+pub record HasEarlier (start : Image) (changes : List Change) (file : List ℕ → Option (List ℕ)) (name : List ℕ) : Type 0 where
+  pub shown : Image
+  pub under : image_under file name ≡ Some (Ok shown)
+  pub behind : IsBehind start changes shown
+
+-- no call of the shelf or of a disk failed
+abbrev pub IsKept : FollowRefusal → Type 0
+IsKept (refusal.Store store_refusal.ReadFault) = ⊥
+IsKept (refusal.Store store_refusal.DiskFault) = ⊥
+IsKept _ = Unit {0}
+
 -- the disks weren't taken, for this
 abbrev pub Untaken : {S D : Type 0} → Shelves S D → Disks D → List ℕ → S → S → Result Followed FollowRefusal → Type 0
 Untaken s g name old new (Ok followed) = ⊥
@@ -50,11 +68,19 @@ pub record FollowsStore {J S D : Type 0} (i : Sources J) (s : Shelves S D) (g : 
   pub shows : IsTrue ((s.tells old).files) → IfOk result (λ followed. (shown : Image) × (image_under (s.file new) name ≡ Some (Ok shown)) × (shown.revision ≡ followed.revision))
   -- where the source has any frames of one history, a new replica then has an image of it, and one that had an image of it has one
   -- that isn't earlier
-  pub begins : IsTrue ((s.tells old).files) → IsNew (s.file old) name → (start : Image) (changes : List Change) (frames : List Frame)
-      → i.left source ≡ Some (bytes_of_all frames) → AreOfOne start changes frames → IfOk result (HasLed start changes (s.file new) name 0)
-  pub goes_on : IsTrue ((s.tells old).files) → (start : Image) (changes : List Change) (frames : List Frame) (n : ℕ)
-      → i.left source ≡ Some (bytes_of_all frames) → AreOfOne start changes frames → HasAfter start changes (s.file old) name n
-      → IfOk result (HasLed start changes (s.file new) name n)
+  pub begins : IsTrue ((s.tells old).files) → IsNew (s.file old) name → (start : Image) (changes : List Change)
+      → HasFrames (i.left source) start changes → IfOk result (HasLed start changes (s.file new) name 0)
+  pub goes_on : IsTrue ((s.tells old).files) → (start : Image) (changes : List Change) (n : ℕ)
+      → HasFrames (i.left source) start changes → HasAfter start changes (s.file old) name n → IfOk result (HasLed start changes (s.file new) name n)
+  -- at a refusal, but for a failed call of the shelf or of a disk, the frames before it are kept
+  pub kept_new : IsTrue ((s.tells old).files) → IsNew (s.file old) name → (start : Image) (changes : List Change)
+      → HasFrames (i.left source) start changes → IfErr result (λ r. IsKept r → IsNew (s.file new) name ⊎ HasLater start changes (s.file new) name 0)
+  pub kept : IsTrue ((s.tells old).files) → (start : Image) (changes : List Change) (n : ℕ)
+      → HasFrames (i.left source) start changes → HasAfter start changes (s.file old) name n → IfErr result (λ r. IsKept r → HasLater start changes (s.file new) name n)
+  -- where it has all of them in their order, a new replica then has the last image, and so has one that had an image of the history,
+  -- or one from before it
+  pub whole : IsTrue ((s.tells old).files) → (last : Image) (all : HasAll (i.left source) last)
+      → IsNew (s.file old) name ⊎ HasEarlier all.start all.changes (s.file old) name → OnOk result (image_under (s.file new) name ≡ Some (Ok last))
   -- and so each crash leaves it
   pub crash : IsTrue ((s.tells old).files) → IsTrue ((s.tells old).crashes) → IfOk result (λ _. (first second : List ℕ)
       → s.may_leave new name first → s.may_leave new (second_name name) second → Some (image first second) ≡ image_under (s.file new) name)
