@@ -1,5 +1,5 @@
 -- A follower that is led by all frames of a history has its last image.
-use Rattle.std.proofs.Common.{◌≡◌, ◌∙◌, ◌⊎◌, inl, inr, ℕ, zero, suc, ◌+◌, ◌^◌, ◌<◌, ◌≤◌, List, [], ◌∷◌, ◌++◌, length, Option, Some, IfSome, OnOk, Result, Ok, Err, refl, sym, ap, subst, arith, append_assoc}
+use Rattle.std.proofs.Common.{◌≡◌, ◌∙◌, ◌⊎◌, inl, inr, ℕ, zero, suc, ◌+◌, ◌^◌, ◌<◌, ◌≤◌, List, [], ◌∷◌, ◌++◌, length, Option, Some, IfSome, Result, Ok, Err, refl, sym, ap, subst, arith, append_assoc}
 use Rattle.hl_base.specs.declared.disk.Disk.{Ghosts as Disks}
 use Rattle.hl_base.specs.declared.outside.Source.{Ghosts as Sources}
 use Rattle.text_store.specs.Edits.{edited, edited_content, content_in}
@@ -21,7 +21,7 @@ use Rattle.follower.proofs.Following.{counted, record_is, snapshot_is, some_one}
 use Rattle.follower.proofs.Texts.{after_snapshot}
 use Rattle.follow_commands.specs.Genuine.{AreOfOne, bytes_of_all}
 use Rattle.follow_commands.specs.Walks.{AreAnswered, AreRead, Follows, IsAnswered, StopsAt, bytes_of}
-use Rattle.follow_commands.specs.Whole.{AreRecords, CatchesUp, HasAll, IsBehind, IsFirst, IsNextRecord}
+use Rattle.follow_commands.specs.Whole.{AreRecords, CatchesUp, IsBehind, IsFirst, IsNextRecord}
 use Rattle.follow_commands.specs.declared.following.Stop.{Stop}
 use Rattle.follow_commands.specs.declared.tally.Tally.{Tally}
 use Rattle.follow_commands.proofs.Joining.{Filled, same_frame, same_rest}

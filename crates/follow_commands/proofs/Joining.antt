@@ -17,7 +17,7 @@ use Rattle.follower.specs.declared.fault.FollowFault.{FollowFault}
 use Rattle.follower.specs.declared.follower.Follower.{Follower}
 use Rattle.follower.specs.declared.frame.Frame.{Frame}
 use Rattle.follower.proofs.Following.{leads_of, never_falls}
-use Rattle.follow_commands.specs.Genuine.{bytes_of_all, AreOfOne, HasFrames, LeadsOn}
+use Rattle.follow_commands.specs.Genuine.{bytes_of_all, AreOfOne, LeadsOn}
 use Rattle.follow_commands.specs.Walks.{bytes_of, AreRead, Follows, StopsAt}
 use Rattle.follow_commands.specs.declared.following.Stop.{Stop}
 use Rattle.follow_commands.specs.declared.tally.Tally.{Tally}

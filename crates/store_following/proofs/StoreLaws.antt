@@ -1,5 +1,5 @@
 -- What following a source comes to, by what was taken and what came back.
-use Rattle.std.proofs.Common.{◌≡◌, ◌≢◌, ◌⊎◌, inl, inr, ⊎_elim, ℕ, ◌≤◌, true, List, [], Option, None, Some, Result, Ok, Err, IfOk, IfErr, IfSome, OnOk, IsTrue, refl, sym, ◌∙◌, ap, subst, arith}
+use Rattle.std.proofs.Common.{◌≡◌, ◌≢◌, ◌⊎◌, inl, inr, ⊎_elim, ℕ, true, List, Option, None, Some, Result, Ok, Err, IfOk, IfErr, IfSome, OnOk, IsTrue, refl, sym, ◌∙◌, ap, subst, arith}
 use Rattle.hl_base.specs.Causes.{Rose}
 use Rattle.hl_base.specs.declared.disk.Disk.{Ghosts as Disks}
 use Rattle.hl_base.specs.declared.outside.Source.{Ghosts as Sources}
