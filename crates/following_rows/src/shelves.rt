@@ -1,5 +1,6 @@
 //! A store that is fed, and replicas that follow what it fed.
 
+use fed_histories::{fed_frames_are_genuine, fed_stores_are_followed};
 use follow_commands::Tally;
 use follower::FrameFault;
 use hl_base::{Bytes, List, MemShelf, MemSource, Memory, Text};
@@ -81,6 +82,8 @@ fn a_store_is_fed_and_a_new_replica_follows(rt: HostRuntime) -> Result<(), Fail>
     assert_eq!(rt; done, told(1, 2, 0, 0));
     let text = text(rt.alloc(), &mut shelf)?;
     assert_eq!(rt; text.as_slice(), &FED[54..]);
+    fed_frames_are_genuine(frames.as_slice());
+    fed_stores_are_followed::<MemSource, MemShelf, MemShelf>(frames.as_slice());
     Ok(())
 }
 
