@@ -27,7 +27,8 @@ impl<D: Disk> Desk<D> {
     /// The revision, the requests since opening, and those of them whose reply wasn't `Done`, `Same` or `Text`. The last
     /// two stay at their last value.
     pub fn counts(&self) -> (u64, u64, u64)
-        ensures { (result.0 ≡ self.now.live.revision) × (result.1 ≡ self.now.requests) × (result.2 ≡ self.now.refused) }
+        ensures { (result.0 ≡ self.now.live.revision) × (result.1 ≡ self.now.requests)
+            × (result.2 ≡ self.now.refused) }
     {
         (self.live.revision(), self.requests, self.refused)
     }

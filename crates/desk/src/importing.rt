@@ -106,7 +106,8 @@ fn push_further(
     context: &Context,
     txns: &[Txn],
 ) -> Result<(), Memory>
-    ensures { OnOk result (bytes.new.items ≡ bytes.old.items ++ flat_map (λ next. 10 ∷ spec.entry_text context.now next) txns.now) }
+    ensures { OnOk result (bytes.new.items
+        ≡ bytes.old.items ++ flat_map (λ next. 10 ∷ spec.entry_text context.now next) txns.now) }
 {
     for txn in txns {
         bytes.push(b'\n')?;

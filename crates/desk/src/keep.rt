@@ -39,12 +39,16 @@ fn reason_of(fault: StoreFault) -> Unkept
 fn mend<D: Disk>(store: &mut Store<D>) -> Result<(), Unkept>
     ensures mended { OnOk result ((shown : Image) (pending : Option Image) → Stands store.old shown pending
         → (repair_due store.new ≡ false) × Holds store.new shown) }
-    ensures torn { OnErr result ((shown : Image) (pending : Option Image) → Stands store.old shown pending → Stands store.new shown pending) }
-    ensures any_moment { (shown : Image) (pending next : Option Image) → Stands store.old shown pending → Tell D.Disk (disks store.old)
+    ensures torn { OnErr result ((shown : Image) (pending : Option Image)
+        → Stands store.old shown pending → Stands store.new shown pending) }
+    ensures any_moment { (shown : Image) (pending next : Option Image)
+        → Stands store.old shown pending → Tell D.Disk (disks store.old)
         → Throughout D.Disk (disks store.old) (disks store.new) (ShowsOne shown pending next) }
     ensures disk { IfErr result (λ e. e ≡ Unkept.DiskFault) }
-    ensures cause { IfErr result (λ e. spec.IsCause e (fault_count D.Disk (disks store.old)) (fault_count D.Disk (disks store.new))) }
-    ensures no_fault { OnOk result (fault_count D.Disk (disks store.new) ≡ fault_count D.Disk (disks store.old)) }
+    ensures cause { IfErr result (λ e. spec.IsCause e (fault_count D.Disk (disks store.old))
+        (fault_count D.Disk (disks store.new))) }
+    ensures no_fault { OnOk result (fault_count D.Disk (disks store.new)
+        ≡ fault_count D.Disk (disks store.old)) }
     ensures ready { OnOk result (repair_due store.new ≡ false) }
     ensures size { size_of store.new ≡ size_of store.old }
     ensures goes_on { spec.GoesOn store.old store.new }
@@ -65,16 +69,25 @@ fn write_anew<D: Disk>(
     requires ready { repair_due store.old ≡ false }
     requires writable { spec.are_writable latest.now ≡ true }
     requires revision { live.now.revision < 2 ^ 62 }
-    requires room { edits.whole_size (record { text = live.now.text; latest = latest.now; revision = live.now.revision }) ≤ limit_of store.old }
-    ensures held { (shown : Image) → shown ≡ record { text = live.now.text; latest = latest.now; revision = live.now.revision }
+    requires room { edits.whole_size
+        (record { text = live.now.text; latest = latest.now; revision = live.now.revision })
+        ≤ limit_of store.old }
+    ensures held { (shown : Image)
+        → shown ≡ record { text = live.now.text; latest = latest.now; revision = live.now.revision }
         → OnOk result (Holds store.old shown → Holds store.new shown) }
-    ensures any_moment { (shown : Image) → shown ≡ record { text = live.now.text; latest = latest.now; revision = live.now.revision }
-        → Holds store.old shown → Tell D.Disk (disks store.old) → Throughout D.Disk (disks store.old) (disks store.new) (Shows shown) }
-    ensures torn { (shown : Image) → shown ≡ record { text = live.now.text; latest = latest.now; revision = live.now.revision }
+    ensures any_moment { (shown : Image)
+        → shown ≡ record { text = live.now.text; latest = latest.now; revision = live.now.revision }
+        → Holds store.old shown → Tell D.Disk (disks store.old)
+        → Throughout D.Disk (disks store.old) (disks store.new) (Shows shown) }
+    ensures torn { (shown : Image)
+        → shown ≡ record { text = live.now.text; latest = latest.now; revision = live.now.revision }
         → IfErr result (λ e. Holds store.old shown → spec.LeftBy e store.new shown shown) }
-    ensures cause { IfErr result (λ e. spec.IsCause e (fault_count D.Disk (disks store.old)) (fault_count D.Disk (disks store.new))) }
-    ensures no_fault { OnOk result (fault_count D.Disk (disks store.new) ≡ fault_count D.Disk (disks store.old)) }
-    ensures size { OnOk result (size_of store.new ≡ edits.whole_size (record { text = live.now.text; latest = latest.now; revision = live.now.revision })) }
+    ensures cause { IfErr result (λ e. spec.IsCause e (fault_count D.Disk (disks store.old))
+        (fault_count D.Disk (disks store.new))) }
+    ensures no_fault { OnOk result (fault_count D.Disk (disks store.new)
+        ≡ fault_count D.Disk (disks store.old)) }
+    ensures size { OnOk result (size_of store.new ≡ edits.whole_size
+        (record { text = live.now.text; latest = latest.now; revision = live.now.revision })) }
     ensures same_size { OnErr result (size_of store.new ≡ size_of store.old) }
     ensures ready { OnOk result (repair_due store.new ≡ false) }
     ensures goes_on { spec.GoesOn store.old store.new }
@@ -94,12 +107,17 @@ fn put_record<D: Disk>(store: &mut Store<D>, alloc: Global, change: &Change) -> 
     requires ready { repair_due store.old ≡ false }
     requires name { HasShortName change.now }
     requires room { size_of store.old + record_size change.now ≤ limit_of store.old }
-    ensures held { OnOk result ((shown next : Image) → Holds store.old shown → edits.edited shown change.now ≡ Some next → Holds store.new next) }
-    ensures any_moment { (shown next : Image) → Holds store.old shown → edits.edited shown change.now ≡ Some next → Tell D.Disk (disks store.old)
+    ensures held { OnOk result ((shown next : Image) → Holds store.old shown
+        → edits.edited shown change.now ≡ Some next → Holds store.new next) }
+    ensures any_moment { (shown next : Image) → Holds store.old shown
+        → edits.edited shown change.now ≡ Some next → Tell D.Disk (disks store.old)
         → Throughout D.Disk (disks store.old) (disks store.new) (ShowsEither shown next) }
-    ensures torn { IfErr result (λ e. (shown next : Image) → Holds store.old shown → edits.edited shown change.now ≡ Some next → spec.LeftBy e store.new shown next) }
-    ensures cause { IfErr result (λ e. spec.IsCause e (fault_count D.Disk (disks store.old)) (fault_count D.Disk (disks store.new))) }
-    ensures no_fault { OnOk result (fault_count D.Disk (disks store.new) ≡ fault_count D.Disk (disks store.old)) }
+    ensures torn { IfErr result (λ e. (shown next : Image) → Holds store.old shown
+        → edits.edited shown change.now ≡ Some next → spec.LeftBy e store.new shown next) }
+    ensures cause { IfErr result (λ e. spec.IsCause e (fault_count D.Disk (disks store.old))
+        (fault_count D.Disk (disks store.new))) }
+    ensures no_fault { OnOk result (fault_count D.Disk (disks store.new)
+        ≡ fault_count D.Disk (disks store.old)) }
     ensures size { OnOk result (size_of store.new ≡ size_of store.old + record_size change.now) }
     ensures same_size { OnErr result (size_of store.new ≡ size_of store.old) }
     ensures ready { OnOk result (repair_due store.new ≡ false) }
@@ -122,17 +140,26 @@ fn make_room<D: Disk>(
     requires ready { repair_due store.old ≡ false }
     requires writable { spec.are_writable latest.now ≡ true }
     requires revision { live.now.revision < 2 ^ 62 }
-    requires room { let whole = edits.whole_size (record { text = live.now.text; latest = latest.now; revision = live.now.revision }) in
-        spec.due_at (size_of store.old) (limit_of store.old) size whole ≡ true → whole + size ≤ limit_of store.old }
-    ensures held { (shown : Image) → shown ≡ record { text = live.now.text; latest = latest.now; revision = live.now.revision }
+    requires room { let whole = edits.whole_size
+        (record { text = live.now.text; latest = latest.now; revision = live.now.revision }) in
+        spec.due_at (size_of store.old) (limit_of store.old) size whole ≡ true
+        → whole + size ≤ limit_of store.old }
+    ensures held { (shown : Image)
+        → shown ≡ record { text = live.now.text; latest = latest.now; revision = live.now.revision }
         → OnOk result (Holds store.old shown → Holds store.new shown) }
-    ensures any_moment { (shown : Image) → shown ≡ record { text = live.now.text; latest = latest.now; revision = live.now.revision }
-        → Holds store.old shown → Tell D.Disk (disks store.old) → Throughout D.Disk (disks store.old) (disks store.new) (Shows shown) }
-    ensures torn { (shown : Image) → shown ≡ record { text = live.now.text; latest = latest.now; revision = live.now.revision }
+    ensures any_moment { (shown : Image)
+        → shown ≡ record { text = live.now.text; latest = latest.now; revision = live.now.revision }
+        → Holds store.old shown → Tell D.Disk (disks store.old)
+        → Throughout D.Disk (disks store.old) (disks store.new) (Shows shown) }
+    ensures torn { (shown : Image)
+        → shown ≡ record { text = live.now.text; latest = latest.now; revision = live.now.revision }
         → IfErr result (λ e. Holds store.old shown → spec.LeftBy e store.new shown shown) }
-    ensures cause { IfErr result (λ e. spec.IsCause e (fault_count D.Disk (disks store.old)) (fault_count D.Disk (disks store.new))) }
-    ensures no_fault { OnOk result (fault_count D.Disk (disks store.new) ≡ fault_count D.Disk (disks store.old)) }
-    ensures size { let whole = edits.whole_size (record { text = live.now.text; latest = latest.now; revision = live.now.revision }) in
+    ensures cause { IfErr result (λ e. spec.IsCause e (fault_count D.Disk (disks store.old))
+        (fault_count D.Disk (disks store.new))) }
+    ensures no_fault { OnOk result (fault_count D.Disk (disks store.new)
+        ≡ fault_count D.Disk (disks store.old)) }
+    ensures size { let whole = edits.whole_size
+        (record { text = live.now.text; latest = latest.now; revision = live.now.revision }) in
         OnOk result (size_of store.new ≡ spec.room_size (size_of store.old) (limit_of store.old) size whole) }
     ensures same_size { OnErr result (size_of store.new ≡ size_of store.old) }
     ensures ready { OnOk result (repair_due store.new ≡ false) }
@@ -151,7 +178,8 @@ pub(crate) fn is_due<D: Disk>(
     latest: &List<Latest>,
     size: u64,
 ) -> bool
-    ensures { let whole = edits.whole_size (record { text = live.now.text; latest = latest.now; revision = live.now.revision }) in
+    ensures { let whole = edits.whole_size
+        (record { text = live.now.text; latest = latest.now; revision = live.now.revision }) in
         result ≡ spec.due_at (size_of store.now) (limit_of store.now) size whole }
 {
     let _size = store.size();
@@ -172,22 +200,36 @@ pub(crate) fn keep<D: Disk>(
     requires record_size { size ≡ record_size change.now }
     requires writable { spec.are_writable latest.now ≡ true }
     requires revision { live.now.revision < 2 ^ 62 }
-    requires room { let whole = edits.whole_size (record { text = live.now.text; latest = latest.now; revision = live.now.revision }) in
+    requires room { let whole = edits.whole_size
+        (record { text = live.now.text; latest = latest.now; revision = live.now.revision }) in
         spec.room_size (size_of store.old) (limit_of store.old) size whole + size ≤ limit_of store.old }
-    ensures held { (shown next : Image) (pending : Option Image) → shown ≡ record { text = live.now.text; latest = latest.now; revision = live.now.revision }
-        → Stands store.old shown pending → edits.edited shown change.now ≡ Some next → OnOk result ((repair_due store.new ≡ false) × Holds store.new next) }
-    ensures torn { (shown next : Image) (pending : Option Image) → shown ≡ record { text = live.now.text; latest = latest.now; revision = live.now.revision }
+    ensures held { (shown next : Image) (pending : Option Image)
+        → shown ≡ record { text = live.now.text; latest = latest.now; revision = live.now.revision }
         → Stands store.old shown pending → edits.edited shown change.now ≡ Some next
-        → IfErr result (λ e. (after : Option Image) × spec.LeftPending e pending next after × Stands store.new shown after) }
-    ensures any_moment { (shown next : Image) (pending : Option Image) → shown ≡ record { text = live.now.text; latest = latest.now; revision = live.now.revision }
-        → Stands store.old shown pending → edits.edited shown change.now ≡ Some next → Tell D.Disk (disks store.old)
+        → OnOk result ((repair_due store.new ≡ false) × Holds store.new next) }
+    ensures torn { (shown next : Image) (pending : Option Image)
+        → shown ≡ record { text = live.now.text; latest = latest.now; revision = live.now.revision }
+        → Stands store.old shown pending → edits.edited shown change.now ≡ Some next
+        → IfErr result (λ e. (after : Option Image) × spec.LeftPending e pending next after
+        × Stands store.new shown after) }
+    ensures any_moment { (shown next : Image) (pending : Option Image)
+        → shown ≡ record { text = live.now.text; latest = latest.now; revision = live.now.revision }
+        → Stands store.old shown pending → edits.edited shown change.now ≡ Some next
+        → Tell D.Disk (disks store.old)
         → Throughout D.Disk (disks store.old) (disks store.new) (ShowsOne shown pending (Some next)) }
-    ensures cause { IfErr result (λ e. spec.IsCause e (fault_count D.Disk (disks store.old)) (fault_count D.Disk (disks store.new))) }
-    ensures no_fault { OnOk result (fault_count D.Disk (disks store.new) ≡ fault_count D.Disk (disks store.old)) }
-    ensures size { let whole = edits.whole_size (record { text = live.now.text; latest = latest.now; revision = live.now.revision }) in
-        OnOk result (size_of store.new ≡ spec.room_size (size_of store.old) (limit_of store.old) size whole + size) }
-    ensures torn_size { let whole = edits.whole_size (record { text = live.now.text; latest = latest.now; revision = live.now.revision }) in
-        OnErr result ((size_of store.new ≡ size_of store.old) ⊎ (size_of store.new ≡ spec.room_size (size_of store.old) (limit_of store.old) size whole)) }
+    ensures cause { IfErr result (λ e. spec.IsCause e (fault_count D.Disk (disks store.old))
+        (fault_count D.Disk (disks store.new))) }
+    ensures no_fault { OnOk result (fault_count D.Disk (disks store.new)
+        ≡ fault_count D.Disk (disks store.old)) }
+    ensures size { let whole = edits.whole_size
+        (record { text = live.now.text; latest = latest.now; revision = live.now.revision }) in
+        OnOk result (size_of store.new ≡ spec.room_size (size_of store.old)
+        (limit_of store.old) size whole + size) }
+    ensures torn_size { let whole = edits.whole_size
+        (record { text = live.now.text; latest = latest.now; revision = live.now.revision }) in
+        OnErr result ((size_of store.new ≡ size_of store.old)
+        ⊎ (size_of store.new ≡ spec.room_size (size_of store.old)
+        (limit_of store.old) size whole)) }
     ensures goes_on { spec.GoesOn store.old store.new }
 {
     mend(store)?;

@@ -75,7 +75,8 @@ fn take_kits<H: House>(
 /// Gives kits back to their house, in order.
 fn give_back_all<H: House>(house: &mut H, kits: List<Kit<H::Door, H::Clock, H::Maker>>)
     requires out { AreAllOut (H.told house.old) kits }
-    ensures { TakesAll (kit_told H.Door.Door H.Clock.Clock H.Maker.Maker) (H.told house.old) (H.told house.new) kits }
+    ensures { TakesAll (kit_told H.Door.Door H.Clock.Clock H.Maker.Maker) (H.told house.old)
+        (H.told house.new) kits }
 {
     for kit in kits.into_vec() {
         house.give_back(kit);
@@ -88,7 +89,8 @@ fn conclude<H: House, D: Disk>(
     closed: Closed<D, H::Door, H::Clock, H::Maker>,
 ) -> Hosted<D>
     requires out { AreAllOut (H.told house.old) closed.kits }
-    ensures back { TakesAll (kit_told H.Door.Door H.Clock.Clock H.Maker.Maker) (H.told house.old) (H.told house.new) closed.kits }
+    ensures back { TakesAll (kit_told H.Door.Door H.Clock.Clock H.Maker.Maker) (H.told house.old)
+        (H.told house.new) closed.kits }
     ensures desk { result.desk ≡ closed.desk }
     ensures pass { result.pass ≡ closed.pass }
     ensures failed { result.failed ≡ closed.failed }
@@ -117,9 +119,11 @@ fn serve_kits<H: House, D: Disk + Send, W: Threads + Wait + Sync>(
         × ServesTeam H.Door.Link.coming H.Door.Link.sent links desk
         (map (kit_told H.Door.Door H.Clock.Clock H.Maker.Maker) kits)
         (map (kit_told H.Door.Door H.Clock.Clock H.Maker.Maker) kits_now) hosted.failed hosted.pass.seen hosted.desk
-        × TakesAll (kit_told H.Door.Door H.Clock.Clock H.Maker.Maker) (H.told house.old) (H.told house.new) kits_now) }
+        × TakesAll (kit_told H.Door.Door H.Clock.Clock H.Maker.Maker) (H.told house.old)
+        (H.told house.new) kits_now) }
     ensures unserved { IfErr result (λ left. (left ≡ desk)
-        × TakesAll (kit_told H.Door.Door H.Clock.Clock H.Maker.Maker) (H.told house.old) (H.told house.new) kits) }
+        × TakesAll (kit_told H.Door.Door H.Clock.Clock H.Maker.Maker) (H.told house.old)
+        (H.told house.new) kits) }
 {
     match serve_all(rt, alloc, desk, kits, links) {
         Ok(closed) => Ok(conclude(house, closed)),
@@ -175,7 +179,8 @@ pub fn serve_house<H: House, D: Disk + Send, W: Threads + Wait + Sync>(
         (bound_once_more (H.told house.old).bound address.host address.port) desk
         (H.told house.old) (H.told house.new) hosted.failed hosted.pass.seen hosted.desk) }
     ensures unserved { IfErr result (λ left. (left.0 ≡ desk)
-        × Unserved (bound_once_more (H.told house.old).bound address.host address.port) (H.told house.old) (H.told house.new) left.1) }
+        × Unserved (bound_once_more (H.told house.old).bound address.host address.port)
+        (H.told house.old) (H.told house.new) left.1) }
 {
     let Address { host, port } = address;
     match house.bind(host, port) {

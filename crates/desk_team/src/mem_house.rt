@@ -110,8 +110,10 @@ impl<M: Maker> MemHouse<M> {
     /// Hands out the next kit, if one is left.
     fn hand_out(&mut self) -> Result<Kit<MemDoor, MemClock, M>, Failed>
         ensures hands_out { HandsOut
-            (mem_told (λ kit. M.refusals kit.maker) self.old.made.items self.old.back.items (bound_of self.old.binds self.old.last) self.old.calls.faults)
-            (mem_told (λ kit. M.refusals kit.maker) self.new.made.items self.new.back.items (bound_of self.new.binds self.new.last) self.new.calls.faults)
+            (mem_told (λ kit. M.refusals kit.maker) self.old.made.items self.old.back.items
+            (bound_of self.old.binds self.old.last) self.old.calls.faults)
+            (mem_told (λ kit. M.refusals kit.maker) self.new.made.items self.new.back.items
+            (bound_of self.new.binds self.new.last) self.new.calls.faults)
             result }
         ensures fresh { IfOk result (λ kit. IsNew kit.door (M.refusals kit.maker)) }
     {
@@ -137,7 +139,8 @@ impl<M: Maker + Drop + Send> House for MemHouse<M> {
 
     ghost use Rattle.desk_team.specs.Houses.{IsOneOut, TakesBack, bound_of, mem_told};
 
-    ghost told = { λ h. mem_told (λ kit. M.refusals kit.maker) h.made.items h.back.items (bound_of h.binds h.last) h.calls.faults };
+    ghost told = { λ h. mem_told (λ kit. M.refusals kit.maker) h.made.items h.back.items
+        (bound_of h.binds h.last) h.calls.faults };
 
     fn bind(&mut self, host: Text, port: u16) -> Result<(), Failed> {
         self.binds = self.binds.saturating_add(1);
@@ -156,8 +159,10 @@ impl<M: Maker + Drop + Send> House for MemHouse<M> {
         requires { IsOneOut (mem_told (λ kit. M.refusals kit.maker)
             self.old.made.items self.old.back.items (bound_of self.old.binds self.old.last) self.old.calls.faults) }
         ensures { TakesBack
-            (mem_told (λ kit. M.refusals kit.maker) self.old.made.items self.old.back.items (bound_of self.old.binds self.old.last) self.old.calls.faults)
-            (mem_told (λ kit. M.refusals kit.maker) self.new.made.items self.new.back.items (bound_of self.new.binds self.new.last) self.new.calls.faults)
+            (mem_told (λ kit. M.refusals kit.maker) self.old.made.items self.old.back.items
+            (bound_of self.old.binds self.old.last) self.old.calls.faults)
+            (mem_told (λ kit. M.refusals kit.maker) self.new.made.items self.new.back.items
+            (bound_of self.new.binds self.new.last) self.new.calls.faults)
             kit kit.door.faults (M.refusals kit.maker) }
     {
         self.calls.take_door(kit.door.faults());

@@ -65,7 +65,8 @@ fn dismiss<D: Disk, R: Drop, C: Drop, M: Drop>(
     ensures kits { result.0 ≡ map (λ worker. worker.kit) workers.items }
     ensures failed { result.1 ≡ list_any has_failed workers.items }
     ensures joined { first.new.joined ≡ first.old.joined ++ map member_of workers.items }
-    ensures first { IsFirst turn.now first.new × (first.new.made ≡ first.old.made) × (first.new.mine ≡ first.old.mine) }
+    ensures first { IsFirst turn.now first.new × (first.new.made ≡ first.old.made)
+        × (first.new.mine ≡ first.old.mine) }
 {
     let mut failed = false;
     for worker in workers {
@@ -95,7 +96,8 @@ fn serve_under<
     requires first { lock.1 ≡ first_pass lock.0 }
     requires none { (rooms.0.items ≡ []) × (rooms.1.items ≡ []) }
     requires room { (length kits ≤ vec_capacity rooms.0) × (length kits ≤ vec_capacity rooms.1) }
-    ensures { ServesTeam R.Link.coming R.Link.sent limit lock.0.opening.desk (told_of R.Door C.Clock M.Maker kits)
+    ensures { ServesTeam R.Link.coming R.Link.sent limit lock.0.opening.desk
+        (told_of R.Door C.Clock M.Maker kits)
         (told_of R.Door C.Clock M.Maker result.kits) result.failed result.pass.seen result.desk }
 {
     let (turn, mut first) = lock;

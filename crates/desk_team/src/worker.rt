@@ -107,7 +107,8 @@ fn work_each<
         threads,
         &|_place: usize, worker: &mut Worker<Pass<Shared<D>>, R, C, M>|
             requires { IsFree turn.now worker.now.pass }
-            ensures { Worked R.Door C.Clock M.Maker R.Link.coming R.Link.sent limit worker.entry.now worker.exit.now }
+            ensures { Worked R.Door C.Clock M.Maker R.Link.coming R.Link.sent limit
+                worker.entry.now worker.exit.now }
         { work(rt, alloc, turn, worker, limit) },
     );
 }
@@ -127,7 +128,8 @@ pub fn work_all<
     limit: u64,
 )
     requires { All (λ worker. IsFree turn.now worker.pass) workers.old.items }
-    ensures worked { AllWorked R.Door C.Clock M.Maker R.Link.coming R.Link.sent limit workers.old.items workers.new.items }
+    ensures worked { AllWorked R.Door C.Clock M.Maker R.Link.coming R.Link.sent limit
+        workers.old.items workers.new.items }
     ensures many { length workers.new.items ≡ length workers.old.items }
     ensures free { All (λ worker. IsFree turn.now worker.pass) workers.new.items }
 {

@@ -28,14 +28,16 @@ pub fn each_is_answered<D: Disk>()
 /// Where the text of the machine that a legal history begins with makes a journal, so does the text at each place; and a
 /// report is answered there byte for byte as a fresh run of its words over that text, with any year before it.
 pub fn reports_are_fresh<D: Disk>()
-    ensures { (opening last : Desk D D.Disk) (earlier later : List (Entered Entry)) (x : Entered Entry) (words : List (List ℕ))
-        → IsLegal opening (earlier ++ x ∷ later) last → Loads (state_of opening) → x.entry.request ≡ request.Report words
+    ensures { (opening last : Desk D D.Disk) (earlier later : List (Entered Entry))
+        (x : Entered Entry) (words : List (List ℕ))
+        → IsLegal opening (earlier ++ x ∷ later) last → Loads (state_of opening)
+        → x.entry.request ≡ request.Report words
         → (before : Desk D D.Disk) × IsLegal opening earlier before × Loads (state_of before)
         × IsFreshRun (state_of before) x.entry.day.0 words x.entry.reply }
 {}
 
-/// A request that a machine answers as done asks for an edit, and the change of the store that the edit is makes the image after it
-/// of the one before.
+/// A request that a machine answers as done asks for an edit, and the change of the store that the edit is makes the image
+/// after it of the one before.
 pub fn done_is_a_change<D: Disk>()
     ensures { (before after : Desk D D.Disk) (entry : Entry)
         → IsServed before entry after → is_done entry.reply ≡ true
@@ -48,13 +50,15 @@ pub fn done_is_a_change<D: Disk>()
 pub fn disks_show_the_last<D: Disk>()
     ensures { (opening last : Desk D D.Disk) (history : List (Entered Entry)) (pending : Option Image)
         → IsLegal opening history last → Stands opening.store (shown_by opening) pending
-        → (after : Option Image) × MayBeLeft opening history pending after × Stands last.store (shown_by last) after }
+        → (after : Option Image) × MayBeLeft opening history pending after
+        × Stands last.store (shown_by last) after }
 {}
 
 /// Where some entry of a legal history tells a disk fault, the count of the disks' failed calls rose.
 pub fn faults_are_counted<D: Disk>()
     ensures { (opening last : Desk D D.Disk) (history : List (Entered Entry))
-        → IsLegal opening history last → has_fault history ≡ true → Rose (faults_of opening) (faults_of last) }
+        → IsLegal opening history last → has_fault history ≡ true
+        → Rose (faults_of opening) (faults_of last) }
 {}
 
 /// After a legal history a machine that had counted nothing tells how many requests there were, and how many of them
@@ -68,5 +72,6 @@ pub fn counts_are_kept<D: Disk>()
 /// those that answer that a pattern was refused, or has come to its last value.
 pub fn refusals_are_counted()
     ensures { (before now : ℕ) (last_before last_now : Option (List ℕ)) (entries : List Entry)
-        → TellsEntries before now last_before last_now entries → RoseBy before now (pattern_refusals entries) }
+        → TellsEntries before now last_before last_now entries
+        → RoseBy before now (pattern_refusals entries) }
 {}

@@ -83,7 +83,8 @@ impl<'a, D: Disk, W: Wait> Ask for Locked<'a, D, W> {
     ghost use Rattle.turn_lock.proofs.Growth.{calls_in_a_row, no_calls};
 
     /// The same pass grew by these entries.
-    ghost leads = { λ a entries b. (b.pass.ghost_name ≡ a.pass.ghost_name) × Grown a.pass.now b.pass.now entries };
+    ghost leads = { λ a entries b. (b.pass.ghost_name ≡ a.pass.ghost_name)
+        × Grown a.pass.now b.pass.now entries };
 
     ghost IsSpent = { λ a. IsFull a.pass.now };
 

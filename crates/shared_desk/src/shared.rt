@@ -36,7 +36,8 @@ impl Model for Noted {
 impl Noted {
     /// The entry of a request that came on a day, with its reply and the revision after it.
     pub fn of(request: &Request, day: Day, reply: &Reply, revision: u64) -> Noted
-        ensures { result ≡ record { request = request.now; day = day; reply = reply.now; revision = revision } }
+        ensures { result
+            ≡ record { request = request.now; day = day; reply = reply.now; revision = revision } }
     {
         Noted {
             request: Snapshot::of(request),

@@ -32,7 +32,8 @@ fn ask_desk<D: Disk, M: Maker, L: Ledger>(
     steps: &mut Steps<L>,
 ) -> (D, D, Reply)
     requires { IsDay edit.now.day.0 }
-    ensures { IsAsked desk edit.now.request edit.now.day (told_by M.Maker maker.old maker.new) result.2 (result.0, result.1) }
+    ensures { IsAsked desk edit.now.request edit.now.day (told_by M.Maker maker.old maker.new)
+        result.2 (result.0, result.1) }
 {
     let mut desk = desk;
     let reply = desk.request(alloc, &edit.request, edit.day, maker, steps);
@@ -51,7 +52,8 @@ pub(crate) fn ask_disks<D: Disk, M: Maker, L: Ledger>(
     steps: &mut Steps<L>,
 ) -> (D, D, Result<Reply, JournalRefusal>)
     requires { IsDay edit.now.day.0 }
-    ensures { AsksDisks D.Disk (first, second) (result.0, result.1) edit.now.request edit.now.day (told_by M.Maker maker.old maker.new) result.2 }
+    ensures { AsksDisks D.Disk (first, second) (result.0, result.1) edit.now.request edit.now.day
+        (told_by M.Maker maker.old maker.new) result.2 }
 {
     match Desk::open(alloc, first, second, Allow::Edit, steps) {
         Ok(desk) => {

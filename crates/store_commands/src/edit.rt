@@ -35,7 +35,8 @@ fn edit_beside<S: Shelf, M: Maker, L: Ledger>(
     requires day { IsDay edit.now.day.0 }
     requires edit { IsEdit edit.now.request }
     requires name { beside.now ≡ second_name_of edit.now.store }
-    ensures { EditsStore S.Shelf S.Disk.Disk edit.now.store edit.now.request edit.now.day (told_by M.Maker maker.old maker.new) shelf.old shelf.new result }
+    ensures { EditsStore S.Shelf S.Disk.Disk edit.now.store edit.now.request edit.now.day
+        (told_by M.Maker maker.old maker.new) shelf.old shelf.new result }
 {
     match take_disks(alloc, shelf, &edit.store, beside, false) {
         Ok((first, second)) => {
@@ -60,7 +61,8 @@ pub fn edit_store<S: Shelf, M: Maker, L: Ledger>(
 ) -> Result<Reply, JournalRefusal>
     requires day { IsDay edit.now.day.0 }
     requires edit { IsEdit edit.now.request }
-    ensures edits { EditsStore S.Shelf S.Disk.Disk edit.now.store edit.now.request edit.now.day (told_by M.Maker maker.old maker.new) shelf.old shelf.new result }
+    ensures edits { EditsStore S.Shelf S.Disk.Disk edit.now.store edit.now.request edit.now.day
+        (told_by M.Maker maker.old maker.new) shelf.old shelf.new result }
     ensures kind { IfOk result IsEditReply }
 {
     let Ok(beside) = second_name(alloc, &edit.store) else {

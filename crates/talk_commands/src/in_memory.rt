@@ -81,7 +81,8 @@ pub fn talk_from<K: Link, M: Maker, L: Ledger>(
     steps: &mut Steps<L>,
 ) -> Result<ConnEnd, JournalRefusal>
     requires { IsDay terms.day.0 }
-    ensures talks { TalksFrom text.now terms.allow terms.day.0 (told_by M.Maker maker.old maker.new) (wire K.Link link.old link.new) result }
+    ensures talks { TalksFrom text.now terms.allow terms.day.0 (told_by M.Maker maker.old maker.new)
+        (wire K.Link link.old link.new) result }
     ensures untouched { OnErr result ((link.new ≡ link.old) × (maker.new ≡ maker.old)) }
 {
     if let Err(refusal) = judge_text(alloc, text, steps) {

@@ -34,7 +34,8 @@ fn talk_disks<D: Disk, K: Link, M: Maker, L: Ledger>(
     steps: &mut Steps<L>,
 ) -> (D, D, Result<ConnEnd, JournalRefusal>)
     requires { IsDay terms.day.0 }
-    ensures talks { TalksDisks D.Disk terms.allow disks (result.0, result.1) terms.day.0 (told_by M.Maker maker.old maker.new) (wire K.Link link.old link.new) result.2 }
+    ensures talks { TalksDisks D.Disk terms.allow disks (result.0, result.1) terms.day.0
+        (told_by M.Maker maker.old maker.new) (wire K.Link link.old link.new) result.2 }
     ensures untouched { OnErr result.2 ((link.new ≡ link.old) × (maker.new ≡ maker.old)) }
 {
     let (first, second) = disks;

@@ -71,7 +71,8 @@ pub(crate) fn talk_desk<D: Disk, K: Link, M: Maker, L: Ledger>(
     steps: &mut Steps<L>,
 ) -> (D, D, ConnEnd)
     requires { IsDay day.0 }
-    ensures { (entries : List Entry) × IsTalked desk day.0 (told_by M.Maker maker.old maker.new) (wire K.Link link.old link.new)
+    ensures { (entries : List Entry) × IsTalked desk day.0 (told_by M.Maker maker.old maker.new)
+        (wire K.Link link.old link.new)
         result.2 (result.0, result.1) entries }
 {
     let mut machine = Machine { desk };

@@ -44,5 +44,6 @@ pub trait Ask {
     ghost none: { (a : Self) → leads a [] a };
 
     /// Two runs of calls in a row make the entries of both.
-    ghost joined: { (a b c : Self) (xs ys : List Entry) → leads a xs b → leads b ys c → leads a (xs ++ ys) c };
+    ghost joined: { (a b c : Self) (xs ys : List Entry) → leads a xs b → leads b ys c
+        → leads a (xs ++ ys) c };
 }

@@ -37,7 +37,8 @@ fn send<K: Link>(link: &mut K, reply: &Bytes) -> Result<(), ConnEnd>
     ensures told { Sends (K.sent link.old) (K.sent link.new) (λ text. SentSo result reply.now text) }
     ensures coming { K.coming link.new ≡ K.coming link.old }
     ensures broken { IfErr result IsBroken }
-    ensures counted { CountedIn result (K.read_faults link.old) (K.read_faults link.new) (K.write_faults link.old) (K.write_faults link.new) }
+    ensures counted { CountedIn result (K.read_faults link.old) (K.read_faults link.new)
+        (K.write_faults link.old) (K.write_faults link.new) }
 {
     match send_all(link, reply.as_slice()) {
         Ok(()) => Ok(()),
@@ -73,10 +74,12 @@ fn end_of_stop(stop: Stop, at: u64) -> ConnEnd
 
 /// Sends the reply that belongs to where the reading stopped.
 fn send_refusal<K: Link>(alloc: Global, link: &mut K, refusal: Refusal) -> Result<(), ConnEnd>
-    ensures told { Sends (K.sent link.old) (K.sent link.new) (λ text. SentSo result (refusal_message true refusal) text) }
+    ensures told { Sends (K.sent link.old) (K.sent link.new)
+        (λ text. SentSo result (refusal_message true refusal) text) }
     ensures coming { K.coming link.new ≡ K.coming link.old }
     ensures broken { IfErr result IsBroken }
-    ensures counted { CountedIn result (K.read_faults link.old) (K.read_faults link.new) (K.write_faults link.old) (K.write_faults link.new) }
+    ensures counted { CountedIn result (K.read_faults link.old) (K.read_faults link.new)
+        (K.write_faults link.old) (K.write_faults link.new) }
 {
     let reply = refusal_reply(alloc, refusal, true)?;
     send(link, &reply)
@@ -87,7 +90,8 @@ fn finish<K: Link>(alloc: Global, link: &mut K, stop: Stop, at: u64) -> ConnEnd
     ensures told { Sends (K.sent link.old) (K.sent link.new) (λ text. ClosesSo at stop result text) }
     ensures kind { (result ≡ end_of at (ending_of stop)) ⊎ IsBroken result }
     ensures coming { K.coming link.new ≡ K.coming link.old }
-    ensures counted { Counted result (K.read_faults link.old) (K.read_faults link.new) (K.write_faults link.old) (K.write_faults link.new) }
+    ensures counted { Counted result (K.read_faults link.old) (K.read_faults link.new)
+        (K.write_faults link.old) (K.write_faults link.new) }
 {
     match refusal_of_stop(stop) {
         None => end_of_stop(stop, at),
@@ -112,12 +116,14 @@ fn answer_request<A: Ask, K: Link, C: Clock, M: Maker, L: Ledger>(
     ensures answered { (entries : List Entry) × A.leads ask.old entries ask.new
         × AreAsked (C.always clock.old) (M.refusals maker.old) (M.refusals maker.new)
         (M.last_refused maker.old) (M.last_refused maker.new) entries
-        × Sends (K.sent link.old) (K.sent link.new) (λ text. AnswersSo closing (Ok request.now) result entries text) }
+        × Sends (K.sent link.old) (K.sent link.new)
+        (λ text. AnswersSo closing (Ok request.now) result entries text) }
     ensures spent { result ≡ Err ConnEnd.Spent → A.IsSpent ask.new }
     ensures always { C.always clock.new ≡ C.always clock.old }
     ensures coming { K.coming link.new ≡ K.coming link.old }
     ensures kind { IfErr result IsFailure }
-    ensures counted { CountedIn result (K.read_faults link.old) (K.read_faults link.new) (K.write_faults link.old) (K.write_faults link.new) }
+    ensures counted { CountedIn result (K.read_faults link.old) (K.read_faults link.new)
+        (K.write_faults link.old) (K.write_faults link.new) }
 {
     let day = Day(clock.day());
     let Ok((reply, revision)) = ask.ask(alloc, request, day, maker, steps) else {
@@ -134,10 +140,12 @@ fn answer_refusal<K: Link>(
     refusal: Refusal,
     closing: bool,
 ) -> Result<(), ConnEnd>
-    ensures answered { Sends (K.sent link.old) (K.sent link.new) (λ text. AnswersSo closing (Err refusal) result [] text) }
+    ensures answered { Sends (K.sent link.old) (K.sent link.new)
+        (λ text. AnswersSo closing (Err refusal) result [] text) }
     ensures coming { K.coming link.new ≡ K.coming link.old }
     ensures kind { IfErr result IsBroken }
-    ensures counted { CountedIn result (K.read_faults link.old) (K.read_faults link.new) (K.write_faults link.old) (K.write_faults link.new) }
+    ensures counted { CountedIn result (K.read_faults link.old) (K.read_faults link.new)
+        (K.write_faults link.old) (K.write_faults link.new) }
 {
     let text = refusal_reply(alloc, refusal, closing)?;
     send(link, &text)
@@ -164,7 +172,8 @@ fn answer<A: Ask, K: Link, C: Clock, M: Maker, L: Ledger>(
     ensures always { C.always clock.new ≡ C.always clock.old }
     ensures coming { K.coming link.new ≡ K.coming link.old }
     ensures kind { IfErr result IsFailure }
-    ensures counted { CountedIn result (K.read_faults link.old) (K.read_faults link.new) (K.write_faults link.old) (K.write_faults link.new) }
+    ensures counted { CountedIn result (K.read_faults link.old) (K.read_faults link.new)
+        (K.write_faults link.old) (K.write_faults link.new) }
 {
     match call(alloc, head.route, head.query.as_slice(), body)? {
         Ok(request) => answer_request(alloc, ask, link, clock, maker, steps, &request, closing),
@@ -201,7 +210,8 @@ fn read_next<K: Link>(
     ensures stream { OnOk result (Keeps (K.coming link.old) incoming.old (K.coming link.new) incoming.new) }
     ensures sent { K.sent link.new ≡ K.sent link.old }
     ensures broken { IfErr result IsBroken }
-    ensures counted { CountedIn result (K.read_faults link.old) (K.read_faults link.new) (K.write_faults link.old) (K.write_faults link.new) }
+    ensures counted { CountedIn result (K.read_faults link.old) (K.read_faults link.new)
+        (K.write_faults link.old) (K.write_faults link.new) }
 {
     match next_message(alloc, paths, incoming, link) {
         Ok(next) => Ok(next),
@@ -227,12 +237,14 @@ fn serve_one<A: Ask, K: Link, C: Clock, M: Maker, L: Ledger>(
         × AreAsked (C.always clock.old) (M.refusals maker.old) (M.refusals maker.new)
         (M.last_refused maker.old) (M.last_refused maker.new) entries
         × ((rest : List ℕ) → IsStream (K.coming link.old) incoming.old rest
-        → Turned (K.sent link.old) (K.sent link.new) (K.coming link.new) incoming.new at count rest result entries) }
+        → Turned (K.sent link.old) (K.sent link.new) (K.coming link.new) incoming.new at count rest
+        result entries) }
     ensures size { IfOk result (λ size. size ≤ 8404992) }
     ensures few { OnOk result (count + 1 < most_messages) }
     ensures spent { result ≡ Err ConnEnd.Spent → A.IsSpent ask.new }
     ensures always { C.always clock.new ≡ C.always clock.old }
-    ensures counted { CountedIn result (K.read_faults link.old) (K.read_faults link.new) (K.write_faults link.old) (K.write_faults link.new) }
+    ensures counted { CountedIn result (K.read_faults link.old) (K.read_faults link.new)
+        (K.write_faults link.old) (K.write_faults link.new) }
 {
     match read_next(alloc, paths, incoming, link)? {
         Next::Stopped(stop) => Err(finish(alloc, link, stop, at)),
@@ -268,7 +280,8 @@ pub fn serve_link<A: Ask, K: Link, C: Clock, M: Maker, L: Ledger>(
         (M.last_refused maker.old) (M.last_refused maker.new) entries
         × IfSome (K.coming link.old)
         (λ bytes. Sends (K.sent link.old) (K.sent link.new) (λ text. Served bytes result entries text)) }
-    ensures counted { Counted result (K.read_faults link.old) (K.read_faults link.new) (K.write_faults link.old) (K.write_faults link.new) }
+    ensures counted { Counted result (K.read_faults link.old) (K.read_faults link.new)
+        (K.write_faults link.old) (K.write_faults link.new) }
     ensures spent { result ≡ ConnEnd.Spent → A.IsSpent ask.new }
     ensures always { C.always clock.new ≡ C.always clock.old }
 
