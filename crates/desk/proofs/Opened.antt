@@ -14,11 +14,11 @@ use Rattle.text_store.specs.declared.store.Store.{Store}
 use Rattle.text_store.specs.Edits.{whole_size}
 use Rattle.text_store.specs.Files.{HaveShortNames, IsWritable, WhileOpened, file_in_use, fresh, opened_limit, uses_second}
 use Rattle.text_store.specs.Image.{Half, NoImage, have_own_names, image, live}
-use Rattle.text_store.specs.Refusals.{CreateRefused, OpenRefused, ReadTheSame}
+use Rattle.text_store.specs.Refusals.{CreateRefused, ImageStays, OpenRefused, ReadTheSame, TellImage}
 use Rattle.text_store.specs.Stores.{Holds, IsChosen, Keeps, Leads, Tell, Throughout, disks, image_beside, limit_of, placed, size_of}
 use Rattle.text_store.proofs.Holding.{led}
 use Rattle.desk.specs.Keeping.{are_writable, have_short_names}
-use Rattle.desk.specs.Openings.{ImageStays, MakingRefused, OpeningRefused, TellImage, load_refusal, store_refusal}
+use Rattle.desk.specs.Openings.{MakingRefused, OpeningRefused, load_refusal, store_refusal}
 
 -- a journal that was opened is the one that was asked for
 opened_by : (j : Journal) (o : Option OpenFault) (live : Journal) → or_fault j o ≡ Ok live → live ≡ j
@@ -103,12 +103,22 @@ read_stays g old new same = λ f s a b. (f, s, same.0 ∙ a, same.1 ∙ b, refl)
 
 -- a store that isn't opened is no machine
 pub unread : {D : Type 0} (g : Ghosts D) (old new : D × D) (fault : StoreFault) → OpenRefused g old new fault → OpeningRefused g old new (store_refusal fault)
-unread g old new store_fault.Memory h = read_stays g old new h
+unread g old new store_fault.Memory h = tt
 unread g old new store_fault.DiskFault h = h
 unread g old new (store_fault.NotAStore at) h = h
 unread g old new (store_fault.Newer version) h = h
 unread g old new (store_fault.Full size limit) h = h
 unread g old new (store_fault.Exists len) h = h
+
+-- and it leaves the image, or the want of one
+pub image_left : {D : Type 0} (g : Ghosts D) (old new : D × D) (fault : StoreFault) → OpenRefused g old new fault
+    → (fault ≡ store_fault.DiskFault → ImageStays g old new) → ImageStays g old new
+image_left g old new store_fault.Memory h stays = read_stays g old new h
+image_left g old new store_fault.DiskFault h stays = stays refl
+image_left g old new (store_fault.NotAStore at) h stays = read_stays g old new h.1
+image_left g old new (store_fault.Newer version) h stays = read_stays g old new h.1
+image_left g old new (store_fault.Full size limit) h stays = absurd h
+image_left g old new (store_fault.Exists len) h stays = absurd h
 
 -- ---- what the disks of a store read as
 
@@ -170,9 +180,7 @@ module _ {D : Type 0} (g : Ghosts D) where
 -- the text of a store that was opened makes no machine
 pub unloaded_store : {D : Type 0} (g : Ghosts D) (old new : D × D) (store : Store D g) (shown : Image) (fault : OpenFault)
     → ((f s : List ℕ) → g.seen old.0 ≡ Some f → g.seen old.1 ≡ Some s → (image f s ≡ Ok shown) × Holds store shown × (limit_of store ≡ opened_limit f s))
-    → new ≡ disks store → Tells fault (fault_of None shown.text) → OpeningRefused g old new (load_refusal fault)
-unloaded_store g old new store shown unopened.Memory opened is told = opened_stays g old new store shown opened is
-unloaded_store g old new store shown (unopened.Load fault) opened is told =
-    (λ f s a b. (shown, (opened f s a b).0, told), opened_stays g old new store shown opened is)
-unloaded_store g old new store shown (unopened.TooLarge limit size) opened is told =
-    (λ f s a b. (shown, (opened f s a b).0, told), opened_stays g old new store shown opened is)
+    → Tells fault (fault_of None shown.text) → OpeningRefused g old new (load_refusal fault)
+unloaded_store g old new store shown unopened.Memory opened told = tt
+unloaded_store g old new store shown (unopened.Load fault) opened told = λ f s a b. (shown, (opened f s a b).0, told)
+unloaded_store g old new store shown (unopened.TooLarge limit size) opened told = λ f s a b. (shown, (opened f s a b).0, told)

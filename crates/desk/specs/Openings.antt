@@ -1,5 +1,5 @@
 -- Why a machine isn't made or opened.
-use Rattle.std.specs.Prelude.{◌≡◌, ℕ, List, Some, None, Result, Ok, Err}
+use Rattle.std.specs.Prelude.{◌≡◌, ℕ, List, None, Result, Ok, Err}
 use Rattle.hl_base.specs.declared.disk.Disk.{Ghosts}
 use Rattle.live_journal.specs.declared.fault.OpenFault.{OpenFault}
 use Rattle.live_journal.specs.declared.fault.OpenFault.TheVariants as unopened
@@ -9,7 +9,7 @@ use Rattle.text_store.specs.declared.fault.StoreFault.TheVariants as store_fault
 use Rattle.text_store.specs.declared.image.Image.{Image}
 use Rattle.text_store.specs.Edits.{whole_size}
 use Rattle.text_store.specs.Files.{fresh}
-use Rattle.text_store.specs.Image.{NoImage, image}
+use Rattle.text_store.specs.Image.{image}
 use Rattle.text_store.specs.Refusals.{CreateRefused, OpenRefused, Told}
 use Rattle.desk.specs.declared.desk.Desk.{Desk}
 use Rattle.desk.specs.declared.fault.DeskFault.{DeskFault}
@@ -43,24 +43,13 @@ abbrev pub Unloaded : OpenFault → List ℕ → List ℕ → Type 0
 Unloaded fault first second =
     (shown : Image) × (image first second ≡ Ok shown) × Tells fault (fault_of None shown.text)
 
--- two disks tell their files, which have this image, or the want of one
-abbrev pub TellImage : {D : Type 0} → Ghosts D → D × D → Result Image NoImage → Type 0
-TellImage g pair found =
-    (first : List ℕ) × (second : List ℕ)
-    × (g.seen pair.0 ≡ Some first) × (g.seen pair.1 ≡ Some second) × (image first second ≡ found)
-
--- disks that told their files still do, and these have the image, or the want of one, that they had
-abbrev pub ImageStays : {D : Type 0} → Ghosts D → D × D → D × D → Type 0
-ImageStays g old new = Told g old (λ f s. TellImage g new (image f s))
-
--- Why two files aren't opened as a machine: the store is judged first, and then its text. Where the store was opened its image
--- stays, as where memory ran out, and that is told as such.
+-- Why two files aren't opened as a machine: the store is judged first, and then its text. Want of memory is told as such.
 abbrev pub OpeningRefused : {D : Type 0} → Ghosts D → D × D → D × D → DeskFault → Type 0
 OpeningRefused g old new (desk_fault.Load unopened.Memory) = ⊥
-OpeningRefused g old new (desk_fault.Load fault) = Told g old (Unloaded fault) × ImageStays g old new
+OpeningRefused g old new (desk_fault.Load fault) = Told g old (Unloaded fault)
 OpeningRefused g old new (desk_fault.Store store_fault.Memory) = ⊥
 OpeningRefused g old new (desk_fault.Store fault) = OpenRefused g old new fault
-OpeningRefused g old new desk_fault.Memory = ImageStays g old new
+OpeningRefused g old new desk_fault.Memory = Unit {0}
 
 -- the disks of what was made or opened, or those that are given back
 abbrev pub disks_of : {D : Type 0} {g : Ghosts D} → (Desk D g → D × D) → Result (Desk D g) (D × D × DeskFault) → D × D

@@ -42,7 +42,7 @@ impl<D: Disk> Desk<D> {
     ghost use Rattle.text_store.specs.Files.{fresh, WhileMade, WhileOpened, file_in_use, opened_limit, opened_size};
     ghost use Rattle.text_store.specs.Image.{image};
     ghost use Rattle.text_store.specs.Edits.{whole_size};
-    ghost use Rattle.text_store.specs.Refusals.{Told};
+    ghost use Rattle.text_store.specs.Refusals.{ImageStays, Told};
     ghost use Rattle.text_store.specs.Stores.{disks, Keeps, Tell, Throughout, bounds, fault_count, limit_of};
     ghost use Rattle.desk.specs.Desks.{counts_of, faults_of, shown_by, state_of};
     ghost use Rattle.desk.specs.Openings.{MakingRefused, OpeningRefused, disks_of};
@@ -123,6 +123,9 @@ impl<D: Disk> Desk<D> {
             (state_of desk).size ≡ length (file_in_use f s)))) }
         ensures counts { IfOk result (λ desk. counts_of desk ≡ (0, 0)) }
         ensures cause { IfErr result (λ e. OpeningRefused D.Disk (first, second) (e.0, e.1) e.2) }
+
+        // Where it isn't opened, the disks read as files with the image, or the want of one, that they had.
+        ensures stays { IfErr result (λ e. ImageStays D.Disk (first, second) (e.0, e.1)) }
 
         // A crash at any moment leaves files that it might have left before, or files with the image, or the want of one,
         // of those that the disks read as.

@@ -9,7 +9,6 @@ use Rattle.live_journal.specs.Loading.{fault_of}
 use Rattle.text_store.specs.declared.fault.StoreFault.TheVariants as store_fault
 use Rattle.text_store.specs.declared.image.Image.{Image}
 use Rattle.text_store.specs.Image.{NoImage, image}
-use Rattle.text_store.specs.Refusals.{ReadTheSame}
 use Rattle.text_store.specs.Stores.{fault_count}
 use Rattle.desk.specs.declared.desk.Desk.{Desk}
 use Rattle.desk.specs.declared.fault.DeskFault.{DeskFault}
@@ -18,7 +17,7 @@ use Rattle.desk.specs.declared.reply.Reply.{Reply}
 use Rattle.desk.specs.declared.request.Allow.TheVariants as allow
 use Rattle.desk.specs.declared.request.Request.{Request}
 use Rattle.desk.specs.Desks.{faults_of, shown_by, state_of}
-use Rattle.desk.specs.Openings.{ImageStays, OpeningRefused}
+use Rattle.desk.specs.Openings.{OpeningRefused}
 use Rattle.desk.specs.States.{State, answer_to, deed_in, image_of}
 use Rattle.desk.specs.Steps.{Completes, Step, is_fault, next_of}
 use Rattle.store_text.specs.Reading.{ReadAs}
@@ -106,26 +105,10 @@ module _ {D : Type 0} (g : Disks D) (old : D × D) where
   refused_opening f s is_first is_second new (desk_fault.Store (store_fault.Exists len)) cause = absurd cause
   refused_opening f s is_first is_second new (desk_fault.Store store_fault.Memory) cause = absurd cause
   refused_opening f s is_first is_second new (desk_fault.Load unopened_text.Memory) cause = absurd cause
-  refused_opening f s is_first is_second new (desk_fault.Load (unopened_text.Load fault)) cause = fault_in f s (unopened_text.Load fault) (cause.0 f s is_first is_second)
+  refused_opening f s is_first is_second new (desk_fault.Load (unopened_text.Load fault)) cause = fault_in f s (unopened_text.Load fault) (cause f s is_first is_second)
   refused_opening f s is_first is_second new (desk_fault.Load (unopened_text.TooLarge limit size)) cause =
-      fault_in f s (unopened_text.TooLarge limit size) (cause.0 f s is_first is_second)
+      fault_in f s (unopened_text.TooLarge limit size) (cause f s is_first is_second)
   refused_opening f s is_first is_second new desk_fault.Memory cause = tt
-
-  -- disks that read as they did have the image that they had
-  read_stays : (new : D × D) → ReadTheSame g old new → ImageStays g old new
-  read_stays new same = λ f s a b. (f, s, same.0 ∙ a, same.1 ∙ b, refl)
-
-  stays_opening : (new : D × D) (fault : DeskFault) → OpeningRefused g old new fault → of_opening fault ≢ journal.Store refusal.DiskFault → ImageStays g old new
-  stays_opening new (desk_fault.Store store_fault.DiskFault) cause unlike = absurd (unlike refl)
-  stays_opening new (desk_fault.Store (store_fault.NotAStore at)) cause unlike = read_stays new cause.1
-  stays_opening new (desk_fault.Store (store_fault.Newer version)) cause unlike = read_stays new cause.1
-  stays_opening new (desk_fault.Store (store_fault.Full size limit)) cause unlike = absurd cause
-  stays_opening new (desk_fault.Store (store_fault.Exists len)) cause unlike = absurd cause
-  stays_opening new (desk_fault.Store store_fault.Memory) cause unlike = absurd cause
-  stays_opening new (desk_fault.Load unopened_text.Memory) cause unlike = absurd cause
-  stays_opening new (desk_fault.Load (unopened_text.Load fault)) cause unlike = cause.1
-  stays_opening new (desk_fault.Load (unopened_text.TooLarge limit size)) cause unlike = cause.1
-  stays_opening new desk_fault.Memory cause unlike = cause
 
   kind_opening : (new : D × D) (fault : DeskFault) → OpeningRefused g old new fault → IsOfOpening (of_opening fault) × (of_opening fault ≢ journal.Store refusal.ReadFault)
   kind_opening new (desk_fault.Store store_fault.DiskFault) cause = (tt, λ e. cc)
@@ -156,9 +139,6 @@ module _ {D : Type 0} (g : Disks D) (old : D × D) where
     pub refused_by : (f s : List ℕ) → g.seen old.0 ≡ Some f → g.seen old.1 ≡ Some s → IsRefusedBy (Some (image f s)) e
     refused_by f s is_first is_second =
         subst (λ (x : JournalRefusal). IsRefusedBy (Some (image f s)) x) (sym unopened.is) (refused_opening f s is_first is_second new unopened.fault unopened.cause)
-
-    pub image_kept : e ≢ journal.Store refusal.DiskFault → ImageStays g old new
-    image_kept unlike = stays_opening new unopened.fault unopened.cause (λ same. unlike (unopened.is ∙ same))
 
     pub kind_is : IsOfOpening e
     kind_is = subst (λ (x : JournalRefusal). IsOfOpening x) (sym unopened.is) (kind_opening new unopened.fault unopened.cause).0

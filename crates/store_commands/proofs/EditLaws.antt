@@ -29,7 +29,7 @@ use Rattle.store_making.specs.declared.refusal.JournalRefusal.{JournalRefusal}
 use Rattle.store_making.specs.declared.refusal.JournalRefusal.TheVariants as journal
 use Rattle.store_commands.specs.Asking.{AsksDisks, EditsStore, HasFault, IsAsked, IsOfOpening, IsRefusedBy, IsReplied, IsUnopened, OpensAs, Outcome, Patterns, PatternsStay, ShowsAfter, WereTaken, limit_under, size_under, state_under}
 use Rattle.store_commands.specs.Replies.{IsEdit, IsEditReply}
-use Rattle.store_commands.proofs.AskingLaws.{image_kept, is_step, kind_is, no_read, reads_after, refused_by, reply_kind, reply_rose, rose_is, state_so}
+use Rattle.store_commands.proofs.AskingLaws.{is_step, kind_is, no_read, reads_after, refused_by, reply_kind, reply_rose, rose_is, state_so}
 use Rattle.store_commands.proofs.ReplyLaws.{gives_same}
 use Rattle.store_commands.proofs.StandingLaws.{after_leaves}
 
@@ -160,7 +160,7 @@ module _ {S D : Type 0} (s : Shelves S D) (g : Disks D) (name : List ℕ) (reque
     outcome = (
       record {
         cause = λ told. tt;
-        stays = λ told of. refl;
+        stays = λ told. refl;
         crash = λ told telling were. absurd were;
         kind = tt;
         way = inr (inl (refl, refl));
@@ -190,7 +190,7 @@ module _ {S D : Type 0} (s : Shelves S D) (g : Disks D) (name : List ℕ) (reque
           outcome = (
             record {
               cause = λ told. taking_refused r (image_under (s.file old) name) unlike.kind (absent_so told);
-              stays = λ told other.
+              stays = λ told.
                   ap (λ (o : Option (List ℕ)). image_in o (s.file new beside)) (unlike.keeps.files name tt)
                   ∙ ap (λ (o : Option (List ℕ)). image_in (s.file old name) o) (unlike.keeps.files beside tt);
               crash = λ told telling were. absurd (kind.1 were);
@@ -226,7 +226,7 @@ module _ {S D : Type 0} (s : Shelves S D) (g : Disks D) (name : List ℕ) (reque
           outcome = (
             record {
               cause = λ told. taking_refused r (image_under (s.file old) name) unlike.kind (absent_so told);
-              stays = λ told other.
+              stays = λ told.
                   let there = there_reads (s.file old name) (g.seen first) (first_taken.reads told) in
                   let of_first : s.file new name ≡ s.file old name =
                   subst (λ (o : Option (List ℕ)). IfSome o (λ bytes. s.file new name ≡ Some bytes)) there.2 (back.reads (told_on (s.tells old) (s.tells comes.mid) same_tells told))
@@ -337,8 +337,8 @@ module _ {S D : Type 0} (s : Shelves S D) (g : Disks D) (name : List ℕ) (reque
     unopened e is quiet = common (refused e) (
       record {
         cause = cause_so;
-        stays = λ told unlike.
-            let kept = image_kept g lent back e is unlike (there told).0 second_bytes (there told).2 (reads_second told) in
+        stays = λ told.
+            let kept = is.stays (there told).0 second_bytes (there told).2 (reads_second told) in
             image_new told kept.0 kept.1 kept.2 kept.3 ∙ ap (λ (x : Result Image NoImage). Some x) kept.4 ∙ sym (image_old told);
         crash = λ told telling were f t first second.
             ap (λ (x : Result Image NoImage). Some x)

@@ -12,7 +12,7 @@ use Rattle.live_journal.specs.declared.fault.OpenFault.TheVariants as unopened_t
 use Rattle.text_store.specs.declared.image.Image.{Image}
 use Rattle.text_store.specs.Files.{WhileOpened, opened_limit, opened_size}
 use Rattle.text_store.specs.Image.{NoImage, image}
-use Rattle.text_store.specs.Refusals.{Told}
+use Rattle.text_store.specs.Refusals.{ImageStays, Told}
 use Rattle.text_store.specs.Stores.{Keeps, Tell, Throughout, bounds, disks, fault_count, limit_of}
 use Rattle.desk.specs.declared.desk.Desk.{Desk}
 use Rattle.desk.specs.declared.fault.DeskFault.{DeskFault}
@@ -71,11 +71,12 @@ pub record OpensAs {D : Type 0} (g : Disks D) (old : D × D) (desk : Desk D g) :
       ((bounds desk.store).0 ≤ max (limit_of desk.store) (length f)) × ((bounds desk.store).1 ≤ max (limit_of desk.store) (length s)))
   pub no_fault : faults_of desk ≡ fault_count g old
 
--- Two disks weren't opened, for this.
+-- Two disks weren't opened, for this: they have the image, or the want of one, that they had.
 pub record IsUnopened {D : Type 0} (g : Disks D) (old new : D × D) (e : JournalRefusal) : Type 0 where
   pub fault : DeskFault
   pub is : e ≡ of_opening fault
   pub cause : OpeningRefused g old new fault
+  pub stays : ImageStays g old new
   pub any_moment : Told g old (λ f s. Tell g old → Throughout g old new (WhileOpened g old f s))
   pub keeps : Told g old (λ f s. Keeps g old new (max (opened_limit f s) (length f), max (opened_limit f s) (length s)))
 
@@ -159,11 +160,11 @@ abbrev pub IsUntaken : {S D : Type 0} → Shelves S D → Disks D → List ℕ �
 IsUntaken s g name old new e =
     ((new ≡ old) × (e ≡ journal.Memory)) ⊎ ((r : StoreRefusal) × (e ≡ of_store r) × AreUntaken s g false name (second_name name) old new r)
 
--- Nothing was asked of a store, for this: by its files, where these are told; but for a disk fault they have the image, or the
--- want of one, that they had, and each crash leaves it.
+-- Nothing was asked of a store, for this: by its files, where these are told; they have the image, or the want of one, that they
+-- had, and each crash leaves it.
 pub record IsUnasked {S D : Type 0} (s : Shelves S D) (g : Disks D) (name : List ℕ) (old new : S) (e : JournalRefusal) : Type 0 where
   pub cause : IsTrue ((s.tells old).files) → IsRefusedBy (image_under (s.file old) name) e
-  pub stays : IsTrue ((s.tells old).files) → e ≢ journal.Store refusal.DiskFault → image_under (s.file new) name ≡ image_under (s.file old) name
+  pub stays : IsTrue ((s.tells old).files) → image_under (s.file new) name ≡ image_under (s.file old) name
   pub crash : IsTrue ((s.tells old).files) → IsTrue ((s.tells old).crashes) → WereTaken e → (f t : List ℕ)
       → s.may_leave new name f → s.may_leave new (second_name name) t → Some (image f t) ≡ image_under (s.file old) name
   pub kind : IsOfOpening e

@@ -21,6 +21,6 @@ returns-in-Ok g c =
 pub returns-in-Err : goal.returns-in-Err
 returns-in-Err g c =
     let o = c.in-Err.ensures in (
-      record { fault = c.in-Err.fault; is = c.of_opening.ensures; cause = o.cause; any_moment = o.any_moment; keeps = o.keeps },
+      record { fault = c.in-Err.fault; is = c.of_opening.ensures; cause = o.cause; stays = o.stays; any_moment = o.any_moment; keeps = o.keeps },
       record { count = refl; told = refl },
     )

@@ -5,7 +5,7 @@ use Rattle.text_store.specs.declared.image.Image.{Image}
 use Rattle.text_store.specs.Stores.{Holds}
 use Rattle.desk.specs.declared.fault.DeskFault.{DeskFault}
 use Rattle.desk.specs.Openings.{OpeningRefused}
-use Rattle.desk.proofs.Opened.{can_write, held_size, kept_moved, loads, moved, opened_is, tells_of, unloaded_store, unread}
+use Rattle.desk.proofs.Opened.{can_write, held_size, image_left, kept_moved, loads, moved, opened_is, opened_stays, tells_of, unloaded_store, unread}
 use Rattle.desk.proofs.desk.Desk.open.Goals as goal
 
 pub invariant_of-result : goal.invariant_of-result
@@ -51,6 +51,10 @@ returns-in-Err-clause-cause g c =
     subst (λ (e : DeskFault). OpeningRefused g.D.Disk (c.args.first, c.args.second) (c.in-Err.first, c.in-Err.second) e) (sym c.store_refusal.ensures)
     (unread g.D.Disk (c.args.first, c.args.second) (c.in-Err.first, c.in-Err.second) c.in-Err.fault c.in-Err.ensures.cause)
 
+pub returns-in-Err-clause-stays : goal.returns-in-Err-clause-stays
+returns-in-Err-clause-stays g c =
+    image_left g.D.Disk (c.args.first, c.args.second) (c.in-Err.first, c.in-Err.second) c.in-Err.fault c.in-Err.ensures.cause c.in-Err.ensures.stays
+
 pub returns-in-Err-open : goal.returns-in-Err-open
 returns-in-Err-open g c =
     let j : Journal = record { text = c.as_slice.result.now; year = None; revision = c.in-Ok.opened.1.revision } in
@@ -63,7 +67,8 @@ returns-in-Err-open g c =
       size = tt;
       counts = tt;
       cause = subst (λ (e : DeskFault). OpeningRefused g.D.Disk (c.args.first, c.args.second) c.close-first.result e) (sym c.load_refusal.ensures)
-          (unloaded_store g.D.Disk (c.args.first, c.args.second) c.close-first.result c.in-Ok.opened.0 c.in-Ok.opened.1 c.in-Err-open.fault c.in-Ok.ensures.opened c.close-first.ensures told);
+          (unloaded_store g.D.Disk (c.args.first, c.args.second) c.close-first.result c.in-Ok.opened.0 c.in-Ok.opened.1 c.in-Err-open.fault c.in-Ok.ensures.opened told);
+      stays = opened_stays g.D.Disk (c.args.first, c.args.second) c.close-first.result c.in-Ok.opened.0 c.in-Ok.opened.1 c.in-Ok.ensures.opened c.close-first.ensures;
       any_moment = λ f s a b. moved g.D.Disk (c.args.first, c.args.second) _ _ f s (sym c.close-first.ensures) (c.in-Ok.ensures.any_moment f s a b);
       keeps = λ f s a b. kept_moved g.D.Disk (c.args.first, c.args.second) _ _ _ (sym c.close-first.ensures) (c.in-Ok.ensures.keeps f s a b);
       bounds = tt;
