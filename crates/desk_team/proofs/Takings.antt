@@ -346,10 +346,13 @@ module _ {A K D : Type 0} {g : Ghosts D} (tell : A → KitTold K) (coming sent :
 
 module _ {A K : Type 0} (tell : A → KitTold K) where
   -- kits were handed out, and came back as they were
-  pub unserved : (old mid new : HouseTold A) (kits : List A) (fault : HouseFault) → Takes old mid kits → TakesAll tell mid new kits
-      → (fault ≡ house_fault.Failed → Rose old.faults new.faults) → Unserved old.bound old new fault
-  unserved old mid new kits fault t b cause = record {
+  pub unserved : (workers : ℕ) (old mid new : HouseTold A) (kits : List A) (fault : HouseFault) → length kits ≤ workers
+      → (fault ≡ house_fault.Failed → (kits ≡ []) ⊎ (length kits < workers)) → Takes old mid kits → TakesAll tell mid new kits
+      → (fault ≡ house_fault.Failed → Rose old.faults new.faults) → Unserved workers old.bound old new fault
+  unserved workers old mid new kits fault few short t b cause = record {
     kits = kits;
+    few = few;
+    short = short;
     given = b.given ∙ t.given;
     back = b.back ∙ ap (λ (o : Option (List A)). and_then o kits) t.back;
     bound_is = b.bound ∙ t.bound;
@@ -357,9 +360,12 @@ module _ {A K : Type 0} (tell : A → KitTold K) where
   }
 
   -- no kit was handed out
-  pub nothing_taken : (house : HouseTold A) (fault : HouseFault) → (fault ≡ house_fault.Failed → ⊥) → Unserved house.bound house house fault
-  nothing_taken house fault other = record {
+  pub nothing_taken : (workers : ℕ) (house : HouseTold A) (fault : HouseFault) → (fault ≡ house_fault.Failed → ⊥)
+      → Unserved workers house.bound house house fault
+  nothing_taken workers house fault other = record {
     kits = [];
+    few = omega arith;
+    short = λ is. absurd (other is);
     given = sym (then_none house.given);
     back = sym (then_none house.back);
     bound_is = refl;
@@ -376,21 +382,23 @@ module _ {A K : Type 0} (tell : A → KitTold K) where
 
 module _ {A K : Type 0} (tell : A → KitTold K) where
   -- not all kits were handed out, and those that were came back as they were
-  pub unserved_some : (old mid new : HouseTold A) (taken kits : List A) → kits ≡ taken → Takes old mid taken
+  pub unserved_some : (workers : ℕ) (old mid new : HouseTold A) (taken kits : List A) → length taken < workers → kits ≡ taken → Takes old mid taken
       → All (λ (kit : A). IsFreshKit (tell kit)) taken → Rose old.faults mid.faults → TakesAll tell mid new kits
-      → Unserved old.bound old new house_fault.Failed
-  unserved_some old mid new taken kits is t fresh rose b =
+      → Unserved workers old.bound old new house_fault.Failed
+  unserved_some workers old mid new taken kits less is t fresh rose b =
       let b' = subst (λ (l : List A). TakesAll tell mid new l) is b in
       let same : new.faults ≡ mid.faults = b'.faults ∙ still tell mid.faults taken fresh in
-      unserved tell old mid new taken house_fault.Failed t b' (λ failed. subst (λ (n : ℕ). Rose old.faults n) (sym same) rose)
+      unserved tell workers old mid new taken house_fault.Failed (omega (arith, less)) (λ failed. inr less) t b' (λ failed. subst (λ (n : ℕ). Rose old.faults n) (sym same) rose)
 
 module _ {A : Type 0} where
   -- after a bind
-  pub unserved_bound : {T E : Type 0} (old mid new : HouseTold A) (fault : HouseFault) (host : List ℕ) (port : ℕ) (answer : T)
-      → Binds {T = T} {E = E} old mid host port (Ok answer) → Unserved mid.bound mid new fault
-      → Unserved (bound_once_more old.bound host port) old new fault
-  unserved_bound old mid new fault host port answer b u = record {
+  pub unserved_bound : {T E : Type 0} (workers : ℕ) (old mid new : HouseTold A) (fault : HouseFault) (host : List ℕ) (port : ℕ) (answer : T)
+      → Binds {T = T} {E = E} old mid host port (Ok answer) → Unserved workers mid.bound mid new fault
+      → Unserved workers (bound_once_more old.bound host port) old new fault
+  unserved_bound workers old mid new fault host port answer b u = record {
     kits = u.kits;
+    few = u.few;
+    short = u.short;
     given = u.given ∙ ap (λ (o : Option (List A)). and_then o u.kits) b.given;
     back = u.back ∙ ap (λ (o : Option (List A)). and_then o u.kits) b.back;
     bound_is = u.bound_is ∙ b.bound;
@@ -398,10 +406,12 @@ module _ {A : Type 0} where
   }
 
   -- the bind failed
-  pub unbound : {T E : Type 0} (old new : HouseTold A) (host : List ℕ) (port : ℕ) (failed : E)
-      → Binds {T = T} {E = E} old new host port (Err failed) → Unserved (bound_once_more old.bound host port) old new house_fault.Failed
-  unbound old new host port failed b = record {
+  pub unbound : {T E : Type 0} (workers : ℕ) (old new : HouseTold A) (host : List ℕ) (port : ℕ) (failed : E)
+      → Binds {T = T} {E = E} old new host port (Err failed) → Unserved workers (bound_once_more old.bound host port) old new house_fault.Failed
+  unbound workers old new host port failed b = record {
     kits = [];
+    few = omega arith;
+    short = λ is. inl refl;
     given = b.given ∙ sym (then_none old.given);
     back = b.back ∙ sym (then_none old.back);
     bound_is = b.bound;

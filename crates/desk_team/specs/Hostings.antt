@@ -1,5 +1,5 @@
 -- What became of a house whose workers served a journal.
-use Rattle.std.specs.Prelude.{◌≡◌, ℕ, ◌<◌, All, Bool, List, [], ◌∷◌, length, map, Option, MatchBool}
+use Rattle.std.specs.Prelude.{◌≡◌, ◌⊎◌, ℕ, ◌<◌, ◌≤◌, All, Bool, List, [], ◌∷◌, length, map, Option, MatchBool}
 use Rattle.hl_base.specs.Causes.{Rose}
 use Rattle.hl_base.specs.declared.disk.Disk.{Ghosts}
 use Rattle.turn_lock.specs.declared.known.Entered.{Entered}
@@ -71,10 +71,12 @@ pub record Hosts {A K D : Type 0} {g : Ghosts D} (tell : A → KitTold K) (comin
   pub faults : MatchBool failed (Rose old.faults new.faults) (new.faults ≡ old.faults)
   pub refusals : RoseBy old.refusals new.refusals (pattern_refusals (entries_in history))
 
--- A house, whose binds then are these, served no link: the kits that it handed out came back as they were. Its own call failed
--- only where its count rose.
-pub record Unserved {A : Type 0} (bound : Bound) (old new : HouseTold A) (fault : HouseFault) : Type 0 where
+-- A house, whose binds then are these, served no link of so many workers: the kits that it handed out, at most one for each, came
+-- back as they were. Its own call failed only where its count rose, and one of the kits wasn't handed out then, or none was.
+pub record Unserved {A : Type 0} (workers : ℕ) (bound : Bound) (old new : HouseTold A) (fault : HouseFault) : Type 0 where
   pub kits : List A
+  pub few : length kits ≤ workers
+  pub short : fault ≡ house_fault.Failed → (kits ≡ []) ⊎ (length kits < workers)
   pub given : new.given ≡ and_then old.given kits
   pub back : new.back ≡ and_then old.back kits
   pub bound_is : new.bound ≡ bound

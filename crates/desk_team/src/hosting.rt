@@ -1,5 +1,5 @@
 //! A journal that is served at the doors of a house.
-ghost use Rattle.std.specs.Prelude.{◌≡◌, ◌≤◌, [], All, IfOk, IfErr, List, MatchBool, length, map, vec_capacity};
+ghost use Rattle.std.specs.Prelude.{◌≡◌, ◌≤◌, ◌<◌, [], All, IfOk, IfErr, List, MatchBool, length, map, vec_capacity};
 ghost use Rattle.hl_base.specs.Causes.{Rose};
 ghost use Rattle.shared_desk.specs.Stays.{kit_told};
 ghost use Rattle.shared_desk.specs.declared.kit.Kit.{Kit};
@@ -61,7 +61,7 @@ fn take_kits<H: House>(
     ensures fresh { All (FreshBy (kit_told H.Door.Door H.Clock.Clock H.Maker.Maker)) result.0.items }
     ensures whole { MatchBool result.1
         ((length result.0.items ≡ count) × ((H.told house.new).faults ≡ (H.told house.old).faults))
-        (Rose (H.told house.old).faults (H.told house.new).faults) }
+        ((length result.0.items < count) × Rose (H.told house.old).faults (H.told house.new).faults) }
 {
     for _taken in 0..count {
         match house.worker() {
@@ -146,7 +146,7 @@ fn serve_bound<H: House, D: Disk + Send, W: Threads + Wait + Sync>(
         H.Door.Link.coming H.Door.Link.sent crew.workers crew.links (H.told house.old).bound desk
         (H.told house.old) (H.told house.new) hosted.failed hosted.pass.seen hosted.desk) }
     ensures unserved { IfErr result (λ left. (left.0 ≡ desk)
-        × Unserved (H.told house.old).bound (H.told house.old) (H.told house.new) left.1) }
+        × Unserved crew.workers (H.told house.old).bound (H.told house.old) (H.told house.new) left.1) }
 {
     let Ok(room) = Vec::with_capacity(alloc, crew.workers) else {
         return Err((desk, HouseFault::Memory));
@@ -179,7 +179,7 @@ pub fn serve_house<H: House, D: Disk + Send, W: Threads + Wait + Sync>(
         (bound_once_more (H.told house.old).bound address.host address.port) desk
         (H.told house.old) (H.told house.new) hosted.failed hosted.pass.seen hosted.desk) }
     ensures unserved { IfErr result (λ left. (left.0 ≡ desk)
-        × Unserved (bound_once_more (H.told house.old).bound address.host address.port)
+        × Unserved crew.workers (bound_once_more (H.told house.old).bound address.host address.port)
         (H.told house.old) (H.told house.new) left.1) }
 {
     let Address { host, port } = address;

@@ -244,7 +244,7 @@ module _ {S D : Type 0} (s : Shelves S D) (g : Disks D) (name : List ℕ) (old :
           }
 
       unhosted : (fault : HouseFault) (opening : Desk D g) → OpensWith g post.allow lent opening
-          → IsUnhosted opening post.address house house_now fault back → IsUnserved s g name post old new house house_now fault
+          → IsUnhosted opening post.crew.workers post.address house house_now fault back → IsUnserved s g name post old new house house_now fault
       unhosted fault opening opens un = record {
         hosting = un.hosting;
         stays = stays_so post.allow opening opens un.returned;

@@ -47,15 +47,17 @@ module _ {D : Type 0} {g : Disks D} where
     pub told : tally ≡ tally_of last tally.failed
     pub returned : back ≡ disks last.store
 
-  -- It wasn't served, and closed.
-  pub record IsUnhosted {A : Type 0} (opening : Desk D g) (address : Address) (house house_now : HouseTold A) (fault : HouseFault) (back : D × D) : Type 0 where
-    pub hosting : UnservedHouse (bound_at house address) house house_now fault
+  -- It wasn't served by so many workers, and closed.
+  pub record IsUnhosted {A : Type 0} (opening : Desk D g) (workers : ℕ) (address : Address) (house house_now : HouseTold A) (fault : HouseFault)
+      (back : D × D) : Type 0 where
+    pub hosting : UnservedHouse workers (bound_at house address) house house_now fault
     pub returned : back ≡ disks opening.store
 
   abbrev pub ServesDesk : {A K : Type 0} → (A → KitTold K) → (K → Option (List ℕ)) → (K → Option (List ℕ)) → Desk D g → Address → Crew
       → HouseTold A → HouseTold A → Result Tally HouseFault → D × D → Type 0
   ServesDesk tell coming sent opening address crew house house_now (Ok tally) back = IsHosted tell coming sent opening address crew house house_now tally back
-  ServesDesk tell coming sent opening address crew house house_now (Err fault) back = IsUnhosted opening address house house_now fault back
+  ServesDesk tell coming sent opening address crew house house_now (Err fault) back =
+      IsUnhosted opening crew.workers address house house_now fault back
 
 -- A machine was opened on two disks, with what is allowed. It stands for the image that they read as, and has counted nothing.
 pub record OpensWith {D : Type 0} (g : Disks D) (allowed : Allow) (old : D × D) (desk : Desk D g) : Type 0 where
@@ -75,5 +77,5 @@ abbrev pub ServesDisks : {D A K : Type 0} → Disks D → (A → KitTold K) → 
 ServesDisks {D} g tell coming sent post old new house house_now (Ok tally) =
     (opening : Desk D g) × OpensWith g post.allow old opening × IsHosted tell coming sent opening post.address post.crew house house_now tally new
 ServesDisks {D} g tell coming sent post old new house house_now (Err (unserved.House fault)) =
-    (opening : Desk D g) × OpensWith g post.allow old opening × IsUnhosted opening post.address house house_now fault new
+    (opening : Desk D g) × OpensWith g post.allow old opening × IsUnhosted opening post.crew.workers post.address house house_now fault new
 ServesDisks g tell coming sent post old new house house_now (Err (unserved.Store e)) = IsUnopened g old new e × (house_now ≡ house)

@@ -86,13 +86,12 @@ module _ {S D : Type 0} (s : Shelves S D) (g : Disks D) (name : List ℕ) where
 
   -- A store was opened, and no link was served: its image stays, and each outcome of a crash has it. The house was asked to bind once.
   pub record IsUnserved {A : Type 0} (post : Post) (old new : S) (house house_now : HouseTold A) (fault : HouseFault) : Type 0 where
-    pub hosting : UnservedHouse (bound_at house post.address) house house_now fault
+    pub hosting : UnservedHouse post.crew.workers (bound_at house post.address) house house_now fault
     pub stays : IsTrue ((s.tells old).files) → image_under (s.file new) name ≡ image_under (s.file old) name
     pub crash : IsTrue ((s.tells old).files) → (f t : List ℕ) → IsLeft old new f t → Some (image f t) ≡ image_under (s.file old) name
     pub lent : WasLent old new
 
-  -- A store wasn't opened, for this, and the house wasn't asked. But for a disk fault its files have the image, or the want of one, that
-  -- they had.
+  -- A store wasn't opened, for this, and the house wasn't asked. Its files have the image, or the want of one, that they had.
   pub record IsUnopened {A : Type 0} (old new : S) (house house_now : HouseTold A) (e : JournalRefusal) : Type 0 where
     pub unasked : IsUnasked s g name old new e
     pub others : (other : List ℕ) → other ≢ name → other ≢ second_name name → s.file new other ≡ s.file old other

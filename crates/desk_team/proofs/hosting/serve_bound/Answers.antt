@@ -1,4 +1,4 @@
-use Rattle.std.proofs.Common.{◌≡◌, map, refl, sym, subst, rules}
+use Rattle.std.proofs.Common.{◌≡◌, map, refl, sym, subst, arith, rules}
 use Rattle.std.specs.Prelude.{false, true}
 use Rattle.shared_desk.specs.Stays.{kit_told}
 use Rattle.desk_team.specs.Hostings.{AreAllOut, TakesAll}
@@ -10,7 +10,7 @@ use Rattle.desk_team.proofs.hosting.serve_bound.Goals as goal
 pub returns-in_default-clause-unserved : goal.returns-in_default-clause-unserved
 returns-in_default-clause-unserved g c =
     let tell = kit_told g.H.Door.Door g.H.Clock.Clock g.H.Maker.Maker in
-    (refl, nothing_taken tell (g.H.House.told c.args.house.now) house_fault.Memory (λ is. absurd (cc (is))))
+    (refl, nothing_taken tell c.args.crew.workers (g.H.House.told c.args.house.now) house_fault.Memory (λ is. absurd (cc (is))))
 
 pub give_back_all-requires-clause-out : goal.give_back_all-requires-clause-out
 give_back_all-requires-clause-out g c κs within =
@@ -29,10 +29,10 @@ returns-then-not-whole-clause-unserved g c =
     let tell = kit_told g.H.Door.Door g.H.Clock.Clock g.H.Maker.Maker in
     let taken = c.take_kits-kits in
     let not : taken.result.1 ≡ false = search rules in
-    let rose = if_false _ _ taken.result.1 not taken.ensures.whole in (
+    let short = if_false _ _ taken.result.1 not taken.ensures.whole in (
       refl,
-      unserved_some tell (g.H.House.told c.args.house.now) (g.H.House.told taken.new.house) (g.H.House.told c.give_back_all.new.house)
-          taken.result.0.items c.from_vec-kits.result c.from_vec-kits.ensures taken.ensures.takes taken.ensures.fresh rose c.give_back_all.ensures,
+      unserved_some tell c.args.crew.workers (g.H.House.told c.args.house.now) (g.H.House.told taken.new.house) (g.H.House.told c.give_back_all.new.house)
+          taken.result.0.items c.from_vec-kits.result short.0 c.from_vec-kits.ensures taken.ensures.takes taken.ensures.fresh short.1 c.give_back_all.ensures,
     )
 
 pub returns-in-Ok-serve_kits-clause-served : goal.returns-in-Ok-serve_kits-clause-served
@@ -54,9 +54,11 @@ pub returns-in-Err-clause-unserved : goal.returns-in-Err-clause-unserved
 returns-in-Err-clause-unserved g c =
     let tell = kit_told g.H.Door.Door g.H.Clock.Clock g.H.Maker.Maker in
     let taken = c.take_kits-kits in
+    let yes : taken.result.1 ≡ true = search rules in
+    let whole = if_true _ _ taken.result.1 yes taken.ensures.whole in
     let e = c.in-Err.ensures.unserved in
     let back = subst (λ kits. TakesAll tell (g.H.House.told taken.new.house) (g.H.House.told c.serve_kits.new.house) kits) c.from_vec-kits.ensures e.1 in (
       e.0,
-      unserved tell (g.H.House.told c.args.house.now) (g.H.House.told taken.new.house) (g.H.House.told c.serve_kits.new.house)
-          taken.result.0.items house_fault.Memory taken.ensures.takes back (λ is. absurd (cc (is))),
+      unserved tell c.args.crew.workers (g.H.House.told c.args.house.now) (g.H.House.told taken.new.house) (g.H.House.told c.serve_kits.new.house)
+          taken.result.0.items house_fault.Memory (omega (arith, whole.0)) (λ is. absurd (cc (is))) taken.ensures.takes back (λ is. absurd (cc (is))),
     )

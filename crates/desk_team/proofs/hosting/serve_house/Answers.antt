@@ -22,9 +22,9 @@ returns-in-Ok-clause-unserved g c =
     let new = g.H.House.told c.serve_bound.new.house in
     let at = c.args.address in
     err_on _ _ c.serve_bound.result
-    (λ left u. (u.0, unserved_bound old mid new left.1 at.host at.port tt c.in-Ok.ensures u.1)) c.serve_bound.ensures.unserved
+    (λ left u. (u.0, unserved_bound c.args.crew.workers old mid new left.1 at.host at.port tt c.in-Ok.ensures u.1)) c.serve_bound.ensures.unserved
 
 pub returns-in-Err-clause-unserved : goal.returns-in-Err-clause-unserved
 returns-in-Err-clause-unserved g c =
     let at = c.args.address in
-    (refl, unbound (g.H.House.told c.args.house.now) (g.H.House.told c.bind.new.self) at.host at.port _ c.in-Err.ensures)
+    (refl, unbound c.args.crew.workers (g.H.House.told c.args.house.now) (g.H.House.told c.bind.new.self) at.host at.port _ c.in-Err.ensures)

@@ -52,7 +52,7 @@ returns-in-Err g c =
     record {
       takes = takes_stop old mid new c.loop-taken.kits.items _ kept.takes one.hands_out;
       fresh = kept.fresh;
-      whole = subst (λ n. Rose n new.faults) kept.faults one.hands_out.cause.rose;
+      whole = (omega (arith, kept.many), subst (λ n. Rose n new.faults) kept.faults one.hands_out.cause.rose);
     }
 
 pub returns : goal.returns
