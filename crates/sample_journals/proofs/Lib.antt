@@ -1,0 +1,10 @@
+pub mod Numbers
+pub mod Amounts
+pub mod Contents
+pub mod Said
+pub mod Sizes
+pub mod Cut
+pub mod Balanced
+pub mod Sums
+pub mod Told
+pub mod Whole
