@@ -1,5 +1,5 @@
 -- Numbers as words write them, and the limit of a store.
-use Rattle.std.specs.Prelude.{ℕ, ◌-◌, ◌^◌, min, ◌&&◌, nat_le, List, Option, Some, None, if◌then◌else◌}
+use Rattle.std.specs.Prelude.{ℕ, ◌-◌, ◌^◌, min, ◌&&◌, nat_le, List, Bool, true, false, Option, Some, None, if◌then◌else◌, ◌==◌, [], ◌∷◌}
 use Rattle.std.specs.List.{list_all}
 use Rattle.std.specs.Str.Parse.{digits_value}
 use Rattle.hl_num.specs.Reading.{is_digit}
@@ -11,9 +11,17 @@ most = 2 ^ 64 - 1
 abbrev pub number_within : ℕ → ℕ → Option ℕ
 number_within greatest number = if nat_le 1 number && nat_le number greatest then Some number else None
 
--- the number that a text writes: digits, from 1 to a greatest one
+-- the number of a text of digits alone, from 1 to a greatest one
+abbrev pub digits_in : ℕ → List ℕ → Option ℕ
+digits_in greatest text = if list_all is_digit text then number_within greatest (min (digits_value 10 text) most) else None
+
+abbrev pub begins_with_zero : List ℕ → Bool
+begins_with_zero [] = false
+begins_with_zero (byte ∷ bytes) = byte == 48
+
+-- the number that a text writes: digits of which the first isn't 0, from 1 to a greatest one
 abbrev pub number_in : ℕ → List ℕ → Option ℕ
-number_in greatest text = if list_all is_digit text then number_within greatest (min (digits_value 10 text) most) else None
+number_in greatest text = if begins_with_zero text then None else digits_in greatest text
 
 -- the greatest limit of a store, which is its limit where none is written: 2^40 bytes
 abbrev pub most_limit : ℕ

@@ -46,15 +46,36 @@ fn number_within(greatest: u64, number: u64) -> Option<u64>
     }
 }
 
-/// The number that a text writes: digits, from 1 to a greatest one.
-pub(crate) fn number_of(greatest: u64, text: &[u8]) -> Option<u64>
-    ensures value { result ≡ spec.number_in greatest text.now }
+/// The number of a text of digits alone, from 1 to a greatest one.
+fn digits_of(greatest: u64, text: &[u8]) -> Option<u64>
+    ensures value { result ≡ spec.digits_in greatest text.now }
     ensures bound { IfSome result (λ n. n ≤ greatest) }
 {
     if are_digits(text) {
         number_within(greatest, digits_number(text))
     } else {
         None
+    }
+}
+
+fn begins_with_zero(text: &[u8]) -> bool
+    ensures { result ≡ spec.begins_with_zero text.now }
+{
+    match text {
+        [] => false,
+        [byte, ..] => *byte == b'0',
+    }
+}
+
+/// The number that a text writes: digits of which the first isn't 0, from 1 to a greatest one.
+pub(crate) fn number_of(greatest: u64, text: &[u8]) -> Option<u64>
+    ensures value { result ≡ spec.number_in greatest text.now }
+    ensures bound { IfSome result (λ n. n ≤ greatest) }
+{
+    if begins_with_zero(text) {
+        None
+    } else {
+        digits_of(greatest, text)
     }
 }
 
