@@ -1,0 +1,5 @@
+mod Clapping
+mod Digits
+mod Lending
+mod ServeEnds
+mod Statuses
