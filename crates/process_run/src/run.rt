@@ -1,31 +1,31 @@
-//! A run whose words, day, input, files and outputs are those of the process.
+//! A run whose words, day, input, files, sockets and outputs are those of the process.
 
 ghost use Rattle.command_line.specs.Answers.{Says};
 ghost use Rattle.refusals.specs.Errors.{memory_line, usage_line};
 ghost use Rattle.hl_time.specs.Calendar.{IsDay};
-ghost use Rattle.std.specs.Prelude.{◌≡◌, ◌≤◌};
+ghost use Rattle.std.specs.Prelude.{◌≡◌};
 
+use crate::clock::today;
+use crate::house::SocketHouse;
 use crate::streams::{Input, Output};
-use command_line::{Outside, Status, Streams, run, say};
+use command_line::{Outside, Status, Streams, say};
+use desk_team::House;
 use hl_base::{Shelf, Sink, Source, Steps, Text};
 use hl_time::Day;
 use query::{Maker, RegexMaker};
 use real_files::FileShelf;
+use serve_line::{Site, run_program};
 use std::alloc::Global;
 use std::fs::File;
 use std::io::{Read, Write};
 use std::marker::Brand;
+use std::net::{Net, TcpListener, TcpStream};
 use std::process::ExitCode;
 use std::rt::{Clock, Env, Files};
+use std::sync::Wait;
 use std::sync::ledger::{Blank, Ledger};
-use std::time::{SystemTime, UNIX_EPOCH};
+use std::thread::Threads;
 use std::{env, io};
-
-/// The day number of 1970-01-01.
-const FIRST_DAY_OF_THE_CLOCK: u64 = 719_163;
-
-/// The day number of 9999-12-31.
-const LAST_DAY: u64 = 3_652_059;
 
 /// Why there are no words.
 #[derive(Clone, Copy)]
@@ -45,31 +45,42 @@ impl From<io::Error> for NoWords {
     }
 }
 
-/// Runs the program on the process's words and day, over these streams and the files of the operating system. Where
+/// Runs the program on the process's words and day, over these streams and the files and sockets of the operating system. Where
 /// there are no words nothing is read, and the line that says why is written.
 pub fn run_process<
-    R: Env + Clock + Files<File = File> + AllocGlobal,
+    R: Env
+        + Clock
+        + Files<File = File>
+        + Net<Listener = TcpListener, Stream = TcpStream>
+        + Threads
+        + Wait
+        + Sync
+        + AllocGlobal,
     I: Read + Drop,
     O: Write + Drop,
     E: Write + Drop,
 >(rt: &R, input: I, output: O, errors: E) -> ExitCode {
     match words(rt) {
         Ok(words) => {
-            let mut outside = Outside {
-                streams: Streams {
-                    input: Input::new(input),
-                    output: Output::new(output),
+            let mut site = Site {
+                outside: Outside {
+                    streams: Streams {
+                        input: Input::new(input),
+                        output: Output::new(output),
+                    },
+                    err: Output::new(errors),
+                    shelf: FileShelf::new(rt),
+                    maker: RegexMaker::new(),
                 },
-                err: Output::new(errors),
-                shelf: FileShelf::new(rt),
-                maker: RegexMaker::new(),
+                house: SocketHouse::new(rt),
             };
-            let Status(status) = counted::<Brand, _, _, _, _, _>(
+            let Status(status) = counted::<Brand, _, _, _, _, _, _, _>(
+                rt,
                 rt.alloc(),
                 Blank::new(3),
                 words.as_slice(),
                 today(rt),
-                &mut outside,
+                &mut site,
             );
             ExitCode::from(status)
         }
@@ -105,29 +116,23 @@ fn refuse<E: Sink>(err: &mut E, why: NoWords) -> Status
     }
 }
 
-/// Today's day number by the system clock, and the first day where the clock can't be read.
-fn today(clock: &impl Clock) -> Day
-    ensures { (1 ≤ result.0) × (result.0 ≤ 3652059) }
-{
-    match SystemTime::now(clock) {
-        Ok(now) => match now.duration_since(UNIX_EPOCH) {
-            Ok(since) => {
-                let day = (since.as_secs() / 86_400).min(LAST_DAY - FIRST_DAY_OF_THE_CLOCK);
-                Day((day + FIRST_DAY_OF_THE_CLOCK) as u32)
-            }
-            Err(_) => Day(1),
-        },
-        Err(_) => Day(1),
-    }
-}
-
 /// A run whose steps are counted in a ledger of its own.
-fn counted<L: Ledger, J: Source, O: Sink, E: Sink, S: Shelf, M: Maker>(
+fn counted<
+    L: Ledger,
+    J: Source,
+    O: Sink,
+    E: Sink,
+    S: Shelf,
+    M: Maker,
+    H: House,
+    W: Threads + Wait + Sync,
+>(
+    rt: &W,
     alloc: Global,
     blank: Blank,
     words: &[Text],
     day: Day,
-    outside: &mut Outside<J, O, E, S, M>,
+    site: &mut Site<J, O, E, S, M, H>,
 ) -> Status
     requires name { blank.name ≡ L.name }
     requires parts { blank.parts ≡ L.parts }
@@ -135,5 +140,5 @@ fn counted<L: Ledger, J: Source, O: Sink, E: Sink, S: Shelf, M: Maker>(
     requires day { IsDay day.0 }
 {
     let mut steps = Steps::<L>::start(blank);
-    run(alloc, words, day, outside, &mut steps)
+    run_program(rt, alloc, words, day, site, &mut steps)
 }
