@@ -84,9 +84,10 @@ def words(rng):
     columns = command in ("balance", "is", "bs")
     maybe = lambda p, *options: out.extend(rng.choice(options)) if rng.random() < p else None
     if columns:
-        maybe(0.55, ["-M"], ["-Q"], ["-W"], ["-Y"], ["-p", "every 2 months"] if "-p" not in out else ["-M"])
+        maybe(0.55, ["-M"], ["-Q"], ["-W"], ["-D"], ["-Y"], ["-p", "every 2 months"] if "-p" not in out else ["-M"])
         maybe(0.25, ["-t"], ["-l"], ["--tree"])
         maybe(0.15, ["-N"]); maybe(0.2, ["-E"])
+        maybe(0.0 if {"-t", "--tree"} & set(out) else 0.15, ["-S"])
     ending = command == "bs"
     if command == "balance":
         if rng.random() < 0.4:
