@@ -1,15 +1,16 @@
 -- Passes for kits, what became of them, and what the first pass keeps of them.
-use Rattle.std.proofs.Common.{◌≡◌, ◌≢◌, ℕ, suc, ◌+◌, ◌<◌, Bool, true, false, ◌||◌, List, [], ◌∷◌, ◌++◌, length, map, Option, refl, sym, ap, subst, ◌∙◌, length-append, arith}
+use Rattle.std.proofs.Common.{◌≡◌, ◌≢◌, ℕ, suc, ◌+◌, ◌^◌, ◌<◌, ◌≤◌, ltb, Bool, true, false, ◌||◌, List, [], ◌∷◌, ◌++◌, length, map, Option, refl, sym, ap, subst, ◌∙◌, length-append, arith, if◌then◌else◌}
 use Rattle.std.specs.Prelude.{All}
 use Rattle.std.specs.List.{list_any}
 use Rattle.std.proofs.lemmas.List.{length-map}
 use Rattle.std.proofs.lemmas.List.Folds.{list_any-append}
-use Rattle.std.proofs.lemmas.List.Elements.{All-cons, All-head, All-nil, All-tail}
+use Rattle.std.proofs.lemmas.Bool.{ltb-true, ltb-false}
+use Rattle.std.proofs.lemmas.List.Elements.{All-cons, All-head, All-nil, All-push, All-tail, All-weaker}
 use Rattle.hl_base.specs.declared.clock.Clock.{Ghosts as Clocks}
 use Rattle.hl_base.specs.declared.disk.Disk.{Ghosts}
 use Rattle.hl_base.specs.declared.door.Door.{Ghosts as Doors}
 use Rattle.query_terms.specs.declared.making.Maker.{Ghosts as Makers}
-use Rattle.turn_lock.specs.History.{IsNone, IsOf, made_by}
+use Rattle.turn_lock.specs.History.{IsNone, IsOf, longer, made_by}
 use Rattle.turn_lock.specs.Passes.{IsFree, first_pass}
 use Rattle.turn_lock.specs.Views.{Lock, Standing}
 use Rattle.turn_lock.specs.declared.known.Entered.{Entered}
@@ -29,7 +30,31 @@ or_no : (b : Bool) → (b || false) ≡ b
 or_no true = refl
 or_no false = refl
 
+-- the longer of two histories is as long as each
+abbrev NoLonger : List (Entered Entry) → List (Entered Entry) → Type 0
+NoLonger xs ys = length xs ≤ length ys
+
+by_length : (xs ys : List (Entered Entry)) (b : Bool) → ltb (length xs) (length ys) ≡ b
+    → NoLonger xs (if b then ys else xs) × NoLonger ys (if b then ys else xs)
+by_length xs ys true is = let less = ltb-true (length xs) (length ys) is in (omega (arith, less), omega arith)
+by_length xs ys false is = let least = ltb-false (length xs) (length ys) is in (omega arith, omega (arith, least))
+
+both_shorter : (xs ys : List (Entered Entry)) → NoLonger xs (longer xs ys) × NoLonger ys (longer xs ys)
+both_shorter xs ys = by_length xs ys (ltb (length xs) (length ys)) refl
+
 module _ {T R C M : Type 0} where
+  -- no worker has seen more than this
+  abbrev pub SawNoMore : List (Entered Entry) → Worker (Standing T Entry) R C M → Type 0
+  SawNoMore history worker = NoLonger worker.pass.seen history
+
+  -- one more worker was taken in
+  pub seen-push : (seen : List (Entered Entry)) (ws : List (Worker (Standing T Entry) R C M)) (w : Worker (Standing T Entry) R C M)
+      → All (SawNoMore seen) ws → All (SawNoMore (longer seen w.pass.seen)) (ws ++ w ∷ [])
+  seen-push seen ws w all =
+      let both = both_shorter seen w.pass.seen in
+      let more : (v : Worker (Standing T Entry) R C M) → SawNoMore seen v → SawNoMore (longer seen w.pass.seen) v = λ v less. omega (arith, less, both.0) in
+      All-push (SawNoMore (longer seen w.pass.seen)) ws w (All-weaker (SawNoMore seen) (SawNoMore (longer seen w.pass.seen)) more ws all) both.1
+
   -- one more kit
   pub hired-push : (lock : Lock T) (n : ℕ) (ks : List (Kit R C M)) (k : Kit R C M)
       → hired lock n (ks ++ k ∷ []) ≡ hired lock n ks ++ seated lock (n + length ks) k ∷ []
@@ -121,12 +146,16 @@ module _ {T R K C M : Type 0} (r : Doors R K) (c : Clocks C) (m : Makers M) (com
 
   -- what stands under the number of a worker
   one_served : (lock : Lock T) (n : ℕ) (history : List (Entered Entry)) (k : Kit R C M) (w : Worker (Standing T Entry) R C M)
-      → Worked r c m coming sent limit (seated lock n k) w → made_by w.pass.number history ≡ w.pass.mine
+      → Worked r c m coming sent limit (seated lock n k) w → made_by w.pass.number history ≡ w.pass.mine → lock.done ≡ 0 → SawNoMore history w
       → ServesUnder coming sent limit history (n + 1) (kit_told r c m k) (told_done w)
-  one_served lock n history k w one made = record {
+  one_served lock n history k w one made none seen = record {
     stays = one.stays;
     served = one.served;
     ends = one.ends;
+    full = λ is.
+        let at_end : w.pass.lock.done + length w.pass.seen + 1 ≡ 2 ^ 63 = one.full is in
+        let same : w.pass.lock.done ≡ 0 = ap (λ (l : Lock T). l.done) one.grown.lock ∙ none in
+        omega (arith, at_end, same, seen);
     made = ap (λ (number : ℕ). made_by number history) (sym one.grown.number) ∙ made ∙ one.grown.mine;
     asked = one.asked;
     day = one.day;
@@ -135,16 +164,18 @@ module _ {T R K C M : Type 0} (r : Doors R K) (c : Clocks C) (m : Makers M) (com
   pub all_served : (lock : Lock T) (n : ℕ) (history : List (Entered Entry)) (ks : List (Kit R C M)) (ws : List (Worker (Standing T Entry) R C M))
       → length ws ≡ length ks → AllWorked r c m coming sent limit (hired lock n ks) ws
       → All (λ (member : Member Entry). made_by member.number history ≡ member.mine) (map member_of ws)
+      → lock.done ≡ 0 → All (SawNoMore history) ws
       → AllServe coming sent limit history n (told_of r c m ks)
       (map told_done ws)
-  all_served lock n history [] [] same all made = tt
-  all_served lock n history [] (w ∷ ws) same all made = absurd (omega (arith, same))
-  all_served lock n history (k ∷ ks) [] same all made = absurd (omega (arith, same))
-  all_served lock n history (k ∷ ks) (w ∷ ws) same all made =
+  all_served lock n history [] [] same all made none seen = tt
+  all_served lock n history [] (w ∷ ws) same all made none seen = absurd (omega (arith, same))
+  all_served lock n history (k ∷ ks) [] same all made none seen = absurd (omega (arith, same))
+  all_served lock n history (k ∷ ks) (w ∷ ws) same all made none seen =
       let Made : Member Entry → Type 0 = λ member. made_by member.number history ≡ member.mine in (
-        one_served lock n history k w (all 0 w (omega arith)) (All-head Made (member_of w) (map member_of ws) made),
+        one_served lock n history k w (all 0 w (omega arith)) (All-head Made (member_of w) (map member_of ws) made) none
+            (All-head (SawNoMore history) w ws seen),
         all_served lock (n + 1) history ks ws (omega (arith, same)) (later_worked (seated lock n k) w (hired lock (n + 1) ks) ws all)
-            (All-tail Made (member_of w) (map member_of ws) made),
+            (All-tail Made (member_of w) (map member_of ws) made) none (All-tail (SawNoMore history) w ws seen),
       )
 
   -- a number past those of all workers is none of theirs
@@ -176,16 +207,16 @@ module _ {T R K C M : Type 0} (r : Doors R K) (c : Clocks C) (m : Makers M) (com
       (ws : List (Worker (Standing T Entry) R C M)) (kits : List (Kit R C M)) (failed : Bool) (mine : List Entry) (joined : List (Member Entry))
       → kits ≡ map (λ (w : Worker (Standing T Entry) R C M). w.kit) ws → failed ≡ list_any has_failed ws → length ws ≡ length ks
       → AllWorked r c m coming sent limit (hired lock 0 ks) ws → mine ≡ [] → joined ≡ map member_of ws
-      → IsLegal opening history last → IsOf history mine joined
+      → IsLegal opening history last → IsOf history mine joined → lock.done ≡ 0 → All (SawNoMore history) ws
       → ServesTeam coming sent limit opening (told_of r c m ks) (told_of r c m kits) failed history last
-  team_served lock opening last history ks ws kits failed mine joined kits_are failed_is same all none members legal whole =
+  team_served lock opening last history ks ws kits failed mine joined kits_are failed_is same all none members legal whole begins seen =
       let Of : List (Member Entry) → Type 0 = λ those. All (λ (member : Member Entry). made_by member.number history ≡ member.mine) those in
       record {
         legal = legal;
         done = map told_done ws;
         kits_are = ap (told_of r c m) kits_are ∙ kits_told ws;
         failed_is = failed_is ∙ failed_told ws;
-        workers = all_served lock 0 history ks ws same all (subst Of members whole.members);
+        workers = all_served lock 0 history ks ws same all (subst Of members whole.members) begins seen;
         first = whole.first ∙ none;
         others = λ number past.
             let past' : length ks < number = omega (arith, past, told-length r c m ks) in

@@ -1,5 +1,5 @@
 -- What workers that serve one journal at the same time did.
-use Rattle.std.specs.Prelude.{◌≡◌, ℕ, ◌+◌, ◌<◌, Bool, true, false, List, [], ◌∷◌, length, map, slice_index_or, Option}
+use Rattle.std.specs.Prelude.{◌≡◌, ℕ, ◌+◌, ◌^◌, ◌<◌, ◌≤◌, Bool, true, false, List, [], ◌∷◌, length, map, slice_index_or, Option}
 use Rattle.std.specs.List.{list_any}
 use Rattle.hl_base.specs.declared.clock.Clock.{Ghosts as Clocks}
 use Rattle.hl_base.specs.declared.disk.Disk.{Ghosts}
@@ -65,6 +65,10 @@ pub record DoneTold (K : Type 0) : Type 0 where
   pub kit : KitTold K
   pub end : DoorEnd
 
+-- a history before which no entry was made has no room for another one
+abbrev pub HasNoRoom : List (Entered Entry) → Type 0
+HasNoRoom history = 2 ^ 63 ≤ length history + 1
+
 -- One worker served its door up to so many links, with the entries that stand under its number: they are the runs of these
 -- links, in order.
 pub record ServesUnder {K : Type 0} (coming sent : K → Option (List ℕ)) (limit : ℕ) (history : List (Entered Entry)) (number : ℕ)
@@ -72,6 +76,7 @@ pub record ServesUnder {K : Type 0} (coming sent : K → Option (List ℕ)) (lim
   pub stays : List (Stay K)
   pub served : AreServed coming sent kit.door done.kit.door stays
   pub ends : EndsDoor limit done.end kit.door done.kit.door stays
+  pub full : done.end ≡ door_end.Spent → HasNoRoom history
   pub made : made_by number history ≡ runs_of stays
   pub asked : AskedWith kit.tools done.kit.tools (runs_of stays)
   pub day : done.kit.tools.day ≡ kit.tools.day

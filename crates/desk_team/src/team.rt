@@ -67,6 +67,7 @@ fn dismiss<D: Disk, R: Drop, C: Drop, M: Drop>(
     ensures joined { first.new.joined ≡ first.old.joined ++ map member_of workers.items }
     ensures first { IsFirst turn.now first.new × (first.new.made ≡ first.old.made)
         × (first.new.mine ≡ first.old.mine) }
+    ensures seen { All (λ worker. length worker.pass.seen ≤ length first.new.seen) workers.items }
 {
     let mut failed = false;
     for worker in workers {
@@ -94,6 +95,7 @@ fn serve_under<
     limit: u64,
 ) -> Closed<D, R, C, M>
     requires first { lock.1 ≡ first_pass lock.0 }
+    requires done { lock.0.done ≡ 0 }
     requires none { (rooms.0.items ≡ []) × (rooms.1.items ≡ []) }
     requires room { (length kits ≤ vec_capacity rooms.0) × (length kits ≤ vec_capacity rooms.1) }
     ensures { ServesTeam R.Link.coming R.Link.sent limit lock.0.opening.desk

@@ -6,7 +6,8 @@ use Rattle.std.proofs.lemmas.List.Elements.{All-get_or}
 use Rattle.std.specs.List.{list_any}
 use Rattle.turn_lock.specs.Passes.{IsFree}
 use Rattle.desk_team.specs.Teams.{has_failed, member_of}
-use Rattle.desk_team.proofs.Joining.{failed-push, kits-length}
+use Rattle.std.specs.Prelude.{All}
+use Rattle.desk_team.proofs.Joining.{SawNoMore, failed-push, kits-length, seen-push}
 use Rattle.desk_team.proofs.team.dismiss.Goals as goal
 
 pub join-requires-clause-other : goal.join-requires-clause-other
@@ -48,6 +49,7 @@ loop-worker-preserved g c =
       kits = c.push_reserved.ensures.items ∙ ap (λ kits. kits ++ x.kit ∷ []) kept.kits ∙ sym (map-append (λ w. w.kit) xs (x ∷ []));
       failed = failed-push xs x c.loop-worker.failed c.failed_with-failed.result kept.failed c.failed_with-failed.ensures;
       room = c.push_reserved.ensures.capacity ∙ kept.room;
+      seen = subst (λ seen. All (SawNoMore seen) (xs ++ x ∷ [])) (sym (ap (λ p. p.seen) joined)) (seen-push c.loop-worker.first.seen xs x kept.seen);
     }
 
 pub returns : goal.returns
@@ -63,4 +65,5 @@ returns g c =
       failed = kept.failed ∙ ap (list_any has_failed) same;
       joined = kept.joined ∙ ap (λ those. c.args.first.now.joined ++ map member_of those) same;
       first = (kept.first, kept.made, kept.mine);
+      seen = subst (λ those. All (SawNoMore c.loop-worker.first.seen) those) same kept.seen;
     }

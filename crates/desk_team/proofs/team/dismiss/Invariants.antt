@@ -1,7 +1,9 @@
 use Rattle.std.proofs.Common.{◌≡◌, ◌++◌, map, vec_capacity}
+use Rattle.std.specs.Prelude.{All}
 use Rattle.turn_lock.specs.Passes.{IsFirst}
 use Rattle.std.specs.List.{list_any}
 use Rattle.desk_team.specs.Teams.{has_failed, member_of}
+use Rattle.desk_team.proofs.Joining.{SawNoMore}
 use Rattle.desk_team.proofs.team.dismiss.Given as goal
 
 -- each worker so far was taken in
@@ -16,4 +18,5 @@ invariant-loop-worker g l = record {
   kits : l.kits.items ≡ map (λ worker. worker.kit) l.yielded;
   failed : l.failed ≡ list_any has_failed l.yielded;
   room : vec_capacity l.kits ≡ vec_capacity l.fn.kits;
+  seen : All (SawNoMore l.first.seen) l.yielded;
 }
