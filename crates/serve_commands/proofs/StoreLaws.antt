@@ -246,6 +246,9 @@ module _ {S D : Type 0} (s : Shelves S D) (g : Disks D) (name : List ℕ) (old :
       unhosted : (fault : HouseFault) (opening : Desk D g) → OpensWith g post.allow lent opening
           → IsUnhosted opening post.crew.workers post.address house house_now fault back → IsUnserved s g name post old new house house_now fault
       unhosted fault opening opens un = record {
+        opening = opening;
+        opened = stands_for post.allow opening opens;
+        loads = opens.loads;
         hosting = un.hosting;
         stays = stays_so post.allow opening opens un.returned;
         crash = crash_so post.allow opening opens un.returned;

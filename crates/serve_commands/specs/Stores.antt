@@ -86,6 +86,10 @@ module _ {S D : Type 0} (s : Shelves S D) (g : Disks D) (name : List ℕ) where
 
   -- A store was opened, and no link was served: its image stays, and each outcome of a crash has it. The house was asked to bind once.
   pub record IsUnserved {A : Type 0} (post : Post) (old new : S) (house house_now : HouseTold A) (fault : HouseFault) : Type 0 where
+    -- it was opened as the store's image, whose text makes a journal, before the house was asked
+    pub opening : Desk D g
+    pub opened : IsTrue ((s.tells old).files) → StandsFor (s.file old) name opening
+    pub loads : Loads (state_of opening)
     pub hosting : UnservedHouse post.crew.workers (bound_at house post.address) house house_now fault
     pub stays : IsTrue ((s.tells old).files) → image_under (s.file new) name ≡ image_under (s.file old) name
     pub crash : IsTrue ((s.tells old).files) → (f t : List ℕ) → IsLeft old new f t → Some (image f t) ≡ image_under (s.file old) name
