@@ -1,0 +1,5 @@
+use Rattle.serve_rows.proofs.Doors.{is_new}
+use Rattle.serve_rows.proofs.case.door_of.Goals as goal
+
+pub returns : goal.returns
+returns c = is_new c.in_ok-door.door c.in_ok-door.ensures.given c.in_ok-door.ensures.faults
