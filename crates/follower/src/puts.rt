@@ -25,7 +25,8 @@ fn text_with(alloc: Global, text: &[u8], part: &Splice) -> Result<Option<Bytes>,
     let (front, behind) = text.split_at(part.at as usize);
     let (_, rest) = behind.split_at(part.removed as usize);
     let inserted = part.inserted.as_slice();
-    let mut made = Vec::with_capacity(alloc, front.len())?;
+    let length = front.len().saturating_add(inserted.len());
+    let mut made = Vec::with_capacity(alloc, length.saturating_add(rest.len()))?;
     made.extend_from_slice(front)?;
     made.extend_from_slice(inserted)?;
     made.extend_from_slice(rest)?;
