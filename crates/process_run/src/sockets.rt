@@ -1,5 +1,5 @@
 //! Connections over sockets, and the doors at which they come. They tell nothing of their bytes.
-ghost use Rattle.std.specs.Prelude.{◌≡◌};
+ghost use Rattle.std.specs.Prelude.{◌≡◌, ◌≤◌, IfOk, length};
 
 use hl_base::{Door, Failed, Knock, Link};
 use std::io::{self, ErrorKind, Read, Write};
@@ -17,6 +17,9 @@ const PARTING_READS: u64 = 64;
 
 /// How many connections that are broken off before they are served one call of a door passes over.
 const BROKEN_OFF: u64 = 64;
+
+/// How often a read or a write that a signal breaks off is made again.
+const AGAIN: u64 = 64;
 
 /// A connection over a socket.
 #[derive(Drop)]
@@ -54,12 +57,46 @@ impl SocketLink {
         }
         let mut room = [0u8; 16384];
         for _read in 0..PARTING_READS {
-            match stream.read(&mut room) {
+            match read_some(&mut stream, &mut room) {
                 Ok(count) if count > 0 => {}
                 _ => return,
             }
         }
     }
+}
+
+/// Whether a signal broke the call off, as one that stops the process and has it go on.
+fn is_interrupted(told: &io::Result<usize>) -> bool {
+    match told {
+        Ok(_) => false,
+        Err(error) => matches!(error.kind(), ErrorKind::Interrupted),
+    }
+}
+
+/// Reads some bytes, and again where a signal breaks the call off.
+fn read_some(stream: &mut TcpStream, room: &mut [u8]) -> io::Result<usize>
+    ensures { IfOk result (λ count. count ≤ length room.old) }
+{
+    for _broken in 0..AGAIN {
+        let told = stream.read(room);
+        if !is_interrupted(&told) {
+            return told;
+        }
+    }
+    stream.read(room)
+}
+
+/// Writes some bytes, and again where a signal breaks the call off.
+fn write_some(stream: &mut TcpStream, piece: &[u8]) -> io::Result<usize>
+    ensures { IfOk result (λ count. count ≤ length piece.now) }
+{
+    for _broken in 0..AGAIN {
+        let told = stream.write(piece);
+        if !is_interrupted(&told) {
+            return told;
+        }
+    }
+    stream.write(piece)
 }
 
 impl Link for SocketLink {
@@ -76,7 +113,7 @@ impl Link for SocketLink {
     ghost HasRoom = { λ _ _. ⊥ };
 
     fn read(&mut self, room: &mut [u8]) -> Result<usize, Failed> {
-        match self.stream.read(room) {
+        match read_some(&mut self.stream, room) {
             Ok(count) => Ok(count),
             Err(_) => {
                 self.read_faults = self.read_faults.saturating_add(1);
@@ -86,7 +123,7 @@ impl Link for SocketLink {
     }
 
     fn write(&mut self, piece: &[u8]) -> Result<usize, Failed> {
-        match self.stream.write(piece) {
+        match write_some(&mut self.stream, piece) {
             Ok(count) if count > 0 || piece.is_empty() => Ok(count),
             _ => {
                 self.write_faults = self.write_faults.saturating_add(1);
