@@ -17,7 +17,7 @@ use Rattle.follower.specs.declared.follower.Follower.{Follower}
 use Rattle.follower.specs.declared.frame.Frame.{Frame}
 use Rattle.follower.specs.declared.keep.Unkept.{Unkept}
 use Rattle.follower.specs.declared.keep.Unkept.TheVariants as unkept
-use Rattle.follower.specs.Accepting.{Accepts, BecomesOf, IsPending, IsUnmade, MakingRefused, OpeningRefused, needed}
+use Rattle.follower.specs.Accepting.{Accepts, BecomesOf, HadRoom, IsPending, IsUnmade, MakingRefused, OpeningRefused, needed}
 use Rattle.follower.specs.Images.{image_after, snapshot}
 use Rattle.follower.specs.Keeping.{GoesOn, IsCause, LeftPending, room_size}
 use Rattle.follower.specs.Refused.{refusal_of, fault_of}
@@ -28,9 +28,11 @@ use Rattle.follower.proofs.Texts.{other_kind}
 
 -- a follower that stays as it is
 pub still : {D : Type 0} {g : Ghosts D} (follower : Follower D g) (frame : Frame) (result : Result Accepted FollowFault) → BecomesOf follower frame result follower
-    → ((pending : Option Image) → IsPending pending (image_after follower.image frame) result pending) → Accepts follower frame result follower
-still {D} {g} follower frame result becomes pends = record {
+    → ((pending : Option Image) → IsPending pending (image_after follower.image frame) result pending) → HadRoom follower frame result follower
+    → Accepts follower frame result follower
+still {D} {g} follower frame result becomes pends room = record {
   becomes = becomes;
+  room = room;
   stands = λ pending stands. (pending, pends pending, stands);
   crash = λ pending stands tell. stays g (disks follower.store) _ (leaves_of follower.store follower.image pending (image_after follower.image frame) stands tell);
   limit = refl;
@@ -46,10 +48,11 @@ module _ {D : Type 0} {g : Ghosts D} (old new : Follower D g) (frame : Frame) (n
       → Throughout g (disks old.store) (disks new.store) (ShowsOne old.image pending (image_after old.image frame))
   moving pending stands tell = subst (λ (o : Option Image). Throughout g (disks old.store) (disks new.store) (ShowsOne old.image pending o)) (sym after) (run pending stands tell)
 
-  pub taken : (revision : ℕ) → revision ≡ frame.revision → new.image ≡ next
+  pub taken : (revision : ℕ) → revision ≡ frame.revision → new.image ≡ next → needed old frame next ≤ limit_of old.store → size_of new.store ≡ needed old frame next
       → ((pending : Option Image) → Stands old.store old.image pending → (repair_due new.store ≡ false) × Holds new.store next) → Accepts old frame (Ok (accepted.Taken revision)) new
-  taken revision is image held = record {
+  taken revision is image fits long held = record {
     becomes = (is_next, is, after ∙ ap Some (sym image));
+    room = subst (λ (i : Image). (needed old frame i ≤ limit_of old.store) × (size_of new.store ≡ needed old frame i)) (sym image) (fits, long);
     stands = λ pending stands. (None, refl, inl (subst (λ (i : Image). (repair_due new.store ≡ false) × Holds new.store i) (sym image) (held pending stands)));
     crash = moving;
     limit = on.limit;
@@ -62,6 +65,7 @@ module _ {D : Type 0} {g : Ghosts D} (old new : Follower D g) (frame : Frame) (n
       → Accepts old frame (Err (fault.Store store_fault.DiskFault)) new
   failed fits image rose torn = record {
     becomes = (is_next, (next, after, (fits, rose, image)));
+    room = tt;
     stands = λ pending stands.
         let t = torn pending stands in
         (t.0, left_of pending t.0 t.1, subst (λ (i : Image). Stands new.store i t.0) (sym image) t.2);
@@ -81,6 +85,7 @@ module _ {D : Type 0} {g : Ghosts D} (old new : Follower D g) (frame : Frame) (n
       → Accepts old frame (Err fault.Memory) new
   short image torn = record {
     becomes = (is_next, image);
+    room = tt;
     stands = λ pending stands.
         let t = torn pending stands in
         (t.0, t.1, subst (λ (i : Image). Stands new.store i t.0) (sym image) t.2);
@@ -117,7 +122,7 @@ full old frame next size cause is_next after is past told =
       is_next,
       (next, after, (omega (arith, is, past), ap (λ (n : ℕ). min n (2 ^ 64 - 1)) (sym is), refl, refl)),
     )
-    (λ pending. refl))
+    (λ pending. refl) tt)
 
 -- ---- making and opening
 

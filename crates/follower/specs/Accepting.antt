@@ -50,6 +50,13 @@ BecomesOf old frame (Err (fault.Store cause)) new = IsNext old.image.revision fr
 BecomesOf old frame (Err (fault.NotASnapshot kind)) new = ⊥
 BecomesOf old frame (Err fault.Memory) new = IsNext old.image.revision frame × (new.image ≡ old.image)
 
+-- a frame that was taken had its room, and the half that it stands in is as long as it needed
+abbrev pub HadRoom : {D : Type 0} {g : Ghosts D} → Follower D g → Frame → Result Accepted FollowFault → Follower D g → Type 0
+HadRoom old frame (Ok (accepted.Taken revision)) new = (needed old frame new.image ≤ limit_of old.store) × (size_of new.store ≡ needed old frame new.image)
+HadRoom old frame (Ok (accepted.Old had got)) new = Unit {0}
+HadRoom old frame (Ok (accepted.Gap had got)) new = Unit {0}
+HadRoom old frame (Err cause) new = Unit {0}
+
 -- what the disks may show beside the image after a frame: nothing once it is taken; this frame after a disk fault; and else at most what
 -- they might have shown before
 abbrev pub IsPending : Option Image → Option Image → Result Accepted FollowFault → Option Image → Type 0
@@ -70,6 +77,7 @@ IsPending before next (Err fault.Memory) after = (after ≡ None) ⊎ (after ≡
 -- the image with it, or the one before with a frame that was refused for a disk fault since the last one that was taken.
 pub record Accepts {D : Type 0} {g : Ghosts D} (old : Follower D g) (frame : Frame) (result : Result Accepted FollowFault) (new : Follower D g) : Type 0 where
   pub becomes : BecomesOf old frame result new
+  pub room : HadRoom old frame result new
   pub stands : (pending : Option Image) → Stands old.store old.image pending
       → (after : Option Image) × IsPending pending (image_after old.image frame) result after × Stands new.store new.image after
   pub crash : (pending : Option Image) → Stands old.store old.image pending → Tell g (disks old.store)

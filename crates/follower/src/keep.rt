@@ -184,6 +184,7 @@ pub fn keep_image<D: Disk>(store: &mut Store<D>, alloc: Global, image: &Image) -
         → Throughout D.Disk (disks store.old) (disks store.new) (ShowsOne shown pending (Some image.now)) }
     ensures cause { IfErr result (λ e. spec.IsCause e (fault_count D.Disk (disks store.old)) (fault_count D.Disk (disks store.new))) }
     ensures no_fault { OnOk result (fault_count D.Disk (disks store.new) ≡ fault_count D.Disk (disks store.old)) }
+    ensures size { OnOk result (size_of store.new ≡ whole_size image.now) }
     ensures goes_on { spec.GoesOn store.old store.new }
 {
     mend(store)?;
@@ -215,6 +216,7 @@ pub fn keep_change<D: Disk>(
         → Tell D.Disk (disks store.old) → Throughout D.Disk (disks store.old) (disks store.new) (ShowsOne image.now pending (Some next)) }
     ensures cause { IfErr result (λ e. spec.IsCause e (fault_count D.Disk (disks store.old)) (fault_count D.Disk (disks store.new))) }
     ensures no_fault { OnOk result (fault_count D.Disk (disks store.new) ≡ fault_count D.Disk (disks store.old)) }
+    ensures size { OnOk result (size_of store.new ≡ spec.room_size (size_of store.old) (limit_of store.old) size (whole_size image.now) + size) }
     ensures goes_on { spec.GoesOn store.old store.new }
 {
     mend(store)?;

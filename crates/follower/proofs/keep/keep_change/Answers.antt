@@ -114,3 +114,14 @@ returns-in-Err-clause-any_moment g c = λ next pending stands edited tell.
     let anew = less_said g.D.Disk _ _ _ _ (shows_same shown pending (Some next)) (c.make_room.ensures.any_moment rest.1 tell_on) in
     let putting = less_said g.D.Disk _ _ _ _ (shows_next shown pending next) (c.put_record.ensures.any_moment shown next room edited tell_more) in
     then_on g.D.Disk _ _ _ _ (then_on g.D.Disk _ _ _ _ mending anew) putting
+
+pub returns-in-Ok-clause-size : goal.returns-in-Ok-clause-size
+returns-in-Ok-clause-size g c =
+    let old = c.args.store.now in
+    let mid = c.mend.new.store in
+    let new = c.make_room.new.store in
+    let whole = whole_size c.args.image.now in
+    let sizes : size_of mid ≡ size_of old = c.mend.ensures.size in
+    let limits : limit_of mid ≡ limit_of old = c.mend.ensures.goes_on.limit in
+    let size : size_of new ≡ room_size (size_of old) (limit_of old) c.args.size whole = c.in_ok-make_room.ensures.size ∙ (λ i. room_size (sizes i) (limits i) c.args.size whole) in
+    omega (arith, size, c.in-Ok.ensures.size, c.requires.record_size)

@@ -14,7 +14,7 @@ use Rattle.follower.proofs.follower.Follower.take_change.Goals as goal
 pub returns-in_err-prepared : goal.returns-in_err-prepared
 returns-in_err-prepared g c =
     let p = err_from_is_err_and c.from_residual.result c.from_residual.ensures.1 in
-    rw (p.1, p.2) (still c.args.self.now c.args.frame.now (Err fault.Memory) (record { later = omega (arith, c.requires.next); next = inr c.requires.next }, refl) (λ pending. inr refl))
+    rw (p.1, p.2) (still c.args.self.now c.args.frame.now (Err fault.Memory) (record { later = omega (arith, c.requires.next); next = inr c.requires.next }, refl) (λ pending. inr refl) tt)
 
 pub returns-in_default : goal.returns-in_default
 returns-in_default g c =
@@ -24,7 +24,7 @@ returns-in_default g c =
       subst (λ (o : Option Prepared). IsPrepared c.args.self.now.image c.args.frame.now o) c.in_default.is c.in_ok-prepared.ensures,
       refl,
     )
-    (λ pending. refl)
+    (λ pending. refl) tt
 
 pub returns-in-Some-no_room : goal.returns-in-Some-no_room
 returns-in-Some-no_room g c =

@@ -20,8 +20,13 @@ returns g c =
     let frame = c.args.frame.now in
     let ready = c.requires.ready in
     let next = with_next old.image c.args.prepared.next in
+    let r : c.args.size ≡ 10 + length frame.payload = c.requires.record_size in
+    let same : needed old frame next ≡ room_size (size_of old.store) (limit_of old.store) c.args.size (whole_size old.image) + c.args.size =
+    needs_room old frame next c.requires.kind ∙ (λ i. room_size (size_of old.store) (limit_of old.store) (sym r i) (whole_size old.image) + sym r i) in
+    let fits : needed old frame next ≤ limit_of old.store = omega (arith, same, c.requires.room) in
+    let long : size_of c.keep_change.new.store ≡ needed old frame next = c.in_ok-keep_change.ensures.size ∙ sym same in
     taken old _ frame next (record { later = omega (arith, c.requires.next); next = inr c.requires.next }) ready.after c.keep_change.ensures.goes_on
-    (λ pending stands tell. c.keep_change.ensures.any_moment next pending stands ready.edits tell) frame.revision refl c.put_into.ensures (λ pending stands. c.in_ok-keep_change.ensures.held next pending stands ready.edits)
+    (λ pending stands tell. c.keep_change.ensures.any_moment next pending stands ready.edits tell) frame.revision refl c.put_into.ensures fits long (λ pending stands. c.in_ok-keep_change.ensures.held next pending stands ready.edits)
 
 pub returns-in_err-keep_change : goal.returns-in_err-keep_change
 returns-in_err-keep_change g c =
