@@ -117,7 +117,7 @@ pub fn print_plain(alloc: Global, symbol: &Text, value: Dec) -> Result<Text, Mem
         rest: 3,
     };
     let number = print_number(alloc, value, value.decimals(), &shape)?;
-    let mut text = number.into_string();
+    let mut text = number.into_string(alloc)?;
     text.push(' ')?;
     text.push_str(symbol.as_str())?;
     Ok(Text::from_string(text))

@@ -5,6 +5,7 @@ pub mod DoorLaws
 pub mod Files
 pub mod FirstEnds
 pub mod LineLemmas
+mod Padding
 pub mod Replays
 pub mod ShelfLaws
 pub mod Stops

@@ -21,6 +21,7 @@ mod mem_shelf;
 mod memory_forms;
 pub mod outside;
 pub mod shelf;
+mod short;
 pub mod steps;
 mod surface;
 pub mod text;

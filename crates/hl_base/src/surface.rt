@@ -79,7 +79,7 @@ fn overwrite(buffer: &mut [u8], len: usize, at: usize, piece: &[u8])
 }
 
 // Puts bytes at a place.
-fn put(buffer: &mut [u8], at: usize, piece: &[u8])
+pub(crate) fn put(buffer: &mut [u8], at: usize, piece: &[u8])
     requires { at + length piece.now ≤ length buffer.old }
     ensures { buffer.new ≡ take at buffer.old ++ piece.now ++ drop (at + length piece.now) buffer.old }
 {

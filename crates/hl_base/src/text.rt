@@ -1,30 +1,35 @@
 //! An owned text in UTF-8, which contracts see as its bytes.
-ghost use Rattle.std.specs.Prelude.{◌≡◌, IfOk, List, ℕ, [], length};
+ghost use Rattle.std.specs.Prelude.{◌≡◌, IfOk, []};
 ghost use Rattle.std.specs.String.{string_bytes};
 
 use crate::fault::Memory;
+use crate::short::{Kept, SHORT, Short};
 use std::alloc::Global;
 use std::marker::Model;
 
-/// An owned text in UTF-8. Contracts see its bytes.
+/// An owned text in UTF-8. Contracts see its bytes. Few bytes stand in the text itself, so that most names and symbols take
+/// no memory of their own.
 #[derive(Debug, Drop)]
 pub struct Text {
-    inner: String,
+    inner: Kept,
 }
 
 impl Model for Text {
+    ghost use Rattle.std.specs.Prelude.{List, ℕ};
+    ghost use Rattle.hl_base.specs.Texts.{bytes_of};
+
     ghost Value = { List ℕ };
 
-    ghost view = { λ t. string_bytes t.inner };
+    ghost view = { λ t. bytes_of t.inner };
 }
 
 impl Text {
     /// An empty text, which takes no memory.
-    pub fn new(alloc: Global) -> Text
+    pub fn new(_alloc: Global) -> Text
         ensures { result ≡ [] }
     {
         Text {
-            inner: String::new(alloc),
+            inner: Kept::Here(Short::new()),
         }
     }
 
@@ -32,34 +37,47 @@ impl Text {
     pub fn from_string(string: String) -> Text
         ensures { result ≡ string_bytes string }
     {
-        Text { inner: string }
+        Text {
+            inner: Kept::Apart(string),
+        }
     }
 
     /// A copy of a text.
     pub fn copied(alloc: Global, text: &str) -> Result<Text, Memory>
         ensures { IfOk result (λ copy. copy ≡ text.now) }
     {
+        if text.len() <= SHORT {
+            return Ok(Text {
+                inner: Kept::Here(Short::copied(text)),
+            });
+        }
         Ok(Text {
-            inner: String::from_str(alloc, text)?,
+            inner: Kept::Apart(String::from_str(alloc, text)?),
         })
     }
 
-    /// The string that holds the text, without a copy.
-    pub fn into_string(self) -> String
-        ensures { string_bytes result ≡ self }
+    /// The string of the text: the one that holds it, without a copy, or a new one where the bytes stand in the text.
+    pub fn into_string(self, alloc: Global) -> Result<String, Memory>
+        ensures { IfOk result (λ string. string_bytes string ≡ self) }
     {
-        self.inner
+        match self.inner {
+            Kept::Here(short) => Ok(String::from_str(alloc, short.as_str())?),
+            Kept::Apart(string) => Ok(string),
+        }
     }
 
     pub fn as_str(&self) -> &str
         ensures { result.now ≡ self.now }
     {
-        self.inner.as_str()
+        match &self.inner {
+            Kept::Here(short) => short.as_str(),
+            Kept::Apart(string) => string.as_str(),
+        }
     }
 
     pub fn as_bytes(&self) -> &[u8]
         ensures { result.now ≡ self.now }
     {
-        self.inner.as_bytes()
+        self.as_str().as_bytes()
     }
 }

@@ -57,7 +57,7 @@ fn number_text(alloc: Global, value: Dec, places: u8, shape: &Written) -> Result
     let number_shape = shape.number_shape();
     let number = print_number(alloc, value, places, &number_shape)?;
     if places == 0 && has_group_mark(number_shape.group, number.as_bytes()) {
-        let mut text = number.into_string();
+        let mut text = number.into_string(alloc)?;
         text.push(char::from(number_shape.mark))?;
         return Ok(Text::from_string(text));
     }

@@ -85,7 +85,7 @@ pub fn cell_text(alloc: Global, cell: &Mixed, styles: &Styles) -> Result<Printed
     match cell.entries() {
         [] => Ok(Printed::new(Text::copied(alloc, "0")?)),
         [first, rest @ ..] => {
-            let mut text = amount_text(alloc, first, styles)?.into_string();
+            let mut text = amount_text(alloc, first, styles)?.into_string(alloc)?;
             push_amounts(alloc, &mut text, rest, styles)?;
             Ok(Printed::new(Text::from_string(text)))
         }

@@ -58,7 +58,7 @@ fn addition(alloc: Global, query: &[u8], body: &[u8]) -> Result<Result<Request, 
     }
     match take_only(parameters(alloc, body)?, b"entry") {
         Some(entry) => Ok(Ok(Request::Add {
-            entry: Bytes::from_vec(entry.into_string().into_bytes()),
+            entry: Bytes::from_vec(entry.into_string(alloc)?.into_bytes()),
         })),
         None => Ok(Err(Refusal::Form)),
     }
