@@ -14,11 +14,11 @@ pub struct Written {
     pub rest: u8,
 }
 
-/// A quantity of a symbol, as it is written.
+/// A quantity of a symbol, as it is written. The number stands first, since it begins at each sixteenth byte.
 #[derive(Debug, Drop)]
 pub struct Amount {
-    pub symbol: Text,
     pub value: Dec,
+    pub symbol: Text,
     pub shape: Written,
 }
 

@@ -32,21 +32,22 @@ pub struct Tag {
 }
 
 /// One movement of a transaction on an account. `filled` says that balancing found the amount, and `costed`
-/// that it found the cost. `day` is there where the posting has a day of its own.
+/// that it found the cost. `day` is there where the posting has a day of its own. The largest fields stand first, so that
+/// there are no gaps between them.
 #[derive(Debug, Drop)]
 pub struct Posting {
-    pub line: u64,
-    pub mark: Mark,
-    pub side: Side,
-    pub account: Text,
     pub amount: Option<Amount>,
-    pub cost: Option<Boxed<Cost>>,
-    pub wanted: Option<Boxed<Assertion>>,
-    pub filled: bool,
-    pub costed: bool,
+    pub account: Text,
     pub comment: Text,
     pub tags: List<Tag>,
+    pub cost: Option<Boxed<Cost>>,
+    pub wanted: Option<Boxed<Assertion>>,
+    pub line: u64,
     pub day: Option<Day>,
+    pub mark: Mark,
+    pub side: Side,
+    pub filled: bool,
+    pub costed: bool,
 }
 
 impl Posting {
