@@ -1,5 +1,6 @@
 //! Sums of several symbols.
-ghost use Rattle.std.specs.Prelude.{◌≡◌, [], OnOk, OnErr, IfOk, IfErr, IsTrue, is_ok};
+ghost use Rattle.std.specs.Prelude.{◌≡◌, ◌<◌, [], OnOk, OnErr, IfOk, IfErr, IsTrue, is_ok, length};
+ghost use Rattle.std.specs.List.{remove};
 ghost use Rattle.std.specs.Ordering.{nat_cmp};
 ghost use Rattle.std.specs.Cmp.Lexicographic.{slice_cmp};
 ghost use Rattle.hl_num.specs.Decimal.{add_fits};
@@ -94,7 +95,7 @@ fn add_at(
     match checked_sum(entries[at].1, value) {
         Ok(sum) => {
             if sum.is_zero() {
-                let _ = entries.remove(at);
+                take_out(entries, at);
             } else {
                 entries[at].1 = sum;
             }
@@ -105,6 +106,14 @@ fn add_at(
             b: range.b,
         }),
     }
+}
+
+/// Takes the sum at a place out.
+fn take_out(entries: &mut Vec<(Text, Dec)>, at: usize)
+    requires { at < length entries.old.items }
+    ensures { entries.new.items ≡ remove entries.old.items at }
+{
+    let _ = entries.remove(at);
 }
 
 /// The exact sum, with the greater number of places.

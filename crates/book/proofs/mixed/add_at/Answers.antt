@@ -15,7 +15,7 @@ returns-after-is_zero-clause-ok c =
     elim c.if-is_zero.branch [
       | then-is_zero w ↦
           let none : is_zero (plus c.index.result.now.1 c.args.value) ≡ true = subst (λ (d : Decimal). is_zero d ≡ true) c.in-Ok.ensures.value (is_zero-true c.in-Ok.sum (c.is_zero.ensures.mantissa.0 w.if-is_zero.true)) in
-          ap (λ (v : Vec (List ℕ × Decimal) Global). v.items) w.entries-is ∙ w.remove.ensures.items ∙ sym (gone none)
+          ap (λ (v : Vec (List ℕ × Decimal) Global). v.items) w.entries-is ∙ w.take_out.ensures ∙ sym (gone none)
       | else-is_zero w ↦
           let some : is_zero (plus c.index.result.now.1 c.args.value) ≡ false = subst (λ (d : Decimal). is_zero d ≡ false) c.in-Ok.ensures.value (is_zero-false c.in-Ok.sum (λ e. false≢true (sym w.if-is_zero.false ∙ c.is_zero.ensures.mantissa.1 e))) in
           let same : w.index_mut.result.now ≡ c.index.result.now =
