@@ -51,11 +51,11 @@ fn kinds_used(count: u64) -> u64
 }
 
 /// Puts a word and a number behind it.
-fn push_told(alloc: Global, out: &mut Vec<u8>, word: &[u8], number: u64) -> Result<(), Memory>
+fn push_told(out: &mut Vec<u8>, word: &[u8], number: u64) -> Result<(), Memory>
     ensures { OnOk result (out.new.items ≡ out.old.items ++ (word.now ++ decimal number)) }
 {
     out.extend_from_slice(word)?;
-    push_decimal(alloc, out, number)
+    push_decimal(out, number)
 }
 
 /// The line that is told of a sample of so many entries and bytes: with how many accounts it has and what the bank holds.
@@ -65,10 +65,10 @@ pub fn sample_line(alloc: Global, count: u64, bytes: u64) -> Result<Bytes, Memor
     ensures { IfOk result (λ line. line ≡ spec.sample_line count bytes) }
 {
     let mut out = Vec::new(alloc);
-    push_told(alloc, &mut out, b"transactions ", count)?;
-    push_told(alloc, &mut out, b", bytes ", bytes)?;
-    push_told(alloc, &mut out, b", accounts ", 1 + kinds_used(count))?;
-    push_negative(alloc, &mut out, b", bank -", spent_in(count))?;
+    push_told(&mut out, b"transactions ", count)?;
+    push_told(&mut out, b", bytes ", bytes)?;
+    push_told(&mut out, b", accounts ", 1 + kinds_used(count))?;
+    push_negative(&mut out, b", bank -", spent_in(count))?;
     out.extend_from_slice(b"\n")?;
     Ok(Bytes::from_vec(out))
 }

@@ -5,6 +5,7 @@ ghost use Rattle.sample_text.specs.Sample as spec;
 
 use hl_base::{Bytes, Memory};
 use hl_time::{Day, print_day};
+use itoa::Buffer;
 use std::alloc::Global;
 
 /// The most entries that a sample may have.
@@ -38,11 +39,11 @@ pub(crate) fn kind_of(number: u64) -> u64
 }
 
 /// Puts a number in decimal.
-pub(crate) fn push_decimal(alloc: Global, out: &mut Vec<u8>, number: u64) -> Result<(), Memory>
+pub(crate) fn push_decimal(out: &mut Vec<u8>, number: u64) -> Result<(), Memory>
     ensures { OnOk result (out.new.items ≡ out.old.items ++ decimal number) }
 {
-    let digits = number.to_string(alloc)?;
-    out.extend_from_slice(digits.as_bytes())?;
+    let mut digits = Buffer::new();
+    out.extend_from_slice(digits.format(number).as_bytes())?;
     Ok(())
 }
 
@@ -57,10 +58,10 @@ fn push_two(out: &mut Vec<u8>, number: u8) -> Result<(), Memory>
 
 /// Puts cents, in euros.
 #[tactic(auto, unfolding(crate::specs::Sample::money))]
-fn push_money(alloc: Global, out: &mut Vec<u8>, cents: u64) -> Result<(), Memory>
+fn push_money(out: &mut Vec<u8>, cents: u64) -> Result<(), Memory>
     ensures { OnOk result (out.new.items ≡ out.old.items ++ spec.money cents) }
 {
-    push_decimal(alloc, out, cents / 100)?;
+    push_decimal(out, cents / 100)?;
     out.extend_from_slice(b".")?;
     push_two(out, (cents % 100) as u8)?;
     out.extend_from_slice(b" EUR")?;
@@ -69,68 +70,57 @@ fn push_money(alloc: Global, out: &mut Vec<u8>, cents: u64) -> Result<(), Memory
 
 /// Puts the head of an entry: fifty entries stand on a day.
 #[tactic(auto, unfolding(crate::specs::Sample::head_line))]
-fn push_head(alloc: Global, out: &mut Vec<u8>, at: u64) -> Result<(), Memory>
+fn push_head(out: &mut Vec<u8>, at: u64) -> Result<(), Memory>
     requires { at < 100000 }
     ensures { OnOk result (out.new.items ≡ out.old.items ++ spec.head_line at) }
 {
     let day = Day(738_886 + (at / 50) as u32);
     out.extend_from_slice(&print_day(day))?;
     out.extend_from_slice(b" sample ")?;
-    push_decimal(alloc, out, at)?;
+    push_decimal(out, at)?;
     out.extend_from_slice(b"\n")?;
     Ok(())
 }
 
 /// Puts the posting of an expense.
 #[tactic(auto, unfolding(crate::specs::Sample::spending_line))]
-fn push_spending(alloc: Global, out: &mut Vec<u8>, number: u64) -> Result<(), Memory>
+fn push_spending(out: &mut Vec<u8>, number: u64) -> Result<(), Memory>
     ensures { OnOk result (out.new.items ≡ out.old.items ++ spec.spending_line number) }
 {
     out.extend_from_slice(b"    expenses:e")?;
-    push_decimal(alloc, out, kind_of(number))?;
+    push_decimal(out, kind_of(number))?;
     out.extend_from_slice(b"  ")?;
-    push_money(alloc, out, cents_of(number))?;
+    push_money(out, cents_of(number))?;
     out.extend_from_slice(b"\n")?;
     Ok(())
 }
 
 /// Puts what leads to an amount below zero, and the amount.
-pub(crate) fn push_negative(
-    alloc: Global,
-    out: &mut Vec<u8>,
-    lead: &[u8],
-    cents: u64,
-) -> Result<(), Memory>
+pub(crate) fn push_negative(out: &mut Vec<u8>, lead: &[u8], cents: u64) -> Result<(), Memory>
     ensures { OnOk result (out.new.items ≡ out.old.items ++ (lead.now ++ spec.money cents)) }
 {
     out.extend_from_slice(lead)?;
-    push_money(alloc, out, cents)
+    push_money(out, cents)
 }
 
 /// Puts the posting of the bank with its amount and an assertion.
 #[tactic(auto, unfolding(crate::specs::Sample::asserting_line))]
-fn push_asserting(alloc: Global, out: &mut Vec<u8>, cents: u64, spent: u64) -> Result<(), Memory>
+fn push_asserting(out: &mut Vec<u8>, cents: u64, spent: u64) -> Result<(), Memory>
     ensures { OnOk result (out.new.items ≡ out.old.items ++ spec.asserting_line cents spent) }
 {
-    push_negative(alloc, out, b"    assets:bank  -", cents)?;
-    push_negative(alloc, out, b" = -", spent)?;
+    push_negative(out, b"    assets:bank  -", cents)?;
+    push_negative(out, b" = -", spent)?;
     out.extend_from_slice(b"\n")?;
     Ok(())
 }
 
 /// Puts the posting of the bank: in each hundredth entry with what the bank holds then.
 #[tactic(auto, unfolding(crate::specs::Sample::paying_line))]
-fn push_paying(
-    alloc: Global,
-    out: &mut Vec<u8>,
-    at: u64,
-    cents: u64,
-    spent: u64,
-) -> Result<(), Memory>
+fn push_paying(out: &mut Vec<u8>, at: u64, cents: u64, spent: u64) -> Result<(), Memory>
     ensures { OnOk result (out.new.items ≡ out.old.items ++ spec.paying_line at cents spent) }
 {
     if at % 100 == 99 {
-        push_asserting(alloc, out, cents, spent)
+        push_asserting(out, cents, spent)
     } else {
         out.extend_from_slice(b"    assets:bank\n")?;
         Ok(())
@@ -139,20 +129,17 @@ fn push_paying(
 
 /// Puts an entry.
 #[tactic(auto, unfolding(crate::specs::Sample::entry))]
-fn push_entry(
-    alloc: Global,
-    out: &mut Vec<u8>,
-    at: u64,
-    number: u64,
-    spent: u64,
-) -> Result<(), Memory>
+fn push_entry(out: &mut Vec<u8>, at: u64, number: u64, spent: u64) -> Result<(), Memory>
     requires { at < 100000 }
     ensures { OnOk result (out.new.items ≡ out.old.items ++ spec.entry at number spent) }
 {
-    push_head(alloc, out, at)?;
-    push_spending(alloc, out, number)?;
-    push_paying(alloc, out, at, cents_of(number), spent)
+    push_head(out, at)?;
+    push_spending(out, number)?;
+    push_paying(out, at, cents_of(number), spent)
 }
+
+/// How many bytes most entries have, at most.
+const USUAL_BYTES: usize = 72;
 
 /// The sample journal of so many entries, at most 100,000: fifty a day from 2024-01-01 on, each an expense of one of ten
 /// kinds that the bank pays, and in each hundredth an assertion of what the bank holds (docs/manual/stores.md).
@@ -160,13 +147,13 @@ pub fn sample_text(alloc: Global, count: u64) -> Result<Bytes, Memory>
     requires { count ≤ 100000 }
     ensures { IfOk result (λ text. text ≡ spec.sample_text count) }
 {
-    let mut out = Vec::new(alloc);
+    let mut out = Vec::with_capacity(alloc, count as usize * USUAL_BYTES)?;
     let mut number = count;
     let mut spent: u64 = 0;
     for at in 0..count {
         number = next_number(number);
         spent += cents_of(number);
-        push_entry(alloc, &mut out, at, number, spent)?;
+        push_entry(&mut out, at, number, spent)?;
     }
     Ok(Bytes::from_vec(out))
 }
