@@ -91,6 +91,15 @@ pub fn read_comment(alloc: Global, own: &[u8], after: &[u8]) -> Result<Text, Mem
     if own.is_empty() && after.is_empty() {
         return Ok(Text::new(alloc));
     }
+    joined_comment(alloc, own, after)
+}
+
+/// The same where there is a comment.
+fn joined_comment(alloc: Global, own: &[u8], after: &[u8]) -> Result<Text, Memory>
+    requires own { is_utf8 own.now ≡ true }
+    requires after { is_utf8 after.now ≡ true }
+    ensures { IfOk result (λ text. text ≡ spec.comment_of own.now (spec.comments_in (contents_of after.now))) }
+{
     let mut comment = String::new(alloc);
     append(&mut comment, own)?;
     let mut rest = after;
@@ -113,6 +122,15 @@ pub fn read_tags(alloc: Global, own: &[u8], after: &[u8]) -> Result<List<Tag>, M
     if own.is_empty() && after.is_empty() {
         return Ok(List::new(alloc));
     }
+    tags_of(alloc, own, after)
+}
+
+/// The same where there is a comment.
+fn tags_of(alloc: Global, own: &[u8], after: &[u8]) -> Result<List<Tag>, Memory>
+    requires own { is_utf8 own.now ≡ true }
+    requires after { is_utf8 after.now ≡ true }
+    ensures { IfOk result (λ tags. tags ≡ spec.tags_in (own.now ∷ spec.comments_in (contents_of after.now))) }
+{
     let mut tags = Vec::new(alloc);
     push_tags(alloc, &mut tags, own)?;
     let mut rest = after;
@@ -135,6 +153,7 @@ fn day_written(value: &[u8], year: u16, line: u64) -> Result<Option<Day>, ReadFa
 
 /// The day that the first tag `date` says of a comment on a line and of the comment lines at the front of what follows.
 #[tactic(auto, using(crate::proofs::Fronts::no_day))]
+#[inline]
 pub fn read_own_day(
     own: &[u8],
     after: &[u8],
@@ -147,6 +166,14 @@ pub fn read_own_day(
     if own.is_empty() && after.is_empty() {
         return Ok(None);
     }
+    day_of_comments(own, after, year, line)
+}
+
+/// The same where there is a comment.
+fn day_of_comments(own: &[u8], after: &[u8], year: u16, line: u64) -> Result<Option<Day>, ReadFault>
+    requires { line + 1 + length after.now < 2 ^ 64 }
+    ensures { Gives (λ day. day) cause_in result (spec.day_in year line (own.now ∷ spec.comments_in (contents_of after.now))) }
+{
     if let Some(value) = find_date(own) {
         return day_written(value, year, line);
     }

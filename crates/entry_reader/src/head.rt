@@ -9,8 +9,8 @@ ghost use Rattle.entry_reader.specs.Heads as spec;
 use crate::context::Context;
 use crate::fault::{ReadFault, fault_at};
 use crate::scan::{
-    after, after_white, before, begins, begins_mark, begins_white, cut_date, has, past_first,
-    trimmed,
+    after, after_white, around, before, begins, begins_mark, begins_white, cut_date, has,
+    past_first, trimmed,
 };
 use book::{Cause, Mark};
 use hl_time::{Day, read_date};
@@ -124,11 +124,12 @@ pub fn read_head<'a>(context: &Context, content: &'a [u8], line: u64) -> Result<
     let (day, rest) = read_day(content, context.year(), line)?;
     let (mark, rest) = read_mark(rest, line)?;
     let (code, rest) = cut_code(rest);
+    let (description, comment) = around(rest, b';');
     Ok(Head {
         day,
         mark,
         code,
-        description: trimmed(before(rest, b';')),
-        comment: trimmed(after(rest, b';')),
+        description: trimmed(description),
+        comment: trimmed(comment),
     })
 }

@@ -143,6 +143,17 @@ pub fn after(text: &[u8], byte: u8) -> &[u8]
     past(text, place_of(text, byte))
 }
 
+/// What stands before the first such byte, or all of the text, and what stands after it, or nothing.
+pub fn around(text: &[u8], byte: u8) -> (&[u8], &[u8])
+    ensures front { result.0.now ≡ spec.before_byte byte text.now }
+    ensures back { result.1.now ≡ spec.after_byte byte text.now }
+    ensures utf8 { byte < 128 → is_utf8 text.now ≡ true → (is_utf8 result.0.now ≡ true) × (is_utf8 result.1.now ≡ true) }
+{
+    let at = place_of(text, byte);
+    let (front, _) = text.split_at(at);
+    (front, past(text, at))
+}
+
 /// Whether such a byte stands in the text.
 pub fn has(text: &[u8], byte: u8) -> bool
     ensures { result ≡ spec.has_byte byte text.now }

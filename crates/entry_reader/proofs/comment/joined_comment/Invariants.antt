@@ -4,7 +4,7 @@ use Rattle.std.specs.String.{string_bytes}
 use Rattle.entry_reader.specs.Comments.{comments_in, comment_of}
 use Rattle.entry_reader.specs.Lines.{contents_of}
 use Rattle.entry_reader.proofs.Remarks.{joined_on}
-use Rattle.entry_reader.proofs.comment.read_comment.Given as goal
+use Rattle.entry_reader.proofs.comment.joined_comment.Given as goal
 
 abbrev pub invariant-loop-text : goal.invariant-loop-text
 invariant-loop-text l = record {

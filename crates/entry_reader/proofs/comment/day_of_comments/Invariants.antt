@@ -1,7 +1,7 @@
 use Rattle.std.proofs.Common.{◌≡◌, ◌+◌, ◌≤◌, ◌∷◌, length}
 use Rattle.entry_reader.specs.Comments.{comments_in, day_in}
 use Rattle.entry_reader.specs.Lines.{contents_of}
-use Rattle.entry_reader.proofs.comment.read_own_day.Given as goal
+use Rattle.entry_reader.proofs.comment.day_of_comments.Given as goal
 
 abbrev pub invariant-loop-text : goal.invariant-loop-text
 invariant-loop-text l = record {

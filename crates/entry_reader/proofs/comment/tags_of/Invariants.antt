@@ -2,7 +2,7 @@ use Rattle.std.proofs.Common.{◌≡◌, ◌++◌, ◌∷◌, true, length}
 use Rattle.std.specs.Str.{is_utf8}
 use Rattle.entry_reader.specs.Comments.{comments_in, tags_in}
 use Rattle.entry_reader.specs.Lines.{contents_of}
-use Rattle.entry_reader.proofs.comment.read_tags.Given as goal
+use Rattle.entry_reader.proofs.comment.tags_of.Given as goal
 
 abbrev pub invariant-loop-text : goal.invariant-loop-text
 invariant-loop-text l = record {
