@@ -11,3 +11,4 @@ pub mod Sides
 pub mod Trimmed
 pub mod Turnover
 pub mod Totals
+mod Doubled

@@ -171,7 +171,7 @@ module _ (a b : Posting) (h : (gives a && takes b) ≡ true) where
   front : (same_side Real a.side && is_none a.cost) ≡ true
   front = left_true (same_side Real a.side && is_none a.cost) (is_given a.amount) giving
 
-  given : is_given a.amount ≡ true
+  pub given : is_given a.amount ≡ true
   given = right_true (same_side Real a.side && is_none a.cost) (is_given a.amount) giving
 
   behind : (same_side Real b.side && is_none b.amount) ≡ true
@@ -183,7 +183,7 @@ module _ (a b : Posting) (h : (gives a && takes b) ≡ true) where
   side_second : b.side ≡ Real
   side_second = real_is b.side (left_true (same_side Real b.side) (is_none b.amount) behind)
 
-  no_cost : a.cost ≡ None
+  pub no_cost : a.cost ≡ None
   no_cost = none_is a.cost (right_true (same_side Real a.side) (is_none a.cost) front)
 
   no_amount : b.amount ≡ None
@@ -192,7 +192,7 @@ module _ (a b : Posting) (h : (gives a && takes b) ≡ true) where
   no_claim : b.wanted ≡ None
   no_claim = none_is b.wanted (right_true (same_side Real b.side && is_none b.amount) (is_none b.wanted) taking)
 
-  solved_by : (o : Option Amount) → a.amount ≡ o → is_given o ≡ true → solved (a ∷ b ∷ []) ≡ a ∷ with_amount b (opposite a.amount) ∷ []
+  pub solved_by : (o : Option Amount) → a.amount ≡ o → is_given o ≡ true → solved (a ∷ b ∷ []) ≡ a ∷ with_amount b (opposite a.amount) ∷ []
   solved_by None e is = absurd (false≢true is)
   solved_by (Some x) e is = both a b x e no_amount side_first side_second no_cost no_claim is
 

@@ -5,6 +5,7 @@ use Rattle.book.specs.declared.amount.Amount.{Amount}
 use Rattle.book.specs.declared.transaction.Posting.{Posting}
 use Rattle.book.specs.declared.transaction.Side.TheVariants.{Real}
 use Rattle.entry_balance.specs.Entry.{is_nothing, plain_amount, same_side}
+use Rattle.entry_balance.specs.Values.{Value}
 
 -- an amount that isn't zero
 abbrev pub is_given : Option Amount → Bool
@@ -44,3 +45,12 @@ with_amount p amount = record {
   tags = p.tags;
   day = p.day;
 }
+
+-- what a pair moves, by the amount of its first posting
+abbrev pub moves_of : Option Amount → List Value
+moves_of None = []
+moves_of (Some a) = (a.symbol, a.value) ∷ (a.symbol, negated a.value) ∷ []
+
+abbrev pub moves_first : List Posting → List Value
+moves_first [] = []
+moves_first (p ∷ ps) = moves_of p.amount

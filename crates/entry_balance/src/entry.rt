@@ -1,5 +1,5 @@
 //! The balance of one transaction.
-ghost use Rattle.std.specs.Prelude.{◌≡◌, true, false, Some, IfOk, if◌then◌else◌};
+ghost use Rattle.std.specs.Prelude.{◌≡◌, true, false, None, Some, IfOk, if◌then◌else◌};
 ghost use Rattle.hl_base.specs.Gives.{Gives};
 ghost use Rattle.book.specs.declared.fault.Cause.TheVariants as cause;
 ghost use Rattle.book.specs.declared.transaction.Side.TheVariants.{Real, Balanced, Free};
@@ -13,7 +13,7 @@ ghost use Rattle.entry_balance.specs.Tally.{turnover_fits};
 
 use crate::fault::BalanceFault;
 use crate::fill::fill;
-use crate::pair::{fill_pair, is_pair};
+use crate::pair::{fill_pair, is_pair, pair_fits};
 use crate::plan::{Plan, make_plan};
 use crate::rules::{assignment_fault, has_assignment, has_two_missing};
 use crate::sums::turnover_fits;
@@ -141,11 +141,19 @@ fn solve(alloc: Global, txn: Txn, plan: Plan) -> Result<Settled, Memory>
     judged(alloc, txn, plan.cause)
 }
 
+/// The cause of postings that move too much, unless they fit.
+fn range_unless(fits: bool) -> Option<Cause>
+    ensures { result ≡ (if fits then None else Some cause.Range) }
+{
+    if fits { None } else { Some(Cause::Range) }
+}
+
 /// Finds the missing amount of a pair, and judges what it moves.
 fn settle_pair(alloc: Global, txn: Txn) -> Result<Settled, Memory>
     requires { is_pair txn.postings ≡ true }
     ensures { IfOk result (λ s. IsSettled txn s.txn s.cause) }
 {
+    let cause = range_unless(pair_fits(txn.postings.as_slice()));
     let Txn {
         line,
         day,
@@ -167,7 +175,7 @@ fn settle_pair(alloc: Global, txn: Txn) -> Result<Settled, Memory>
         tags,
         postings,
     };
-    judged(alloc, txn, None)
+    unsettled(alloc, txn, cause)
 }
 
 /// A transaction in which nothing is missing, with what is wrong with it: what it moves is out of range, or the cause that

@@ -1,14 +1,19 @@
 //! Entries of two real postings, of which the second takes what the first gives. Most entries are written so, and need
 //! no sums by symbols.
-ghost use Rattle.std.specs.Prelude.{◌≡◌, ◌&&◌, true, IfOk, OnOk};
-ghost use Rattle.entry_balance.specs.Entry.{solved};
+ghost use Rattle.std.specs.Prelude.{◌≡◌, ◌&&◌, ◌∷◌, [], ℕ, List, true, IfOk, OnOk};
+ghost use Rattle.hl_num.specs.Decimal.{negated};
+ghost use Rattle.entry_balance.specs.Entry.{moved, solved};
 ghost use Rattle.entry_balance.specs.Pair as spec;
 ghost use Rattle.entry_balance.specs.Pair.{is_pair};
+ghost use Rattle.entry_balance.specs.Tally.{turnover_fits};
 
 use crate::fill::plain_amount;
 use crate::sums::same_side;
+use crate::tally::checked_sum;
+use crate::value::absolute;
 use book::{Amount, Posting, Side};
 use hl_base::{List, Memory};
+use hl_num::Dec;
 use std::alloc::Global;
 
 /// Whether an amount is there and isn't zero.
@@ -51,6 +56,47 @@ pub(crate) fn is_pair(postings: &[Posting]) -> bool
         return false;
     }
     is_pair_of(&postings[0], &postings[1])
+}
+
+/// Whether a number and its opposite stay within the bound together, without their signs.
+fn twice_fits(value: Dec) -> bool
+    ensures { (symbol : List ℕ) → result ≡ turnover_fits ((symbol, value) ∷ (symbol, negated value) ∷ []) }
+{
+    let _size = value.magnitude();
+    let _places = value.decimals();
+    let once = absolute(value);
+    match checked_sum(once, once) {
+        Ok(_sum) => true,
+        Err(_fault) => false,
+    }
+}
+
+/// Whether a posting's amount and its opposite stay within the bound together.
+fn both_fit(posting: &Posting) -> bool
+    ensures { result ≡ turnover_fits (spec.moves_of posting.now.amount) }
+{
+    match &posting.amount {
+        Some(amount) => twice_fits(amount.value),
+        None => true,
+    }
+}
+
+/// The same of the first of some postings.
+fn first_fits(postings: &[Posting]) -> bool
+    ensures { result ≡ turnover_fits (spec.moves_first postings.now) }
+{
+    match postings {
+        [] => true,
+        [first, ..] => both_fit(first),
+    }
+}
+
+/// Whether what a pair moves stays within the bound: the amount of its first posting and its opposite.
+pub(crate) fn pair_fits(postings: &[Posting]) -> bool
+    requires { is_pair postings.now ≡ true }
+    ensures { result ≡ turnover_fits (moved (solved postings.now)) }
+{
+    first_fits(postings)
 }
 
 /// The amount that makes up for a posting's.
