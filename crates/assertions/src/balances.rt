@@ -23,6 +23,16 @@ pub struct Balances {
 }
 
 impl Balances {
+    /// Balances of nothing, which take no memory.
+    pub fn new(alloc: Global) -> Balances
+        ensures { IsBalance [] result.own result.below }
+    {
+        Balances {
+            own: Kept::new(alloc),
+            below: Kept::new(alloc),
+        }
+    }
+
     /// Whether no assertion asks for anything.
     pub fn is_empty(&self) -> bool
         ensures own { result ≡ true → self.now.own.0 ≡ [] }
@@ -37,21 +47,11 @@ pub fn asked(alloc: Global, txns: &[Txn]) -> Result<Balances, Memory>
     ensures fresh { IfOk result (λ balances. IsBalance [] balances.own balances.below) }
     ensures asked { IfOk result (λ balances. are_asked balances.own balances.below txns.now ≡ true) }
 {
-    let mut balances = no_balances(alloc);
+    let mut balances = Balances::new(alloc);
     for txn in txns {
         ask_each(alloc, &mut balances, txn.postings.as_slice())?;
     }
     Ok(balances)
-}
-
-/// Balances of nothing.
-fn no_balances(alloc: Global) -> Balances
-    ensures { IsBalance [] result.own result.below }
-{
-    Balances {
-        own: Kept::new(alloc),
-        below: Kept::new(alloc),
-    }
 }
 
 /// The balances before any posting, of all that the assertions of some postings ask for.
@@ -59,7 +59,7 @@ pub fn asked_by(alloc: Global, postings: &[Posting]) -> Result<Balances, Memory>
     ensures fresh { IfOk result (λ balances. IsBalance [] balances.own balances.below) }
     ensures asked { IfOk result (λ balances. list_all (is_asked balances.own balances.below) postings.now ≡ true) }
 {
-    let mut balances = no_balances(alloc);
+    let mut balances = Balances::new(alloc);
     ask_each(alloc, &mut balances, postings)?;
     Ok(balances)
 }

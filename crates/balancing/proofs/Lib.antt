@@ -34,3 +34,5 @@ pub mod FaultingCauses
 pub mod FaultingGroups
 pub mod Faulting
 mod FaultingRows
+mod Wanting
+mod Singles

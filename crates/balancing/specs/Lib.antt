@@ -8,3 +8,5 @@ pub mod Load
 pub mod Parts
 pub mod Solves
 pub mod Walk
+pub mod Wanting
+pub mod Single

@@ -11,7 +11,8 @@ ghost use Rattle.entry_balance.specs.Values.{Value};
 ghost use Rattle.balancing.specs.Walk.{IsJudged, moved_when};
 
 use crate::groups::{Part, has_assigned, is_chosen};
-use assertions::{Totals, copied_amount};
+use crate::moves::Moves;
+use assertions::copied_amount;
 use book::{Boxed, Cause, Fault, Posting, Txn};
 use entry_balance::{TallyFault, absolute, cost_of, costs_fit};
 use hl_base::{Memory, Text};
@@ -21,7 +22,7 @@ use std::alloc::Global;
 /// The fault of a transaction's group on a day, else adds what it moves.
 pub(crate) fn judge(
     alloc: Global,
-    totals: &mut Totals,
+    totals: &mut Moves,
     txn: &Txn,
     day: u32,
     cause: &Option<Boxed<Cause>>,
@@ -73,7 +74,7 @@ fn own_fault(
 }
 
 /// Adds what a transaction's group on a day moves.
-fn add_group(alloc: Global, totals: &mut Totals, txn: &Txn, day: u32) -> Result<(), TallyFault>
+fn add_group(alloc: Global, totals: &mut Moves, txn: &Txn, day: u32) -> Result<(), TallyFault>
     requires { costs_fit txn.now.postings ≡ true }
     ensures ok { OnOk result ((before : List Value) → IsTurnover before totals.old
         → IsTurnover (before ++ moved_on day txn.now) totals.new) }
@@ -92,7 +93,7 @@ fn add_group(alloc: Global, totals: &mut Totals, txn: &Txn, day: u32) -> Result<
 /// Adds what a part of a transaction moves on a day.
 fn add_part(
     alloc: Global,
-    totals: &mut Totals,
+    totals: &mut Moves,
     txn: &Txn,
     day: u32,
     part: Part,
@@ -115,7 +116,7 @@ fn add_part(
 /// Adds what a posting moves, if it is of the day and of the part.
 fn add_chosen(
     alloc: Global,
-    totals: &mut Totals,
+    totals: &mut Moves,
     txn: &Txn,
     posting: &Posting,
     day: u32,
@@ -135,7 +136,7 @@ fn add_chosen(
 }
 
 /// Adds what a posting moves.
-fn add_moved(alloc: Global, totals: &mut Totals, posting: &Posting) -> Result<(), TallyFault>
+fn add_moved(alloc: Global, totals: &mut Moves, posting: &Posting) -> Result<(), TallyFault>
     requires { amount_cost_fits posting.now.amount posting.now.cost ≡ true }
     ensures ok { OnOk result ((before : List Value) → IsTurnover before totals.old
         → IsTurnover (before ++ moved_by posting.now) totals.new) }
@@ -161,12 +162,7 @@ fn add_moved(alloc: Global, totals: &mut Totals, posting: &Posting) -> Result<()
 }
 
 /// Adds a number without its sign.
-fn add_value(
-    alloc: Global,
-    totals: &mut Totals,
-    symbol: &str,
-    number: Dec,
-) -> Result<(), TallyFault>
+fn add_value(alloc: Global, totals: &mut Moves, symbol: &str, number: Dec) -> Result<(), TallyFault>
     ensures ok { OnOk result ((before : List Value) → IsTurnover before totals.old
         → IsTurnover (before ++ (symbol.now, number) ∷ []) totals.new) }
     ensures range { IfErr result (λ e. IsRange e → (before : List Value) → IsTurnover before totals.old

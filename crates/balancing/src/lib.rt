@@ -7,6 +7,7 @@ pub mod fault;
 pub mod groups;
 mod judge;
 mod laws;
+mod moves;
 mod walk;
 
 pub use assign::with_amount;

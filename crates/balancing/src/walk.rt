@@ -1,6 +1,6 @@
 //! The check of a text's items, which makes its book.
 ghost use Rattle.std.specs.List.{list_all, slice_get};
-ghost use Rattle.std.specs.Prelude.{◌≡◌, ◌++◌, ◌∷◌, [], ◌<◌, List, ℕ, length, slice_set, true, false, Some, None, OnOk, IfOk, IfErr};
+ghost use Rattle.std.specs.Prelude.{◌≡◌, ◌||◌, ◌++◌, ◌∷◌, [], ◌<◌, List, ℕ, length, slice_set, true, false, Some, None, OnOk, IfOk, IfErr};
 ghost use Rattle.hl_base.specs.Gives.{Gives};
 ghost use Rattle.book.specs.Bounds.{TurnoverFits};
 ghost use Rattle.book.specs.Postings.{postings_of, txns_of};
@@ -17,6 +17,7 @@ ghost use Rattle.balancing.specs.Load.{load};
 ghost use Rattle.balancing.specs.Solves.{IsSolution, HaveFew, are_unmarked};
 ghost use Rattle.entry_balance.specs.Settled.{AreSettled, IsSettled};
 ghost use Rattle.assertions.specs.Kept.{IsBalance, are_asked, is_asked};
+ghost use Rattle.balancing.specs.Wanting.{any_wanted, has_wanted, wants};
 ghost use Rattle.balancing.specs.Walk.{IsRead, IsTold, AreGiven, AreOwn, IsOwn, IsAfter, IsGiven, IsVisited, IsPassed, group_in};
 ghost use Rattle.entry_balance.specs.Turnover.{IsTurnover};
 ghost use Rattle.entry_balance.specs.Values.{Value};
@@ -26,8 +27,9 @@ use crate::claims::claim_group;
 use crate::fault::CheckFault;
 use crate::groups::{Group, in_order, note_groups};
 use crate::judge::judge;
-use assertions::{Balances, Totals, asked};
-use book::{Book, Boxed, Cause, Fault, Item, Items, Mark, Placed, Txn};
+use crate::moves::Moves;
+use assertions::{Balances, asked};
+use book::{Book, Boxed, Cause, Fault, Item, Items, Mark, Placed, Posting, Txn};
 use entry_balance::{Settled, TallyFault, is_assignable, settle};
 use hl_base::{List, Memory, Text};
 use hl_time::Day;
@@ -50,6 +52,7 @@ pub fn check(alloc: Global, items: Items) -> Result<Book, CheckFault>
         mut txns,
         mut causes,
         groups,
+        asks,
     } = match settle_items(alloc, items) {
         Ok(entries) => entries,
         Err(Memory) => return Err(CheckFault::Memory),
@@ -58,7 +61,7 @@ pub fn check(alloc: Global, items: Items) -> Result<Book, CheckFault>
         Ok(groups) => groups,
         Err(Memory) => return Err(CheckFault::Memory),
     };
-    match first_fault(alloc, &mut txns, &mut causes, &groups) {
+    match first_fault(alloc, &mut txns, &mut causes, &groups, asks) {
         Ok(None) => Ok(Book {
             txns: List::from_vec(txns),
         }),
@@ -67,23 +70,27 @@ pub fn check(alloc: Global, items: Items) -> Result<Book, CheckFault>
     }
 }
 
-/// The transactions of a text with what balancing finds, what is wrong with each, and their groups.
+/// The transactions of a text with what balancing finds, what is wrong with each, their groups, and whether some posting has
+/// an assertion.
 #[derive(Drop)]
 struct Entries {
     txns: Vec<Txn>,
     causes: Vec<Option<Boxed<Cause>>>,
     groups: Vec<Group>,
+    asks: bool,
 }
 
 /// Settles each transaction of a text.
 fn settle_items(alloc: Global, items: Items) -> Result<Entries, Memory>
-    ensures { IfOk result (λ entries. IsRead (txns_of items) entries.txns.items entries.causes.items entries.groups.items) }
+    ensures read { IfOk result (λ entries. IsRead (txns_of items) entries.txns.items entries.causes.items entries.groups.items) }
+    ensures asks { IfOk result (λ entries. entries.asks ≡ any_wanted entries.txns.items) }
 {
     let count = items.len();
     let mut entries = Entries {
         txns: Vec::with_capacity(alloc, count)?,
         causes: Vec::with_capacity(alloc, count)?,
         groups: Vec::with_capacity(alloc, count)?,
+        asks: false,
     };
     for placed in items.into_vec() {
         let Placed { piece: _, item } = placed;
@@ -96,15 +103,51 @@ fn settle_items(alloc: Global, items: Items) -> Result<Entries, Memory>
 
 /// Settles one more transaction.
 fn settle_txn(alloc: Global, entries: &mut Entries, txn: Txn) -> Result<(), Memory>
-    ensures { OnOk result ((written : List Txn) → IsRead written entries.old.txns.items entries.old.causes.items entries.old.groups.items
+    ensures read { OnOk result ((written : List Txn) → IsRead written entries.old.txns.items entries.old.causes.items entries.old.groups.items
         → IsRead (written ++ txn ∷ []) entries.new.txns.items entries.new.causes.items entries.new.groups.items) }
+    ensures asks { OnOk result (entries.old.asks ≡ any_wanted entries.old.txns.items
+        → entries.new.asks ≡ any_wanted entries.new.txns.items) }
 {
     let number = entries.txns.len();
     note_groups(&mut entries.groups, &txn, number)?;
     let settled = settle(alloc, txn)?;
+    entries.asks = asks_with(entries.asks, settled.txn.postings.as_slice());
     entries.txns.push(settled.txn)?;
     entries.causes.push(settled.cause)?;
     Ok(())
+}
+
+/// Whether a posting has an assertion.
+fn wants(posting: &Posting) -> bool
+    ensures { result ≡ wants posting.now }
+{
+    posting.wanted.is_some()
+}
+
+/// Whether some posting has an assertion.
+fn has_wanted(postings: &[Posting]) -> bool
+    ensures { result ≡ has_wanted postings.now }
+{
+    postings.iter().any(wants)
+}
+
+/// Whether some posting has an assertion, one before or one of these.
+fn asks_with(before: bool, postings: &[Posting]) -> bool
+    ensures { result ≡ (before || has_wanted postings.now) }
+{
+    before || has_wanted(postings)
+}
+
+/// The balances of all that the assertions of some transactions ask for. Where they have none, no posting is looked at.
+fn balances_of(alloc: Global, txns: &[Txn], asks: bool) -> Result<Balances, Memory>
+    requires { asks ≡ false → any_wanted txns.now ≡ false }
+    ensures fresh { IfOk result (λ balances. IsBalance [] balances.own balances.below) }
+    ensures asked { IfOk result (λ balances. are_asked balances.own balances.below txns.now ≡ true) }
+{
+    if asks {
+        return asked(alloc, txns);
+    }
+    Ok(Balances::new(alloc))
 }
 
 /// The fault of the first group that has one, where the assignments of each group are made after the groups before it.
@@ -113,12 +156,14 @@ fn first_fault(
     txns: &mut Vec<Txn>,
     causes: &mut Vec<Option<Boxed<Cause>>>,
     groups: &[Group],
+    asks: bool,
 ) -> Result<Option<Fault>, Memory>
+    requires { asks ≡ false → any_wanted txns.old.items ≡ false }
     ensures { IfOk result (λ fault. (written : List Txn) → AreSettled written txns.old.items causes.old.items → AreOwn written groups.now
         → IsTold (given_from written [] groups.now) txns.new.items causes.new.items groups.now fault) }
 {
-    let mut totals = Totals::new(alloc);
-    let mut balances = asked(alloc, txns.as_slice())?;
+    let mut totals = Moves::new(alloc);
+    let mut balances = balances_of(alloc, txns.as_slice(), asks)?;
     for group in groups {
         let fault = pass(alloc, &mut totals, &mut balances, txns, causes, *group)?;
         if fault.is_some() {
@@ -132,7 +177,7 @@ fn first_fault(
 /// adds what it moves.
 fn pass(
     alloc: Global,
-    totals: &mut Totals,
+    totals: &mut Moves,
     balances: &mut Balances,
     txns: &mut Vec<Txn>,
     causes: &mut Vec<Option<Boxed<Cause>>>,
@@ -269,7 +314,7 @@ fn given(alloc: Global, balances: &Balances, txn: Txn) -> Result<Settled, TallyF
 /// The fault of a group whose assignments are made, or of its first assertion that fails, else adds what it moves.
 fn pass_given(
     alloc: Global,
-    totals: &mut Totals,
+    totals: &mut Moves,
     balances: &mut Balances,
     txns: &[Txn],
     causes: &[Option<Boxed<Cause>>],
@@ -322,7 +367,7 @@ fn claim_at(
 /// The fault of a group, else adds what it moves.
 fn visit(
     alloc: Global,
-    totals: &mut Totals,
+    totals: &mut Moves,
     txns: &[Txn],
     causes: &[Option<Boxed<Cause>>],
     group: Group,

@@ -15,10 +15,10 @@ returns-in-Ok-None-clause-answer c =
     let written = txns_of c.args.items in
     let e = c.in-Ok.entries in
     let ordered = c.in-Ok-in_order.groups.items in
-    let noted = groups_noted written e.txns.items e.causes.items e.groups.items ordered c.in-Ok.ensures c.in-Ok-in_order.ensures in
+    let noted = groups_noted written e.txns.items e.causes.items e.groups.items ordered c.in-Ok.ensures.read c.in-Ok-in_order.ensures in
     let ts = c.first_fault.new.txns.items in
     let cs = c.first_fault.new.causes.items in
-    let told = told_of written e.txns.items e.causes.items e.groups.items ordered c.in-Ok.ensures noted ts cs c.deref.result.now c.in-Ok-None.field-0 c.deref.ensures.value c.in-Ok-None.ensures in
+    let told = told_of written e.txns.items e.causes.items e.groups.items ordered c.in-Ok.ensures.read noted ts cs c.deref.result.now c.in-Ok-None.field-0 c.deref.ensures.value c.in-Ok-None.ensures in
     told_ok written ts cs c.in-Ok-None.field-0 c.in-Ok-None.field-0-is told ∙ ap (λ (xs : List Txn). Ok (record { txns = xs })) (sym c.from_vec.ensures)
 
 pub returns-in-Ok-None-clause-fits : goal.returns-in-Ok-None-clause-fits
@@ -26,10 +26,10 @@ returns-in-Ok-None-clause-fits c =
     let written = txns_of c.args.items in
     let e = c.in-Ok.entries in
     let ordered = c.in-Ok-in_order.groups.items in
-    let noted = groups_noted written e.txns.items e.causes.items e.groups.items ordered c.in-Ok.ensures c.in-Ok-in_order.ensures in
+    let noted = groups_noted written e.txns.items e.causes.items e.groups.items ordered c.in-Ok.ensures.read c.in-Ok-in_order.ensures in
     let ts = c.first_fault.new.txns.items in
     let cs = c.first_fault.new.causes.items in
-    let told = told_of written e.txns.items e.causes.items e.groups.items ordered c.in-Ok.ensures noted ts cs c.deref.result.now c.in-Ok-None.field-0 c.deref.ensures.value c.in-Ok-None.ensures in
+    let told = told_of written e.txns.items e.causes.items e.groups.items ordered c.in-Ok.ensures.read noted ts cs c.deref.result.now c.in-Ok-None.field-0 c.deref.ensures.value c.in-Ok-None.ensures in
     subst (λ (xs : List Txn). TurnoverFits (postings_of xs)) (sym c.from_vec.ensures) (told_fits written ts cs c.in-Ok-None.field-0 c.in-Ok-None.field-0-is told)
 
 pub returns-in-Ok-None-clause-few : goal.returns-in-Ok-None-clause-few
@@ -37,10 +37,10 @@ returns-in-Ok-None-clause-few c =
     let written = txns_of c.args.items in
     let e = c.in-Ok.entries in
     let ordered = c.in-Ok-in_order.groups.items in
-    let noted = groups_noted written e.txns.items e.causes.items e.groups.items ordered c.in-Ok.ensures c.in-Ok-in_order.ensures in
+    let noted = groups_noted written e.txns.items e.causes.items e.groups.items ordered c.in-Ok.ensures.read c.in-Ok-in_order.ensures in
     let ts = c.first_fault.new.txns.items in
     let cs = c.first_fault.new.causes.items in
-    let told = told_of written e.txns.items e.causes.items e.groups.items ordered c.in-Ok.ensures noted ts cs c.deref.result.now c.in-Ok-None.field-0 c.deref.ensures.value c.in-Ok-None.ensures in
+    let told = told_of written e.txns.items e.causes.items e.groups.items ordered c.in-Ok.ensures.read noted ts cs c.deref.result.now c.in-Ok-None.field-0 c.deref.ensures.value c.in-Ok-None.ensures in
     subst HaveFew (sym c.from_vec.ensures) (told_few written ts cs c.in-Ok-None.field-0 c.in-Ok-None.field-0-is told)
 
 pub returns-in-Ok-Some-clause-answer : goal.returns-in-Ok-Some-clause-answer
@@ -48,10 +48,10 @@ returns-in-Ok-Some-clause-answer c =
     let written = txns_of c.args.items in
     let e = c.in-Ok.entries in
     let ordered = c.in-Ok-in_order.groups.items in
-    let noted = groups_noted written e.txns.items e.causes.items e.groups.items ordered c.in-Ok.ensures c.in-Ok-in_order.ensures in
+    let noted = groups_noted written e.txns.items e.causes.items e.groups.items ordered c.in-Ok.ensures.read c.in-Ok-in_order.ensures in
     let ts = c.first_fault.new.txns.items in
     let cs = c.first_fault.new.causes.items in
-    let told = told_of written e.txns.items e.causes.items e.groups.items ordered c.in-Ok.ensures noted ts cs c.deref.result.now c.in-Ok-Some.field-0 c.deref.ensures.value c.in-Ok-Some.ensures in
+    let told = told_of written e.txns.items e.causes.items e.groups.items ordered c.in-Ok.ensures.read noted ts cs c.deref.result.now c.in-Ok-Some.field-0 c.deref.ensures.value c.in-Ok-Some.ensures in
     told_fault written ts cs c.in-Ok-Some.fault c.in-Ok-Some.field-0 c.in-Ok-Some.field-0-is told
 
 pub returns-in-Ok-None-clause-solves : goal.returns-in-Ok-None-clause-solves
@@ -59,10 +59,10 @@ returns-in-Ok-None-clause-solves c =
     let written = txns_of c.args.items in
     let e = c.in-Ok.entries in
     let ordered = c.in-Ok-in_order.groups.items in
-    let noted = groups_noted written e.txns.items e.causes.items e.groups.items ordered c.in-Ok.ensures c.in-Ok-in_order.ensures in
+    let noted = groups_noted written e.txns.items e.causes.items e.groups.items ordered c.in-Ok.ensures.read c.in-Ok-in_order.ensures in
     let ts = c.first_fault.new.txns.items in
     let cs = c.first_fault.new.causes.items in
-    let told = told_of written e.txns.items e.causes.items e.groups.items ordered c.in-Ok.ensures noted ts cs c.deref.result.now c.in-Ok-None.field-0 c.deref.ensures.value c.in-Ok-None.ensures in
+    let told = told_of written e.txns.items e.causes.items e.groups.items ordered c.in-Ok.ensures.read noted ts cs c.deref.result.now c.in-Ok-None.field-0 c.deref.ensures.value c.in-Ok-None.ensures in
     let is = told_ok written ts cs c.in-Ok-None.field-0 c.in-Ok-None.field-0-is told ∙ ap (λ (xs : List Txn). Ok (record { txns = xs })) (sym c.from_vec.ensures) in
     record {
       solves = λ unmarked. load_solves c.args.items (record { txns = c.from_vec.result }) unmarked is;
@@ -74,8 +74,11 @@ returns-in-Ok-Some-clause-fault c = λ unmarked.
     let written = txns_of c.args.items in
     let e = c.in-Ok.entries in
     let ordered = c.in-Ok-in_order.groups.items in
-    let noted = groups_noted written e.txns.items e.causes.items e.groups.items ordered c.in-Ok.ensures c.in-Ok-in_order.ensures in
+    let noted = groups_noted written e.txns.items e.causes.items e.groups.items ordered c.in-Ok.ensures.read c.in-Ok-in_order.ensures in
     let ts = c.first_fault.new.txns.items in
     let cs = c.first_fault.new.causes.items in
-    let told = told_of written e.txns.items e.causes.items e.groups.items ordered c.in-Ok.ensures noted ts cs c.deref.result.now c.in-Ok-Some.field-0 c.deref.ensures.value c.in-Ok-Some.ensures in
+    let told = told_of written e.txns.items e.causes.items e.groups.items ordered c.in-Ok.ensures.read noted ts cs c.deref.result.now c.in-Ok-Some.field-0 c.deref.ensures.value c.in-Ok-Some.ensures in
     load_faults c.args.items c.in-Ok-Some.fault unmarked (told_fault written ts cs c.in-Ok-Some.fault c.in-Ok-Some.field-0 c.in-Ok-Some.field-0-is told)
+
+pub first_fault-requires : goal.first_fault-requires
+first_fault-requires c = λ none. sym c.in-Ok.ensures.asks ∙ none
