@@ -1,8 +1,11 @@
+pub mod Adds
 pub mod Choosing
 pub mod Counting
 pub mod Ending
+pub mod Finishing
 pub mod Fronts
 pub mod Gathering
+pub mod Held
 pub mod Holding
 pub mod Joining
 pub mod Keeping

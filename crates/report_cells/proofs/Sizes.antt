@@ -90,7 +90,7 @@ full_times l n k h = elim (cases_order n l) [
       grind (arith, nat_tests, above, products)
 ]
 
-full-is : (t : ℕ × ℕ) (turnover places : ℕ) → IsTurnover t turnover places → is_full t ≡ nat_le (2 ^ 127 * 10 ^ (36 - places)) turnover
+pub full-is : (t : ℕ × ℕ) (turnover places : ℕ) → IsTurnover t turnover places → is_full t ≡ nat_le (2 ^ 127 * 10 ^ (36 - places)) turnover
 full-is t turnover places h =
     ap (nat_le (2 ^ 127)) h.kept
     ∙ full_times (2 ^ 127) h.sum (10 ^ (36 - places)) (pow_ten_positive (36 - places))
@@ -146,7 +146,7 @@ nothing_in q (t ∷ ts) h =
     let rest = nothing_in q ts here.2 in
     record { turnover = omega (arith, here.0, rest.turnover); places = omega (arith, here.1, rest.places) }
 
-started : (o : Option (ℕ × ℕ)) (q : List ℕ) (ts : List Taken) → HoldsSize o (turnover_in q ts) (places_in q ts) (has_symbol q ts) → IsTurnover (unwrap_or o (0, 0)) (turnover_in q ts) (places_in q ts)
+pub started : (o : Option (ℕ × ℕ)) (q : List ℕ) (ts : List Taken) → HoldsSize o (turnover_in q ts) (places_in q ts) (has_symbol q ts) → IsTurnover (unwrap_or o (0, 0)) (turnover_in q ts) (places_in q ts)
 started None q ts h =
     let none = nothing_in q ts h in
     size_as (0, 0) 0 (turnover_in q ts) 0 (places_in q ts) (record { sum = 0; exact = refl; most = refl; kept = refl; few = omega arith }) none.turnover none.places

@@ -87,7 +87,7 @@ pub record Checking (kept : Turnovers) (done : List Taken) : Type 0 where
   pub sized : Sized kept done
   pub few : AllByRecursion (λ t. HasFewPlaces t.amount) done
 
-few-push : (ts : List Taken) (t : Taken) → AllByRecursion (λ t. HasFewPlaces t.amount) ts → HasFewPlaces t.amount → AllByRecursion (λ t. HasFewPlaces t.amount) (ts ++ t ∷ [])
+pub few-push : (ts : List Taken) (t : Taken) → AllByRecursion (λ t. HasFewPlaces t.amount) ts → HasFewPlaces t.amount → AllByRecursion (λ t. HasFewPlaces t.amount) (ts ++ t ∷ [])
 few-push [] t h few = (few, tt)
 few-push (x ∷ ts) t h few = (h.0, few-push ts t h.1 few)
 

@@ -1,7 +1,9 @@
 pub mod Bounds
 pub mod Faults
 pub mod Follows
+pub mod Gathered
 pub mod Kept
+pub mod Made
 pub mod Places
 pub mod Report
 pub mod Taken

@@ -1,5 +1,5 @@
 -- The absolute amounts of each symbol while takings are read, one after another.
-use Rattle.std.specs.Prelude.{ℕ, ◌+◌, ◌-◌, ◌*◌, ◌^◌, min, max, Bool, nat_le, List, Option, Some, None, unwrap_or, find, unsigned_abs}
+use Rattle.std.specs.Prelude.{ℕ, ◌+◌, ◌-◌, ◌*◌, ◌^◌, min, max, Bool, false, nat_le, List, Option, Some, None, unwrap_or, find, unsigned_abs}
 use Rattle.std.specs.Ordering.{nat_cmp}
 use Rattle.std.specs.Cmp.Lexicographic.{slice_cmp}
 use Rattle.std.specs.FinMap.Entries as entries
@@ -34,3 +34,9 @@ abbrev pub turned_with : Option Shared → Turnovers → Turnovers
 turned_with None kept = kept
 turned_with (Some share) kept =
     entries.put (slice_cmp nat_cmp) share.0 (turned (unwrap_or (entries.find (slice_cmp nat_cmp) share.0 kept) (0, 0)) share.1) kept
+
+-- an amount makes those of its symbol too large
+abbrev pub fills : Option Shared → Turnovers → Bool
+fills None kept = false
+fills (Some share) kept =
+    is_full (turned (unwrap_or (entries.find (slice_cmp nat_cmp) share.0 kept) (0, 0)) share.1)

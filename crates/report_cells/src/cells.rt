@@ -1,22 +1,21 @@
 //! The sums of a report by account and column.
-ghost use Rattle.std.specs.Prelude.{◌≡◌, None, OnOk, IfOk, IfErr, map};
+ghost use Rattle.std.specs.Prelude.{◌≡◌, ◌<◌, ℕ, [], None, OnOk, IfOk, IfErr, length, map};
 ghost use Rattle.report_cells.specs.Faults.{IsFault};
 ghost use Rattle.report_cells.specs.Follows.{Follow};
-ghost use Rattle.report_cells.specs.Kept.{FinishFits, finished_row};
+ghost use Rattle.report_cells.specs.Kept.{EachFits, FinishFits, column_of, column_totals, finished_row};
 ghost use Rattle.report_cells.specs.Report.{row_seen, rows_in, seen, totals_in};
 ghost use Rattle.std.specs.List.{AllByRecursion};
 ghost use Rattle.report_cells.specs.Bounds.{first_out};
+ghost use Rattle.report_cells.specs.declared.fault.ReportFault.TheVariants as report_fault;
 
 use crate::account_key::AccountKey;
 use crate::fault::ReportFault;
-use crate::gather::add_taking;
-use crate::place::place_of;
+use crate::gatherer::Gatherer;
 use crate::reach::Reach;
 use crate::row::Row;
 use crate::running::finished;
 use crate::taking::Taking;
 use crate::totals::totals_of;
-use crate::turnover::check_range;
 use book::Mixed;
 use hl_base::{List, Memory, Text};
 use hl_time::Span;
@@ -38,11 +37,10 @@ pub struct Cells {
     pub totals: List<Mixed>,
 }
 
-/// The sums of takings by account and column. The totals are summed from the rows, since those of all accounts go through
-/// zero at each entry. `Range` names the least symbol whose amounts are too large.
-pub fn make_cells(
+/// The sums of takings by account and column. `Range` names the least symbol whose amounts are too large.
+pub fn make_cells<'a>(
     alloc: Global,
-    takings: &[Taking],
+    takings: &[Taking<'a>],
     columns: List<Span>,
     reach: Reach,
 ) -> Result<Cells, ReportFault>
@@ -53,13 +51,31 @@ pub fn make_cells(
     ensures within { OnOk result (first_out takings.now ≡ None) }
     ensures fault { IfErr result (IsFault takings.now) }
 {
-    check_range(alloc, takings)?;
-    let width = columns.len();
-    let mut rows = BTreeMap::new(alloc);
+    let mut gatherer = Gatherer::new(alloc, columns, reach);
     for taking in takings {
-        let place = place_of(columns.as_slice(), reach, taking.day);
-        add_taking(alloc, &mut rows, width, place, taking)?;
+        gatherer.add(alloc, taking)?;
     }
+    gatherer.finish(alloc)
+}
+
+/// The cells of a report, from the sums of its accounts. The totals are summed from the rows, since those of all accounts
+/// go through zero at each entry.
+pub(crate) fn cells_of<'a>(
+    alloc: Global,
+    rows: BTreeMap<AccountKey<'a>, Row>,
+    columns: List<Span>,
+    reach: Reach,
+) -> Result<Cells, ReportFault>
+    requires rows { AllByRecursion (λ row. FinishFits reach row.1) rows.entries }
+    requires totals { (at : ℕ) → at < length columns
+        → EachFits [] (column_of at (map (finished_row reach) rows.entries)) }
+    ensures columns { IfOk result (λ c. c.columns ≡ columns) }
+    ensures rows { IfOk result (λ c. c.rows ≡ map (finished_row reach) rows.entry.entries) }
+    ensures totals { IfOk result (λ c. c.totals
+        ≡ column_totals (length columns) (map (finished_row reach) rows.entry.entries)) }
+    ensures fault { IfErr result (λ fault. fault ≡ report_fault.Memory) }
+{
+    let width = columns.len();
     let rows = cell_rows(alloc, rows, reach)?;
     let shown = rows.as_slice();
     let totals = totals_of(alloc, shown, width)?;

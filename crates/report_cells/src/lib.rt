@@ -6,6 +6,7 @@ pub mod cells;
 mod compare;
 pub mod fault;
 mod gather;
+pub mod gatherer;
 mod place;
 pub mod reach;
 mod row;
@@ -17,6 +18,7 @@ mod turnover;
 
 pub use cells::{CellRow, Cells, make_cells};
 pub use fault::ReportFault;
+pub use gatherer::Gatherer;
 pub use reach::Reach;
 pub use row::add_share;
 pub use taking::{Share, Taking};

@@ -1,5 +1,5 @@
 //! The absolute amounts of each symbol, and whether they are too large.
-ghost use Rattle.std.specs.Prelude.{◌≡◌, ◌*◌, ◌^◌, ◌≤◌, Some, T, None, OnOk, IfErr};
+ghost use Rattle.std.specs.Prelude.{◌≡◌, ◌*◌, ◌^◌, ◌≤◌, Some, T, None, OnOk, IfOk, IfErr};
 ghost use Rattle.std.specs.Option.{option_map};
 ghost use Rattle.std.specs.Ordering.{nat_cmp};
 ghost use Rattle.std.specs.Cmp.Lexicographic.{slice_cmp};
@@ -8,7 +8,7 @@ ghost use Rattle.std.specs.List.{AllByRecursion};
 ghost use Rattle.report_cells.specs.Bounds.{TurnoverFits, first_out};
 ghost use Rattle.report_cells.specs.Faults.{IsFault};
 ghost use Rattle.report_cells.specs.Kept.{HasFewPlaces};
-ghost use Rattle.report_cells.specs.Turned.{first_full, is_full, scaled, turned, turned_with};
+ghost use Rattle.report_cells.specs.Turned.{fills, first_full, is_full, scaled, turned, turned_with};
 
 use crate::fault::ReportFault;
 use crate::symbol_key::SymbolKey;
@@ -115,43 +115,46 @@ pub fn check_range(alloc: Global, takings: &[Taking]) -> Result<(), ReportFault>
     }
 }
 
-/// Adds an amount, if it is there, to those of its symbol.
-fn note<'a>(
+/// Adds an amount, if it is there, to those of its symbol, and tells whether these are too large now.
+pub(crate) fn note<'a>(
     kept: &mut BTreeMap<SymbolKey<'a>, Turnover>,
     amount: &Option<Share<'a>>,
-) -> Result<(), Memory>
+) -> Result<bool, Memory>
     requires { T (is_sorted (slice_cmp nat_cmp) kept.old.entries) }
     ensures new { OnOk result (kept.new.entries ≡ turned_with amount.now kept.old.entries) }
+    ensures fills { IfOk result (λ full. full ≡ fills amount.now kept.old.entries) }
     ensures few { OnOk result (HasFewPlaces amount.now) }
 {
     match amount {
         Some(share) => note_share(kept, share),
-        None => Ok(()),
+        None => Ok(false),
     }
 }
 
-/// Adds an amount to those of its symbol.
+/// Adds an amount to those of its symbol, and tells whether these are too large now.
 fn note_share<'a>(
     kept: &mut BTreeMap<SymbolKey<'a>, Turnover>,
     share: &Share<'a>,
-) -> Result<(), Memory>
+) -> Result<bool, Memory>
     requires { T (is_sorted (slice_cmp nat_cmp) kept.old.entries) }
     ensures new { OnOk result (kept.new.entries ≡ turned_with (Some share.now) kept.old.entries) }
+    ensures fills { IfOk result (λ full. full ≡ fills (Some share.now) kept.old.entries) }
     ensures few { OnOk result (share.now.1.places ≤ 36) }
 {
     let _places = share.value.decimals();
     if let Some(turnover) = kept.get_mut(&SymbolKey::new(share.symbol)) {
         turnover.add(share.value);
-        return Ok(());
+        return Ok(turnover.is_full());
     }
     let mut turnover = Turnover::none();
     turnover.add(share.value);
+    let full = turnover.is_full();
     kept.insert(SymbolKey::new(share.symbol), turnover)?;
-    Ok(())
+    Ok(full)
 }
 
 /// The least symbol whose absolute amounts are too large, if there is one.
-fn first_full<'a>(kept: BTreeMap<SymbolKey<'a>, Turnover>) -> Option<&'a Text>
+pub(crate) fn first_full<'a>(kept: BTreeMap<SymbolKey<'a>, Turnover>) -> Option<&'a Text>
     ensures { option_map (λ symbol. symbol.now) result ≡ first_full kept.entry.entries }
 {
     for (key, turnover) in kept {
