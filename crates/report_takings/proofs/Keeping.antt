@@ -57,3 +57,10 @@ taken_are asked shown ts =
     (λ i. flat_map (λ (t : Txn). made_of_parts (taken Counted asked) (λ (p : Posting). chosen_of start asked shown (p, t)) t.postings i) ts)
     ∙ made_of_parts (taken Counted asked) (chosen_in start asked shown) ts
     ∙ ap (map (taken Counted asked)) (chosen_are start asked shown ts)
+
+-- what is taken of a posting that is chosen, and of one that isn't
+pub taken_some : (asked : Question) (shown : Span) (e : Entry) → is_chosen asked.options.start asked shown e ≡ true → taken_of asked shown e ≡ taken Counted asked e ∷ []
+taken_some asked shown e h = ap (λ (b : Bool). map (taken Counted asked) (cond b (e ∷ []) [])) h
+
+pub taken_none : (asked : Question) (shown : Span) (e : Entry) → is_chosen asked.options.start asked shown e ≡ false → taken_of asked shown e ≡ []
+taken_none asked shown e h = ap (λ (b : Bool). map (taken Counted asked) (cond b (e ∷ []) [])) h

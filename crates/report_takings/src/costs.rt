@@ -26,7 +26,7 @@ fn values_at_cost(value: &Option<Valuation>) -> bool
 }
 
 /// Whether a report takes amounts at cost: by `-B`, or by `--value=cost`.
-pub(crate) fn is_at_cost(options: &Options) -> bool
+pub fn is_at_cost(options: &Options) -> bool
     ensures { result ≡ spec.is_at_cost options.now }
 {
     options.cost || values_at_cost(&options.value)

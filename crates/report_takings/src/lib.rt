@@ -2,15 +2,18 @@
 #![tactic(auto)]
 
 pub mod columns;
-mod costs;
+pub mod costs;
 mod cuts;
 mod ends;
 pub mod entries;
+pub mod gathering;
 pub mod scope;
 mod spans;
 pub mod takings;
 
 pub use columns::{COLUMN_LIMIT, columns_of};
+pub use costs::is_at_cost;
 pub use entries::{Entry, chosen_entries};
+pub use gathering::gather;
 pub use scope::Scope;
 pub use takings::{take, take_entries};

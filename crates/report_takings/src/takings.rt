@@ -162,7 +162,7 @@ pub fn take_entries<'a>(
 }
 
 /// The days that some columns show.
-fn shown_in(columns: &[Span]) -> Span
+pub(crate) fn shown_in(columns: &[Span]) -> Span
     ensures { result ≡ spec.shown_in columns.now }
 {
     match columns.last() {
@@ -186,7 +186,7 @@ fn out_of<'a>(scope: &Scope<'a>, entries: &[Entry<'a>]) -> Option<&'a Text>
 }
 
 /// What is taken of a posting for its amount.
-fn counted<'a>(scope: &Scope<'a>, entry: &Entry<'a>, costs: bool) -> Taking<'a>
+pub(crate) fn counted<'a>(scope: &Scope<'a>, entry: &Entry<'a>, costs: bool) -> Taking<'a>
     requires at_cost { costs ≡ is_at_cost scope.now.options.now }
     requires told { costs ≡ true → amount_cost_fits entry.now.0.amount entry.now.0.cost ≡ true }
     ensures { result ≡ spec.taken Counted (question_of scope.now) entry.now }
@@ -200,7 +200,7 @@ fn counted<'a>(scope: &Scope<'a>, entry: &Entry<'a>, costs: bool) -> Taking<'a>
 }
 
 /// What is taken of a posting for its account alone.
-fn named<'a>(scope: &Scope<'a>, entry: &Entry<'a>) -> Taking<'a>
+pub(crate) fn named<'a>(scope: &Scope<'a>, entry: &Entry<'a>) -> Taking<'a>
     ensures { result ≡ spec.taken Named (question_of scope.now) entry.now }
 {
     Taking {
