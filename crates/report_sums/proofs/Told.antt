@@ -1,6 +1,7 @@
 -- What calls promise of their answers, told by the definitions.
-use Rattle.std.proofs.Common.{◌≡◌, ℕ, List, map, Option, None, Result, Ok, Err, IfOk, sym, ap, subst, ◌∙◌}
+use Rattle.std.proofs.Common.{◌≡◌, ℕ, Bool, true, false, not, cond, List, map, Option, None, Result, Ok, Err, IfOk, refl, sym, ap, subst, ◌∙◌}
 use Rattle.std.specs.Prelude.{OnOk, IfErr}
+use Rattle.std.proofs.lemmas.Bool.{false≢true}
 use Rattle.hl_base.specs.Gives.{Gives}
 use Rattle.hl_time.specs.declared.day.Day.{Day}
 use Rattle.hl_time.specs.declared.spans.Span.{Span}
@@ -11,12 +12,15 @@ use Rattle.report_cells.specs.Taken.{Taken}
 use Rattle.report_cells.specs.declared.cells.Cells.{Cells}
 use Rattle.report_cells.specs.declared.fault.ReportFault.{ReportFault}
 use Rattle.report_cells.specs.declared.fault.ReportFault.TheVariants.{Range, TooWide, Memory}
+use Rattle.report_options.specs.declared.options.Options.{Options}
 use Rattle.report_options.specs.declared.options.When.{When}
-use Rattle.report_takings.specs.Takings.{IsOut, out_of, takings_of}
+use Rattle.report_takings.specs.Costs.{is_at_cost, first_out as first_cost}
+use Rattle.report_takings.specs.Takings.{IsOut, kept_entries, out_of, takings_of}
+use Rattle.report_takings.specs.declared.entries.Part.TheVariants.{Counted}
 use Rattle.report_values.specs.Days.{day_of}
 use Rattle.report_values.specs.Refusals.{IsRefused}
 use Rattle.report_values.specs.declared.dates.Dates.TheVariants as dates
-use Rattle.report_sums.specs.Celled.{Celled, cause, celled_of, cells_by, cells_of, taken_cells, unless}
+use Rattle.report_sums.specs.Celled.{Celled, cause, celled_of, cells_by, cells_of, is_written, plain_cells, reach_of, taken_cells, unless}
 use Rattle.report_sums.specs.Matters.{Matter, dated_in, market_in}
 use Rattle.report_sums.specs.Ways.{way_of}
 use Rattle.report_sums.specs.Worths.{worth_by, worth_on, worths_of}
@@ -77,3 +81,26 @@ told_worth view m span ts read when day r same is whole told =
     ∙ ap (worth_on (market_in m) (dates.On (day_of (dated_in m) when span))) whole
     ∙ ap (λ (w : Way). worth_by w m span ts) same)
     told
+
+-- ---- amounts as they are written
+
+not_so : (b : Bool) → not b ≡ true → b ≡ false
+not_so true h = absurd (false≢true h)
+not_so false h = refl
+
+written_plain : (way : Way) (options : Options) → is_written way options ≡ true → (way ≡ ways.Plain) × (is_at_cost options ≡ false)
+written_plain ways.Plain options h = (refl, not_so (is_at_cost options) h)
+written_plain ways.Each options h = absurd (false≢true h)
+written_plain (ways.Columns _) options h = absurd (false≢true h)
+
+-- such amounts have no cost that is out of range
+pub written_costs : (way : Way) (options : Options) → is_written way options ≡ true → is_at_cost options ≡ false
+written_costs way options h = (written_plain way options h).1
+
+-- the sums of what is taken as it is written are those of the report
+pub told_written : (m : Matter) (columns : List Span) (way : Way) (r : Result Cells ReportFault) → way ≡ way_of m.asked.options.value → is_written way m.asked.options ≡ true
+    → Gives celled_of cause r (plain_cells (reach_of m.asked.options.start) columns (takings_of m.asked columns)) → Gives celled_of cause r (cells_of m columns)
+told_written m columns way r is written told =
+    let both = written_plain way m.asked.options written in
+    told_taken m columns (takings_of m.asked columns) ways.Plain r
+    (ap (λ (b : Bool). cond b (first_cost (kept_entries Counted m.asked columns)) None) both.1) refl (sym both.0 ∙ is) told

@@ -1,5 +1,5 @@
 -- The sums of a report by account and column, valued as its options say.
-use Rattle.std.specs.Prelude.{ℕ, List, map, Option, Some, None, Result, Ok, Err}
+use Rattle.std.specs.Prelude.{ℕ, Bool, false, not, List, map, Option, Some, None, Result, Ok, Err}
 use Rattle.hl_time.specs.declared.spans.Span.{Span}
 use Rattle.report_cells.specs.Bounds.{first_out}
 use Rattle.report_cells.specs.Report.{Sums, row_seen, rows_in, seen, totals_in}
@@ -9,9 +9,11 @@ use Rattle.report_cells.specs.declared.fault.ReportFault.{ReportFault}
 use Rattle.report_cells.specs.declared.fault.ReportFault.TheVariants.{Range, TooWide, Memory}
 use Rattle.report_cells.specs.declared.reach.Reach.{Reach}
 use Rattle.report_cells.specs.declared.reach.Reach.TheVariants.{Within, UpTo}
+use Rattle.report_options.specs.declared.options.Options.{Options}
 use Rattle.report_options.specs.declared.options.Start.{Start}
 use Rattle.report_options.specs.declared.options.Start.TheVariants as starts
 use Rattle.report_options.specs.declared.options.When.{When}
+use Rattle.report_takings.specs.Costs.{is_at_cost}
 use Rattle.report_takings.specs.Takings.{out_of, takings_of}
 use Rattle.report_values.specs.Cells.{Planned, Row, first_on, rows_on, totals_on}
 use Rattle.report_values.specs.Days.{day_of}
@@ -80,6 +82,12 @@ abbrev pub cells_by : Way → Matter → List Span → List Taken → Result Cel
 cells_by ways.Plain m columns ts = plain_cells (reach_of m.asked.options.start) columns ts
 cells_by ways.Each m columns ts = each_cells (market_in m) (reach_of m.asked.options.start) columns ts
 cells_by (ways.Columns when) m columns ts = column_cells (planned m when columns) ts
+
+-- amounts are summed as they are written: neither valued nor taken at cost
+abbrev pub is_written : Way → Options → Bool
+is_written ways.Plain options = not (is_at_cost options)
+is_written ways.Each options = false
+is_written (ways.Columns _) options = false
 
 -- the sums of what the report takes, unless a cost is out of range
 abbrev pub taken_cells : Option (List ℕ) → Matter → List Span → Result Celled ReportFault

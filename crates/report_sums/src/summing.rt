@@ -1,13 +1,16 @@
 //! The sums of a report by account and column.
-ghost use Rattle.std.specs.Prelude.{◌≡◌, ◌<◌, ◌^◌, length, IfOk};
+ghost use Rattle.std.specs.Prelude.{◌≡◌, ◌<◌, ◌^◌, false, length, IfOk};
 ghost use Rattle.hl_base.specs.Gives.{Gives};
 ghost use Rattle.report_cells.specs.Follows.{Follow};
+ghost use Rattle.report_takings.specs.Costs.{is_at_cost};
+ghost use Rattle.report_takings.specs.Takings.{takings_of};
 ghost use Rattle.report_values.specs.Cells.{planned_of};
 ghost use Rattle.report_values.specs.Worth.{priced_of};
 ghost use Rattle.report_sums.specs.Celled as spec;
 ghost use Rattle.report_sums.specs.Celled.{cause, cells_of, celled_of};
 ghost use Rattle.report_sums.specs.Matters.{matter_of};
 ghost use Rattle.report_sums.specs.Summed.{Summed};
+ghost use Rattle.report_sums.specs.Ways as ways;
 
 use crate::job::Job;
 use crate::market::{asked_of, market_of};
@@ -15,8 +18,8 @@ use crate::way::{Way, way_of};
 use hl_base::List;
 use hl_time::{Day, Span};
 use report_cells::{Cells, Reach, ReportFault, Taking, make_cells};
-use report_options::{Start, When};
-use report_takings::take;
+use report_options::{Options, Start, When};
+use report_takings::{gather, is_at_cost, take};
 use report_values::{Market, Plan, cells_on, cells_then, days_of};
 use std::alloc::Global;
 
@@ -42,14 +45,56 @@ pub fn sums<'a>(alloc: Global, job: &Job<'a>, columns: List<Span>) -> Result<Cel
     ensures fits { IfOk result (λ c.
         Summed job.now.scope.options.now.start (length columns) (celled_of c)) }
 {
+    let way = way_of(&job.scope.options.value);
+    let written = is_written(way, job.scope.options);
+    if written {
+        return written_cells(alloc, job, columns);
+    }
+    taken_cells(alloc, job, way, columns)
+}
+
+/// Whether amounts are summed as they are written: neither valued nor taken at cost.
+fn is_written(way: Way, options: &Options) -> bool
+    ensures { result ≡ spec.is_written way options.now }
+{
+    match way {
+        Way::Plain => !is_at_cost(options),
+        Way::Each | Way::Columns(_) => false,
+    }
+}
+
+/// The sums of amounts as they are written, gathered in one walk over the book.
+fn written_cells<'a>(
+    alloc: Global,
+    job: &Job<'a>,
+    columns: List<Span>,
+) -> Result<Cells, ReportFault>
+    requires follow { Follow columns }
+    requires written { is_at_cost job.now.scope.options.now ≡ false }
+    ensures columns { IfOk result (λ c. c.columns ≡ columns) }
+    ensures told { Gives celled_of cause result
+        (spec.plain_cells (spec.reach_of job.now.scope.options.now.start) columns
+        (takings_of (matter_of job.now).asked columns)) }
+{
+    let reach = reach_of(job.scope.options.start);
+    gather(alloc, &job.scope, columns, reach)
+}
+
+/// The sums of what is taken, from a list of it.
+fn taken_cells<'a>(
+    alloc: Global,
+    job: &Job<'a>,
+    way: Way,
+    columns: List<Span>,
+) -> Result<Cells, ReportFault>
+    requires follow { Follow columns }
+    requires few { length columns < 2 ^ 32 }
+    requires way { way ≡ ways.way_of job.now.scope.options.now.value }
+    ensures columns { IfOk result (λ c. c.columns ≡ columns) }
+    ensures told { Gives celled_of cause result (cells_of (matter_of job.now) columns) }
+{
     let takings = take(alloc, &job.scope, columns.as_slice())?;
-    cells_by(
-        alloc,
-        job,
-        way_of(&job.scope.options.value),
-        &takings,
-        columns,
-    )
+    cells_by(alloc, job, way, &takings, columns)
 }
 
 /// The sums of takings, valued in one of the ways.

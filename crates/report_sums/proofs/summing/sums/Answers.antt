@@ -1,34 +1,24 @@
-use Rattle.std.proofs.Common.{List, sym, ap, subst, ◌∙◌}
-use Rattle.std.proofs.lemmas.Result.{err_from_is_err_and}
-use Rattle.hl_time.specs.declared.spans.Span.{Span}
-use Rattle.report_takings.specs.Takings.{IsOut, out_of, takings_of}
+use Rattle.std.proofs.Common.{sym, ◌∙◌}
 use Rattle.report_sums.specs.Matters.{matter_of}
 use Rattle.report_sums.proofs.Again.{summed_told}
-use Rattle.report_sums.proofs.Told.{told_out, told_taken}
+use Rattle.report_sums.proofs.Told.{told_written, written_costs}
 use Rattle.report_sums.proofs.summing.sums.Goals as goal
 
-pub returns-clause-told : goal.returns-clause-told
-returns-clause-told c =
-    let m = matter_of c.args.job.now in
-    told_taken m c.args.columns c.deref.result.now c.way_of.result c.cells_by.result
-    (ap (out_of m.asked) (sym c.as_slice.ensures) ∙ c.in_ok-takings.ensures.within)
-    (c.deref.ensures.value ∙ c.in_ok-takings.ensures.taken ∙ ap (takings_of m.asked) c.as_slice.ensures)
-    c.way_of.ensures
-    c.cells_by.ensures.told
+pub written_cells-requires-clause-written : goal.written_cells-requires-clause-written
+written_cells-requires-clause-written c =
+    written_costs c.way_of-way.result (matter_of c.args.job.now).asked.options (sym c.is_written-written.ensures ∙ c.if-written.true)
+
+pub returns-then-written-clause-told : goal.returns-then-written-clause-told
+returns-then-written-clause-told c =
+    told_written (matter_of c.args.job.now) c.args.columns c.way_of-way.result c.written_cells.result c.way_of-way.ensures
+    (sym c.is_written-written.ensures ∙ c.if-written.true) c.written_cells.ensures.told
+
+pub returns-then-written-clause-fits : goal.returns-then-written-clause-fits
+returns-then-written-clause-fits c =
+    summed_told (matter_of c.args.job.now) c.args.columns c.written_cells.result c.requires.follow
+    (told_written (matter_of c.args.job.now) c.args.columns c.way_of-way.result c.written_cells.result c.way_of-way.ensures
+    (sym c.is_written-written.ensures ∙ c.if-written.true) c.written_cells.ensures.told)
 
 pub returns-clause-fits : goal.returns-clause-fits
 returns-clause-fits c =
-    let m = matter_of c.args.job.now in
-    summed_told m c.args.columns c.cells_by.result c.requires.follow
-    (told_taken m c.args.columns c.deref.result.now c.way_of.result c.cells_by.result
-    (ap (out_of m.asked) (sym c.as_slice.ensures) ∙ c.in_ok-takings.ensures.within)
-    (c.deref.ensures.value ∙ c.in_ok-takings.ensures.taken ∙ ap (takings_of m.asked) c.as_slice.ensures)
-    c.way_of.ensures
-    c.cells_by.ensures.told)
-
-pub returns-in_err-takings-clause-told : goal.returns-in_err-takings-clause-told
-returns-in_err-takings-clause-told c =
-    let m = matter_of c.args.job.now in
-    let p = err_from_is_err_and c.from_residual.result c.from_residual.ensures.1 in
-    rw (p.1, p.2) (told_out m c.args.columns c.in_err-takings.field-0.0
-    (subst (λ (cs : List Span). IsOut m.asked cs c.in_err-takings.field-0.0) c.as_slice.ensures c.in_err-takings.ensures.fault))
+    summed_told (matter_of c.args.job.now) c.args.columns c.taken_cells.result c.requires.follow c.taken_cells.ensures.told
