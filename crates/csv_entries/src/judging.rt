@@ -356,6 +356,13 @@ fn judge(alloc: Global, n: u64, sheet: &Sheet, fields: &Fields) -> Result<Txn, C
     judge_on(alloc, n, &context, fields, day)
 }
 
+/// The entry of what was read of a record that no block leaves out.
+fn judge_read(alloc: Global, n: u64, sheet: &Sheet, fields: Fields) -> Result<Txn, ConvertFault>
+    ensures { Gives (λ txn. txn) cause_in result (spec.judged n sheet.now fields) }
+{
+    judge(alloc, n, sheet, &fields)
+}
+
 /// The columns of a record between commas.
 #[tactic(auto, using(crate::proofs::Joined::starts, crate::proofs::Joined::one_more, crate::proofs::Joined::all_done))]
 fn joined(alloc: Global, columns: &[Text]) -> Result<String, Memory>
@@ -399,5 +406,6 @@ pub(crate) fn judge_columns(
         return Ok(Outcome::LeftOut);
     }
     let fields = read_fields(alloc, sheet, columns, blocks.as_slice())?;
-    Ok(Outcome::Entry(judge(alloc, n, sheet, &fields)?))
+    let txn = judge_read(alloc, n, sheet, fields)?;
+    Ok(Outcome::Entry(txn))
 }
