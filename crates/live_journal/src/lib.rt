@@ -12,4 +12,5 @@ mod plan;
 pub use edit::Edit;
 pub use fault::{EditFault, OpenFault};
 pub use live::Live;
+pub use loading::load_book;
 pub use plan::Plan;

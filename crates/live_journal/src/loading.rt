@@ -1,15 +1,17 @@
 //! What is made of a text when it is loaded.
-ghost use Rattle.std.specs.Prelude.{◌≡◌, ◌≤◌, IfErr, IfOk, Ok, length};
+ghost use Rattle.std.specs.Prelude.{◌≡◌, None, IfErr, IfOk, Ok, OnOk};
+ghost use Rattle.hl_base.specs.Items.{items_of};
 ghost use Rattle.book.specs.Bounds.{TurnoverFits};
 ghost use Rattle.book.specs.Postings.{postings_of};
 ghost use Rattle.balancing.specs.Load.{load};
+ghost use Rattle.journal_reader.specs.Whole.{AreWithin};
 ghost use Rattle.live_journal.specs.Loading.{IsLoaded, Tells, book_of, fault_of, reading_in, text_fault};
 
 use crate::fault::OpenFault;
 use balancing::{CheckFault, check};
 use book::{Book, Items, Styles};
 use hl_base::{List, Piece, Steps, cut_items};
-use journal_reader::{ReadFault, read_journal};
+use journal_reader::{ReadFault, read_items};
 use std::alloc::Global;
 use std::sync::ledger::Ledger;
 
@@ -28,37 +30,41 @@ pub(crate) struct Loaded {
     pub styles: Styles,
 }
 
-/// The items of a text.
+/// The items of a text that is cut into these pieces.
 fn read<L: Ledger>(
     alloc: Global,
     text: &[u8],
+    pieces: &[Piece],
     year: Option<u16>,
     steps: &mut Steps<L>,
 ) -> Result<Items, OpenFault>
-    requires { length text.now ≤ 16777216 }
+    requires pieces { pieces.now ≡ items_of text.now }
+    requires within { AreWithin text.now pieces.now }
     ensures read { IfOk result (λ items. reading_in year text.now ≡ Ok items) }
     ensures fault { IfErr result (λ e. Tells e (text_fault (reading_in year text.now))) }
 {
-    match read_journal(alloc, text, year, steps) {
+    match read_items(alloc, text, pieces, year, steps) {
         Ok(items) => Ok(items),
         Err(ReadFault::Read(fault)) => Err(OpenFault::Load(fault)),
         Err(ReadFault::Memory) => Err(OpenFault::Memory),
     }
 }
 
-/// The book of a text.
+/// The book of a text that is cut into these pieces.
 fn make_book<L: Ledger>(
     alloc: Global,
     text: &[u8],
+    pieces: &[Piece],
     year: Option<u16>,
     steps: &mut Steps<L>,
 ) -> Result<Book, OpenFault>
-    requires { length text.now ≤ 16777216 }
+    requires pieces { pieces.now ≡ items_of text.now }
+    requires within { AreWithin text.now pieces.now }
     ensures book { IfOk result (λ book. book_of year text.now ≡ Ok book) }
     ensures fault { IfErr result (λ e. Tells e (text_fault (book_of year text.now))) }
     ensures fits { IfOk result (λ book. TurnoverFits (postings_of book.txns)) }
 {
-    let items = match read_journal(alloc, text, year, steps) {
+    let items = match read_items(alloc, text, pieces, year, steps) {
         Ok(items) => items,
         Err(ReadFault::Read(fault)) => return Err(OpenFault::Load(fault)),
         Err(ReadFault::Memory) => return Err(OpenFault::Memory),
@@ -68,6 +74,32 @@ fn make_book<L: Ledger>(
         Err(CheckFault::Journal(fault)) => Err(OpenFault::Load(fault)),
         Err(CheckFault::Memory) => Err(OpenFault::Memory),
     }
+}
+
+/// The book of a text within the limits, which is read once, since nothing else is kept of it.
+pub fn load_book<L: Ledger>(
+    alloc: Global,
+    text: &[u8],
+    year: Option<u16>,
+    steps: &mut Steps<L>,
+) -> Result<Book, OpenFault>
+    ensures book { IfOk result (λ book. book_of year text.now ≡ Ok book) }
+    ensures good { OnOk result (fault_of year text.now ≡ None) }
+    ensures fault { IfErr result (λ e. Tells e (fault_of year text.now)) }
+{
+    let size = text.len() as u64;
+    if size > MOST_BYTES {
+        let limit = MOST_BYTES;
+        return Err(OpenFault::TooLarge { limit, size });
+    }
+    let pieces = cut_items(alloc, text)?;
+    let count = pieces.len() as u64;
+    if count > MOST_ITEMS {
+        let limit = MOST_ITEMS;
+        return Err(OpenFault::TooLarge { limit, size: count });
+    }
+    let book = make_book(alloc, text, pieces.as_slice(), year, steps)?;
+    Ok(book)
 }
 
 /// Loads a text within the limits: it is read once for the items that are kept, and once for the book.
@@ -91,8 +123,8 @@ pub(crate) fn load_text<L: Ledger>(
         let limit = MOST_ITEMS;
         return Err(OpenFault::TooLarge { limit, size: count });
     }
-    let book = make_book(alloc, text, year, steps)?;
-    let items = read(alloc, text, year, steps)?;
+    let book = make_book(alloc, text, pieces.as_slice(), year, steps)?;
+    let items = read(alloc, text, pieces.as_slice(), year, steps)?;
     let styles = Styles::of(alloc, items.as_slice())?;
     Ok(Loaded {
         pieces,

@@ -5,8 +5,7 @@ use Rattle.hl_base.specs.declared.disk.Disk.{Ghosts as Disks}
 use Rattle.hl_base.specs.declared.shelf.Shelf.{Ghosts as Shelves}
 use Rattle.live_journal.specs.declared.fault.OpenFault.{OpenFault}
 use Rattle.live_journal.specs.declared.fault.OpenFault.TheVariants as unopened
-use Rattle.live_journal.specs.Journals.{Journal}
-use Rattle.live_journal.specs.Loading.{fault_of, or_fault}
+use Rattle.live_journal.specs.Loading.{Tells, fault_of}
 use Rattle.text_store.specs.Files.{WhileMade, fresh}
 use Rattle.text_store.specs.Stores.{fault_count}
 use Rattle.store_text.specs.Lending.{AreTaken, AreUntaken, CameBack, ComesBack, IsTaken, IsUntaken, NoneFailed}
@@ -17,7 +16,7 @@ use Rattle.store_text.specs.declared.refusal.StoreRefusal.TheVariants as refusal
 use Rattle.store_text.proofs.LendingLaws.{apart, back_faults, back_first, back_others, back_second, back_sound, back_tells, both_tell, clean_back, first_reads, first_rests, later_faults, left_first, left_second, made_reads, never_absent, one_failed, out_faults, out_file, out_sound, out_tells, rose_back, second_reads, second_rests, told_on}
 use Rattle.store_text.proofs.OpeningLaws.{ends}
 use Rattle.store_making.specs.Making.{Answers, IsLeft, IsOfDisks, IsOfMaking, MakesDisks, JudgesAndMakes, MakesFiles, WereTaken, first_file}
-use Rattle.store_making.specs.Refusals.{IsOfText, files_refusal, of_store}
+use Rattle.store_making.specs.Refusals.{IsOfText, files_refusal, of_store, of_text}
 use Rattle.store_making.specs.declared.refusal.JournalRefusal.{JournalRefusal}
 use Rattle.store_making.specs.declared.refusal.JournalRefusal.TheVariants as making
 
@@ -307,7 +306,8 @@ module _ {S D : Type 0} (U : Type 0) (s : Shelves S D) (g : Disks D) (name text 
       absurd (unlike_fault (unopened.TooLarge most size) (fault_of None text) made.0 loads)
   completes new (Err making.Memory) made told loads good none = refl
 
--- a text of which a journal was opened has no fault
-pub has_none : (j : Journal) (o : Option OpenFault) (live : Journal) → or_fault j o ≡ Ok live → o ≡ None
-has_none j None live e = refl
-has_none j (Some fault) live e = absurd cc
+-- what a loading tells of a text is told of it as a refusal
+pub told_of_text : (e : OpenFault) (o : Option OpenFault) → Tells e o → IsOfText (of_text e) o
+told_of_text (unopened.Load fault) o h = h
+told_of_text (unopened.TooLarge limit size) o h = h
+told_of_text unopened.Memory o h = tt

@@ -7,7 +7,7 @@ ghost use Rattle.store_making.specs.Refusals.{IsOfText};
 use crate::making::make_files;
 use crate::refusal::{JournalRefusal, of_store, of_text};
 use hl_base::{Shelf, Steps, Text};
-use live_journal::Live;
+use live_journal::load_book;
 use std::alloc::Global;
 use std::sync::ledger::Ledger;
 use store_text::second_name;
@@ -21,7 +21,7 @@ fn judge_text<L: Ledger>(
     ensures good { OnOk result (fault_of None text.now ≡ None) }
     ensures cause { IfErr result (λ e. IsOfText e (fault_of None text.now)) }
 {
-    match Live::open(alloc, text, None, 0, steps) {
+    match load_book(alloc, text, None, steps) {
         Ok(_) => Ok(()),
         Err(fault) => Err(of_text(fault)),
     }

@@ -13,7 +13,7 @@ use crate::machine::{refusal_of, talk_desk};
 use crate::terms::Terms;
 use desk::{Allow, Desk};
 use hl_base::{Link, MemDisk, Memory, Steps};
-use live_journal::Live;
+use live_journal::load_book;
 use query::Maker;
 use std::alloc::Global;
 use std::sync::ledger::Ledger;
@@ -32,8 +32,12 @@ pub fn judge_text<L: Ledger>(
     ensures good { OnOk result (fault_of None text.now ≡ None) }
     ensures cause { IfErr result (λ e. IsOfText e (fault_of None text.now)) }
 {
-    match Live::open(alloc, text, None, 0, steps) {
-        Ok(_) => Ok(()),
+    match load_book(alloc, text, None, steps) {
+        Ok(book) => {
+            // The program ends after it has told of the text, so a large book isn't taken apart first.
+            std::mem::forget(book);
+            Ok(())
+        }
         Err(fault) => Err(of_text(fault)),
     }
 }
