@@ -10,6 +10,7 @@ ghost use Rattle.command_line.specs.Scenes.{SourceIsSound, scene, soundness};
 ghost use Rattle.command_line.specs.Sources.{default_year, has_limit, judge_within, most_bytes};
 
 use crate::outside::Outside;
+use crate::room::make_room;
 use crate::source::{MOST_BYTES, read_text};
 use book_commands::{Today, Work, answer_text};
 use command_words::{Origin, TextTask};
@@ -81,6 +82,7 @@ fn answer_within<M: Maker, L: Ledger>(
         day,
         year: year_for(&task.origin, day),
     };
+    make_room(alloc, text.len());
     answer_text(alloc, &task.work, text, today, maker, steps)
 }
 

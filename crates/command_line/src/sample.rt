@@ -4,6 +4,7 @@ ghost use Rattle.sample_text.specs.Sample as sample;
 ghost use Rattle.command_line.specs.Samples as spec;
 ghost use Rattle.command_line.specs.StoreTasks.{IsOfStored};
 
+use crate::room::make_room;
 use crate::store_tasks::refuse_journal;
 use hl_base::{Bytes, Memory, Steps, Text};
 use refusals::Refusal;
@@ -36,6 +37,7 @@ fn judge_sample<L: Ledger>(
     ensures told { spec.ToldSample (spec.sample_answer count) result }
     ensures kind { IfErr result IsOfStored }
 {
+    make_room(alloc, text.len());
     match judge_text(alloc, text, steps) {
         Ok(()) => sample_said(alloc, count, text.len() as u64),
         Err(refusal) => Err(refuse_journal(alloc, &Text::new(alloc), &refusal)),
