@@ -1,0 +1,8 @@
+use Rattle.std.proofs.Common.{◌≡◌, take}
+use Rattle.std.specs.List.{flat_map}
+use Rattle.book.specs.declared.rules.RulePosting.{RulePosting}
+use Rattle.book.specs.Style.{rule_styles}
+use Rattle.counted_styles.proofs.said.of_auto.Given as goal
+
+abbrev pub invariant-loop-posting : goal.invariant-loop-posting
+invariant-loop-posting l = l.said.items ≡ flat_map (λ (p : RulePosting). rule_styles p.posting) (take l.posting-index l.postings)

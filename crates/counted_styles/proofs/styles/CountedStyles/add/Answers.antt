@@ -1,0 +1,11 @@
+use Rattle.std.proofs.Common.{◌≡◌, subst, rules}
+use Rattle.book.specs.Standing.{with_number}
+use Rattle.book.specs.Style.{commodity_styles, default_styles, first_class, second_class}
+use Rattle.counted_styles.specs.Kept.{AreOf, HasAdded}
+use Rattle.counted_styles.proofs.Whole.{are-with}
+use Rattle.counted_styles.proofs.styles.CountedStyles.add.Goals as goal
+
+pub returns-clause-ok : goal.returns-clause-ok
+returns-clause-ok c = λ standing are free.
+    let noted : HasAdded c.args.number c.args.item.now c.args.self.now c.note.new.styles = search rules in
+    are-with c.args.number c.args.item.now standing c.args.self.now c.note.new.styles noted are free
