@@ -1,0 +1,6 @@
+pub mod Added
+pub mod Behind
+pub mod Facts
+pub mod Faults
+pub mod Keeping
+pub mod Words
