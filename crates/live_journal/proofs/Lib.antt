@@ -1,3 +1,7 @@
 mod Blocks
+mod Counting
+mod Limits
+mod Putting
+mod Steps
 pub mod Changes
 mod Verdicts

@@ -2,6 +2,7 @@
 use Rattle.std.proofs.Common.{◌≡◌, ℕ, List, [], ◌∷◌, Option, Some, None, IfSome, Bool, Result, Ok, Err, IsOk, arith, refl, ap, sym, ◌∙◌}
 use Rattle.book.specs.declared.item.Book.{Book}
 use Rattle.book.specs.declared.fault.Fault.{Fault}
+use Rattle.plain_edits.specs.Facts.{Facts}
 use Rattle.live_journal.specs.declared.fault.EditFault.{EditFault}
 use Rattle.live_journal.specs.declared.fault.OpenFault.{OpenFault}
 use Rattle.live_journal.specs.declared.fault.OpenFault.TheVariants as unopened
@@ -18,7 +19,7 @@ use Rattle.live_journal.specs.declared.edit.Edit.{Edit}
 use Rattle.live_journal.specs.Edits.{applied, splice_of}
 use Rattle.live_journal.specs.Journals.{Journal, Planned}
 use Rattle.live_journal.specs.Loading.{IsLoaded, book_of, fault_of, first_of, limit_fault, past_limit, text_fault, Tells}
-use Rattle.live_journal.specs.Refusals.{bad_base, base_of, cause_in, no_book, no_such_item, not_transactions, or_refused, planned, prepared, refusal_of, stale, too_large}
+use Rattle.live_journal.specs.Refusals.{TellsRefusal, refusal_in, bad_base, base_of, cause_in, no_book, no_such_item, not_transactions, or_refused, planned, prepared, refusal_of, stale, too_large}
 
 -- where neither of two is there, the rest decides
 pub neither : (a b : Option EditFault) (rest : List (Option EditFault)) → first_of (a ∷ b ∷ []) ≡ None → first_of (a ∷ b ∷ rest) ≡ first_of rest
@@ -40,29 +41,21 @@ pub present : (a : Option EditFault) (rest : List (Option EditFault)) (f : EditF
 present None rest f h = cc
 present (Some x) rest f h = h
 
-abbrev mapped : Option OpenFault → Option EditFault
-mapped None = None
-mapped (Some f) = Some (as_refusal f)
-
 -- the refusals of a new text are those of any text
-as_mapped : (past : Option (ℕ × ℕ)) (book : Result Book Fault) → first_of (too_large past ∷ no_book book ∷ []) ≡ mapped (first_of (limit_fault past ∷ text_fault book ∷ []))
+as_mapped : (past : Option (ℕ × ℕ)) (book : Result Book Fault) → first_of (too_large past ∷ no_book book ∷ []) ≡ refusal_in (first_of (limit_fault past ∷ text_fault book ∷ []))
 as_mapped (Some p) book = refl
 as_mapped None (Ok b) = refl
 as_mapped None (Err f) = refl
 
-as_told : (e : OpenFault) (fault : Option OpenFault) → Tells e fault → IfSome (cause_in (as_refusal e)) (λ told. mapped fault ≡ Some told)
-as_told (unopened.Load f) fault h = ap mapped h
-as_told (unopened.TooLarge l s) fault h = ap mapped h
+-- an error of loading the new text tells why the edit is refused
+pub as_told : (e : OpenFault) (fault : Option OpenFault) → Tells e fault → TellsRefusal (as_refusal e) fault
+as_told (unopened.Load f) fault h = ap refusal_in h
+as_told (unopened.TooLarge l s) fault h = ap refusal_in h
 as_told unopened.Memory fault h = tt
 
 onto : (o : Option EditFault) (a b : Option EditFault) → a ≡ b → IfSome o (λ told. b ≡ Some told) → IfSome o (λ told. a ≡ Some told)
 onto None a b e h = tt
 onto (Some f) a b e h = e ∙ h
-
--- an error of loading the new text tells why the edit is refused
-pub unloaded : (past : Option (ℕ × ℕ)) (book : Result Book Fault) (e : OpenFault) → Tells e (first_of (limit_fault past ∷ text_fault book ∷ [])) → IfSome (cause_in (as_refusal e)) (λ told. first_of (too_large past ∷ no_book book ∷ []) ≡ Some told)
-unloaded past book e h =
-    onto (cause_in (as_refusal e)) _ _ (as_mapped past book) (as_told e (first_of (limit_fault past ∷ text_fault book ∷ [])) h)
 
 -- an edit that is refused isn't planned
 refused_so : (j : Journal) (edit : Edit) (o : Option EditFault) → IfSome o (λ f. refusal_of j edit ≡ Some f) → IfSome o (λ f. prepared j edit ≡ Err f)
@@ -106,19 +99,14 @@ pub by_entry : (j : Journal) (edit : Edit) (e : EditFault) → on_base j edit �
 by_entry j edit e b i h =
     refused_so j edit (cause_in e) (onto (cause_in e) _ _ (after_item j edit b i) (of_one _ _ (cause_in e) h))
 
-pub by_text : (j : Journal) (edit : Edit) (e : OpenFault) → on_base j edit ≡ None → no_such_item (items_of j.text) edit ≡ None → not_transactions (items_of j.text) edit ≡ None → Tells e (fault_of j.year (applied j.text edit)) → IfSome (cause_in (as_refusal e)) (λ f. prepared j edit ≡ Err f)
+pub by_text : (j : Journal) (edit : Edit) (e : EditFault) → on_base j edit ≡ None → no_such_item (items_of j.text) edit ≡ None → not_transactions (items_of j.text) edit ≡ None → TellsRefusal e (fault_of j.year (applied j.text edit)) → IfSome (cause_in e) (λ f. prepared j edit ≡ Err f)
 by_text j edit e b i n h =
-    refused_so j edit (cause_in (as_refusal e)) (onto (cause_in (as_refusal e)) _ _ (after_entry j edit b i n) (unloaded (past_limit (applied j.text edit)) (book_of j.year (applied j.text edit)) e h))
-
-loads_within : (past : Option (ℕ × ℕ)) (book : Result Book Fault) → past ≡ None → IsOk book → first_of (too_large past ∷ no_book book ∷ []) ≡ None
-loads_within None (Ok b) p h = refl
-loads_within None (Err f) p h = absurd (false≢true h)
-loads_within (Some x) book p h = cc
+    refused_so j edit (cause_in e) (onto (cause_in e) _ _ (after_entry j edit b i n ∙ as_mapped (past_limit (applied j.text edit)) (book_of j.year (applied j.text edit))) h)
 
 -- an edit that isn't refused is planned
-pub accepted : (j : Journal) (edit : Edit) → on_base j edit ≡ None → no_such_item (items_of j.text) edit ≡ None → not_transactions (items_of j.text) edit ≡ None → past_limit (applied j.text edit) ≡ None → IsOk (book_of j.year (applied j.text edit)) → prepared j edit ≡ Ok (planned j edit)
-accepted j edit b i n p k =
-    ap (or_refused (planned j edit)) (after_entry j edit b i n ∙ loads_within (past_limit (applied j.text edit)) (book_of j.year (applied j.text edit)) p k)
+pub accepted : (j : Journal) (edit : Edit) → on_base j edit ≡ None → no_such_item (items_of j.text) edit ≡ None → not_transactions (items_of j.text) edit ≡ None → fault_of j.year (applied j.text edit) ≡ None → prepared j edit ≡ Ok (planned j edit)
+accepted j edit b i n h =
+    ap (or_refused (planned j edit)) (after_entry j edit b i n ∙ as_mapped (past_limit (applied j.text edit)) (book_of j.year (applied j.text edit)) ∙ ap refusal_in h)
 
 abbrev plan_from : Journal → List ℕ → Splice → Bool → Planned
 plan_from j text splice same = record { from = j; text = text; splice = splice; same = same }
@@ -133,11 +121,18 @@ planned_as j edit from text splice same f t s e =
     ∙ ap (plan_from j (applied j.text edit) (splice_of j.text edit)) (e ∙ ap (λ (x : List ℕ). bytes_eq x j.text) t))
 
 -- a text that was loaded is within its limits, and has a book
-pub within_limits : (year : Option ℕ) (text : List ℕ) (pieces : List Piece) (items : List Placed) (book : Book) (styles : Styles) → IsLoaded year text pieces items book styles → past_limit text ≡ None
-within_limits year text pieces items book styles h =
+within_limits : (year : Option ℕ) (text : List ℕ) (pieces : List Piece) (items : List Placed) (book : Book) (styles : Styles) (facts : Facts) → IsLoaded year text pieces items book styles facts → past_limit text ≡ None
+within_limits year text pieces items book styles facts h =
     let few = h.few_bytes in
     let many = h.few_items in
     grind (arith, nat_tests)
 
-pub has_book : (year : Option ℕ) (text : List ℕ) (pieces : List Piece) (items : List Placed) (book : Book) (styles : Styles) → IsLoaded year text pieces items book styles → IsOk (book_of year text)
-has_book year text pieces items book styles h = rw (h.read, h.loaded) refl
+no_fault : (past : Option (ℕ × ℕ)) (book : Result Book Fault) → past ≡ None → IsOk book → first_of (limit_fault past ∷ text_fault book ∷ []) ≡ None
+no_fault None (Ok b) p h = refl
+no_fault None (Err f) p h = absurd (false≢true h)
+no_fault (Some x) book p h = cc
+
+-- a text that was loaded has no fault
+pub sound : (year : Option ℕ) (text : List ℕ) (pieces : List Piece) (items : List Placed) (book : Book) (styles : Styles) (facts : Facts) → IsLoaded year text pieces items book styles facts → fault_of year text ≡ None
+sound year text pieces items book styles facts h =
+    no_fault (past_limit text) (book_of year text) (within_limits year text pieces items book styles facts h) (rw (h.read, h.loaded) refl)

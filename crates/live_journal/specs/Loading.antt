@@ -14,6 +14,7 @@ use Rattle.book.specs.Style.{style_of}
 use Rattle.book.specs.Styles.{style_in}
 use Rattle.journal_reader.specs.Items.{items_in}
 use Rattle.balancing.specs.Load.{load}
+use Rattle.plain_edits.specs.Facts.{Facts, facts_in}
 use Rattle.live_journal.specs.declared.fault.OpenFault.{OpenFault}
 use Rattle.live_journal.specs.declared.fault.OpenFault.TheVariants as unopened
 use Rattle.live_journal.specs.Journals.{Journal}
@@ -80,8 +81,8 @@ open_cause (unopened.TooLarge limit size) = Some (unopened.TooLarge limit size)
 abbrev pub Tells : OpenFault → Option OpenFault → Type 0
 Tells e fault = IfSome (open_cause e) (λ told. fault ≡ Some told)
 
--- what is made of a text: its pieces, items, book and styles
-pub record IsLoaded (year : Option ℕ) (text : List ℕ) (pieces : List Piece) (items : List Placed) (book : Book) (styles : Styles) : Type 0 where
+-- what is made of a text: its pieces, items, book and styles, and what is known of it for entries behind it
+pub record IsLoaded (year : Option ℕ) (text : List ℕ) (pieces : List Piece) (items : List Placed) (book : Book) (styles : Styles) (facts : Facts) : Type 0 where
   pub few_bytes : length text ≤ most_bytes
   pub few_items : length (items_of text) ≤ most_items
   pub cut : pieces ≡ items_of text
@@ -90,3 +91,4 @@ pub record IsLoaded (year : Option ℕ) (text : List ℕ) (pieces : List Piece) 
   pub loaded : load items ≡ Ok book
   pub styled : (symbol : List ℕ) → style_in styles symbol ≡ style_of items symbol
   pub fits : TurnoverFits (postings_of book.txns)
+  pub known : facts ≡ facts_in year text items book.txns

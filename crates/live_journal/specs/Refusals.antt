@@ -12,6 +12,8 @@ use Rattle.live_journal.specs.declared.edit.Edit.{Edit}
 use Rattle.live_journal.specs.declared.edit.Edit.TheVariants.{Add, Change, Replace}
 use Rattle.live_journal.specs.declared.fault.EditFault.{EditFault}
 use Rattle.live_journal.specs.declared.fault.EditFault.TheVariants as refused
+use Rattle.live_journal.specs.Faults.{as_refusal}
+use Rattle.live_journal.specs.declared.fault.OpenFault.{OpenFault}
 use Rattle.live_journal.specs.Edits.{applied, splice_of, numbered}
 use Rattle.live_journal.specs.Journals.{Journal, Planned}
 use Rattle.live_journal.specs.Loading.{first_of, past_limit, book_of}
@@ -78,6 +80,11 @@ not_transactions pieces (Add entry) = first_of (other_piece (items_of entry) ∷
 not_transactions pieces (Change base item entry) = first_of (not_an_entry (numbered pieces item) ∷ other_piece (items_of entry) ∷ [])
 not_transactions pieces (Replace base text) = None
 
+-- the refusal of an edit whose new text makes no journal
+abbrev pub refusal_in : Option OpenFault → Option EditFault
+refusal_in None = None
+refusal_in (Some fault) = Some (as_refusal fault)
+
 abbrev pub too_large : Option (ℕ × ℕ) → Option EditFault
 too_large None = None
 too_large (Some past) = Some (refused.TooLarge past.0 past.1)
@@ -123,6 +130,10 @@ cause_in (refused.NoSuchItem n count) = Some (refused.NoSuchItem n count)
 cause_in (refused.NotTransactions line) = Some (refused.NotTransactions line)
 cause_in (refused.TooLarge limit size) = Some (refused.TooLarge limit size)
 cause_in (refused.Load fault) = Some (refused.Load fault)
+
+-- an error tells this refusal of the new text, or want of memory
+abbrev pub TellsRefusal : EditFault → Option OpenFault → Type 0
+TellsRefusal e fault = IfSome (cause_in e) (λ told. refusal_in fault ≡ Some told)
 
 -- a test answered what a verdict says: no refusal, or this one, or want of memory
 abbrev pub Judges : {T : Type 0} → Result T EditFault → Option EditFault → Type 0

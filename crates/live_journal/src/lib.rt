@@ -2,6 +2,7 @@
 #![tactic(auto)]
 
 mod applied;
+mod behind;
 mod edit;
 mod fault;
 mod judge;

@@ -1,5 +1,5 @@
 //! A journal that is kept open.
-ghost use Rattle.std.specs.Prelude.{◌≡◌, ◌+◌, ◌-◌, ◌*◌, ◌^◌, ◌<◌, ◌≤◌, ℕ, List, false, if◌then◌else◌, IfOk, Ok, OnOk, length};
+ghost use Rattle.std.specs.Prelude.{◌≡◌, ◌+◌, ◌-◌, ◌*◌, ◌^◌, ◌<◌, ◌≤◌, ℕ, List, false, if◌then◌else◌, IfErr, IfOk, None, Ok, OnOk, length};
 ghost use Rattle.std.specs.Str.{bytes_eq};
 ghost use Rattle.hl_base.specs.Gives.{Gives};
 ghost use Rattle.book.specs.Bounds.{TurnoverFits};
@@ -7,17 +7,20 @@ ghost use Rattle.book.specs.Postings.{postings_of};
 ghost use Rattle.book.specs.Style.{style_of};
 ghost use Rattle.book.specs.Styles.{style_in};
 ghost use Rattle.live_journal.specs.Edits as edits;
-ghost use Rattle.live_journal.specs.Loading.{book_of, open_cause, opened, reading_in};
-ghost use Rattle.live_journal.specs.Refusals.{cause_in, prepared, put_into};
+ghost use Rattle.live_journal.specs.Keeping.{IsMadeFrom};
+ghost use Rattle.live_journal.specs.Loading.{book_of, fault_of, open_cause, opened, reading_in};
+ghost use Rattle.live_journal.specs.Reading.{most_read};
+ghost use Rattle.live_journal.specs.Refusals.{TellsRefusal, cause_in, prepared, put_into};
 
 use crate::applied::{splice_of, spliced};
+use crate::behind::{Made, loaded_anew, put_at_end, put_made};
 use crate::edit::Edit;
 use crate::fault::{EditFault, OpenFault};
 use crate::judge::{judge_base, judge_entry, judge_item};
 use crate::loading::{Loaded, load_text};
 use crate::plan::Plan;
 use book::{Book, Items, Styles};
-use hl_base::{Bytes, Steps};
+use hl_base::{Bytes, Splice, Steps};
 use std::alloc::Global;
 use std::marker::Model;
 use std::snapshot::Snapshot;
@@ -37,12 +40,13 @@ pub struct Live {
 impl Model for Live {
     ghost use Rattle.live_journal.specs.Journals.{Journal};
     ghost use Rattle.live_journal.specs.Loading.{IsLoaded};
+    ghost use Rattle.plain_edits.specs.Words.{facts_of};
 
     ghost Value = { Journal };
 
     ghost view = { λ l. record { text = l.text; year = l.year; revision = l.revision } };
 
-    ghost invariant = { λ l. IsLoaded l.year l.text l.loaded.pieces l.loaded.items l.loaded.book l.loaded.styles };
+    ghost invariant = { λ l. IsLoaded l.year l.text l.loaded.pieces l.loaded.items l.loaded.book l.loaded.styles (facts_of l.loaded.end) };
 }
 
 /// Whether two texts are the same.
@@ -50,6 +54,14 @@ fn are_same(a: &[u8], b: &[u8]) -> bool
     ensures { result ≡ bytes_eq a.now b.now }
 {
     a == b
+}
+
+/// The revision after an edit: one more, unless the text stays the same.
+fn raised(revision: u64, same: bool) -> u64
+    requires { same ≡ false → revision < 2 ^ 64 - 1 }
+    ensures { result ≡ (if same then revision else revision + 1) }
+{
+    if same { revision } else { revision + 1 }
 }
 
 impl Live {
@@ -112,6 +124,30 @@ impl Live {
         self.revision
     }
 
+    /// What a change of the text makes: what it adds, where it puts bytes behind the text that change nothing else; or
+    /// all that is made of the new text, loaded anew.
+    fn made<L: Ledger>(
+        &self,
+        splice: &Splice,
+        new: &[u8],
+        steps: &mut Steps<L>,
+    ) -> Result<Made, EditFault>
+        requires { new.now ≡ edits.spliced self.now.text splice.now }
+        ensures made { IfOk result (IsMadeFrom self.now.year self.now.text new.now) }
+        ensures loads { OnOk result (fault_of self.now.year new.now ≡ None) }
+        ensures few { OnOk result (length new.now ≤ 16777216) }
+        ensures fault { IfErr result (λ e. TellsRefusal e (fault_of self.now.year new.now)) }
+        ensures read { OnOk result (steps.new.bytes_read ≤ steps.old.bytes_read + most_read self.now splice.now new.now) }
+        ensures others { steps.new ≡ record steps.old { bytes_read = steps.new.bytes_read } }
+    {
+        let text = self.text.as_slice();
+        let put = put_at_end(self.alloc, self.year, &self.loaded, text, splice, steps)?;
+        match put {
+            Some(behind) => Ok(Made::Behind(behind)),
+            None => loaded_anew(self.alloc, self.year, new, steps),
+        }
+    }
+
     /// Plans an edit, with all the memory that it takes; the journal stays as it is. An edit is refused by the
     /// first of these that holds: its base is above or below the revision; no item has its number; it isn't one of
     /// transactions; the new text has too many bytes or items; the new text has a fault.
@@ -127,6 +163,9 @@ impl Live {
         ensures from { IfOk result (λ plan. plan.from ≡ self.old) }
         ensures few { IfOk result (λ plan. length plan.text ≤ 16777216) }
         ensures stays { self.new ≡ self.old }
+        // An edit that puts bytes behind the text which change nothing else reads these bytes alone.
+        ensures read { IfOk result (λ plan. steps.new.bytes_read ≤ steps.old.bytes_read + most_read self.old plan.splice plan.text) }
+        ensures others { steps.new ≡ record steps.old { bytes_read = steps.new.bytes_read } }
     {
         let text = self.text.as_slice();
         let pieces = self.loaded.pieces.as_slice();
@@ -135,14 +174,14 @@ impl Live {
         judge_entry(self.alloc, pieces, edit)?;
         let splice = splice_of(self.alloc, text, pieces, edit)?;
         let new = spliced(self.alloc, text, &splice)?;
-        let loaded = load_text(self.alloc, new.as_slice(), self.year, steps)?;
         let same = are_same(new.as_slice(), text);
+        let made = self.made(&splice, new.as_slice(), steps)?;
         Ok(Plan {
             from: Snapshot::of(self),
             text: new,
             splice,
             same,
-            loaded,
+            made,
         })
     }
 
@@ -157,12 +196,10 @@ impl Live {
             text,
             splice: _,
             same,
-            loaded,
+            made,
         } = plan;
-        if !same {
-            self.revision += 1;
-        }
+        self.revision = raised(self.revision, same);
         self.text = text;
-        self.loaded = loaded;
+        put_made(self.alloc, &mut self.loaded, made);
     }
 }

@@ -1,10 +1,12 @@
 //! What is made of a text when it is loaded.
-ghost use Rattle.std.specs.Prelude.{◌≡◌, None, IfErr, IfOk, Ok, OnOk};
+ghost use Rattle.std.specs.Prelude.{◌≡◌, ◌+◌, ◌*◌, ◌≤◌, None, IfErr, IfOk, Ok, OnOk, length};
 ghost use Rattle.hl_base.specs.Items.{items_of};
+ghost use Rattle.hl_base.specs.Pieces.{bytes_in};
 ghost use Rattle.book.specs.Bounds.{TurnoverFits};
 ghost use Rattle.book.specs.Postings.{postings_of};
 ghost use Rattle.balancing.specs.Load.{load};
 ghost use Rattle.journal_reader.specs.Whole.{AreWithin};
+ghost use Rattle.plain_edits.specs.Words.{facts_of};
 ghost use Rattle.live_journal.specs.Loading.{IsLoaded, Tells, book_of, fault_of, reading_in, text_fault};
 
 use crate::fault::OpenFault;
@@ -12,22 +14,24 @@ use balancing::{CheckFault, check};
 use book::{Book, Items, Styles};
 use hl_base::{List, Piece, Steps, cut_items};
 use journal_reader::{ReadFault, read_items};
+use plain_edits::TextEnd;
 use std::alloc::Global;
 use std::sync::ledger::Ledger;
 
 /// The most bytes that a text may have.
-const MOST_BYTES: u64 = 16_777_216;
+pub(crate) const MOST_BYTES: u64 = 16_777_216;
 
 /// The most items that a text may have.
-const MOST_ITEMS: u64 = 200_000;
+pub(crate) const MOST_ITEMS: u64 = 200_000;
 
-/// What is made of a text.
-#[derive(Debug, Drop)]
+/// What is made of a text, and what is kept of its end.
+#[derive(Drop)]
 pub(crate) struct Loaded {
     pub pieces: List<Piece>,
     pub items: Items,
     pub book: Book,
     pub styles: Styles,
+    pub end: TextEnd,
 }
 
 /// The items of a text that is cut into these pieces.
@@ -40,8 +44,11 @@ fn read<L: Ledger>(
 ) -> Result<Items, OpenFault>
     requires pieces { pieces.now ≡ items_of text.now }
     requires within { AreWithin text.now pieces.now }
+    requires whole { bytes_in pieces.now ≡ length text.now }
     ensures read { IfOk result (λ items. reading_in year text.now ≡ Ok items) }
     ensures fault { IfErr result (λ e. Tells e (text_fault (reading_in year text.now))) }
+    ensures bound { steps.new.bytes_read ≤ steps.old.bytes_read + length text.now }
+    ensures others { steps.new ≡ record steps.old { bytes_read = steps.new.bytes_read } }
 {
     match read_items(alloc, text, pieces, year, steps) {
         Ok(items) => Ok(items),
@@ -60,9 +67,12 @@ fn make_book<L: Ledger>(
 ) -> Result<Book, OpenFault>
     requires pieces { pieces.now ≡ items_of text.now }
     requires within { AreWithin text.now pieces.now }
+    requires whole { bytes_in pieces.now ≡ length text.now }
     ensures book { IfOk result (λ book. book_of year text.now ≡ Ok book) }
     ensures fault { IfErr result (λ e. Tells e (text_fault (book_of year text.now))) }
     ensures fits { IfOk result (λ book. TurnoverFits (postings_of book.txns)) }
+    ensures bound { steps.new.bytes_read ≤ steps.old.bytes_read + length text.now }
+    ensures others { steps.new ≡ record steps.old { bytes_read = steps.new.bytes_read } }
 {
     let items = match read_items(alloc, text, pieces, year, steps) {
         Ok(items) => items,
@@ -109,8 +119,10 @@ pub(crate) fn load_text<L: Ledger>(
     year: Option<u16>,
     steps: &mut Steps<L>,
 ) -> Result<Loaded, OpenFault>
-    ensures loaded { IfOk result (λ l. IsLoaded year text.now l.pieces l.items l.book l.styles) }
+    ensures loaded { IfOk result (λ l. IsLoaded year text.now l.pieces l.items l.book l.styles (facts_of l.end)) }
     ensures fault { IfErr result (λ e. Tells e (fault_of year text.now)) }
+    ensures bound { steps.new.bytes_read ≤ steps.old.bytes_read + 2 * length text.now }
+    ensures others { steps.new ≡ record steps.old { bytes_read = steps.new.bytes_read } }
 {
     let size = text.len() as u64;
     if size > MOST_BYTES {
@@ -126,10 +138,12 @@ pub(crate) fn load_text<L: Ledger>(
     let book = make_book(alloc, text, pieces.as_slice(), year, steps)?;
     let items = read(alloc, text, pieces.as_slice(), year, steps)?;
     let styles = Styles::of(alloc, items.as_slice())?;
+    let end = TextEnd::of(alloc, year, text, items.as_slice(), book.txns.as_slice())?;
     Ok(Loaded {
         pieces,
         items,
         book,
         styles,
+        end,
     })
 }

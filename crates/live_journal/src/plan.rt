@@ -1,8 +1,8 @@
 //! A planned edit of a journal.
 ghost use Rattle.std.specs.Prelude.{◌≡◌};
 
+use crate::behind::Made;
 use crate::live::Live;
-use crate::loading::Loaded;
 use hl_base::{Bytes, Splice};
 use std::marker::Model;
 use std::snapshot::Snapshot;
@@ -14,18 +14,18 @@ pub struct Plan {
     pub(crate) text: Bytes,
     pub(crate) splice: Splice,
     pub(crate) same: bool,
-    pub(crate) loaded: Loaded,
+    pub(crate) made: Made,
 }
 
 impl Model for Plan {
     ghost use Rattle.live_journal.specs.Journals.{Planned};
-    ghost use Rattle.live_journal.specs.Loading.{IsLoaded};
+    ghost use Rattle.live_journal.specs.Keeping.{IsMadeFrom};
 
     ghost Value = { Planned };
 
     ghost view = { λ p. record { from = p.from.value; text = p.text; splice = p.splice; same = p.same } };
 
-    ghost invariant = { λ p. IsLoaded p.from.value.year p.text p.loaded.pieces p.loaded.items p.loaded.book p.loaded.styles };
+    ghost invariant = { λ p. IsMadeFrom p.from.value.year p.from.value.text p.text p.made };
 }
 
 impl Plan {
