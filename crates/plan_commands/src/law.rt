@@ -1,8 +1,9 @@
 //! What reports without rules are, and what requests and the program's words have in common.
-ghost use Rattle.std.specs.Prelude.{◌≡◌, ℕ, List, None, Option, Some, false, Ok, IfOk};
+ghost use Rattle.std.specs.Prelude.{◌≡◌, ℕ, List, None, Option, Some, false, Ok, Err, IfOk, IfErr};
+ghost use Rattle.std.specs.List.{AllByRecursion};
 ghost use Rattle.book.specs.declared.item.Book.{Book};
 ghost use Rattle.book.specs.declared.item.Placed.{Placed};
-ghost use Rattle.report_options.specs.Programs.{unnamed};
+ghost use Rattle.report_options.specs.Programs.{NamesNoJournal, unnamed};
 ghost use Rattle.report_commands.specs.Reports as plain;
 ghost use Rattle.report_commands.specs.declared.asked.Asked.{Asked};
 ghost use Rattle.plan_commands.specs.Commands.{asked_of, given_of};
@@ -22,6 +23,14 @@ pub fn plain_reports()
 pub fn request_runs()
     ensures { (day : ℕ) (words : List (List ℕ))
         → IfOk (asked_of day words) (λ asked. given_of day words ≡ Ok (unnamed, asked)) }
+{}
+
+/// Words of which none is an option that names a journal (`-f`, `--store`) are refused behind the program's name with the same fault
+/// as in a request: so a reply that refuses them has the fault that a run with them tells.
+#[tactic(auto, using(crate::proofs::Requests::request_refused))]
+pub fn request_refused()
+    ensures { (day : ℕ) (words : List (List ℕ)) → AllByRecursion NamesNoJournal words
+        → IfErr (asked_of day words) (λ fault. given_of day words ≡ Err fault) }
 {}
 
 /// A text that loads without a year before it has the same report with any, with entries of rules and budgets too.

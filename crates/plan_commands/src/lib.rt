@@ -16,5 +16,5 @@ mod reporting;
 
 pub use asked::{read_program_report, read_report};
 pub use fault::PlanFault;
-pub use law::{any_year, plain_reports, request_runs};
+pub use law::{any_year, plain_reports, request_refused, request_runs};
 pub use reporting::{asks_rules, report, report_of};

@@ -10,7 +10,7 @@ use hl_time::Day;
 use journal_reader::read_journal;
 use plan_commands::{
     PlanFault, any_year, asks_rules, plain_reports, read_program_report, read_report, report,
-    request_runs,
+    request_refused, request_runs,
 };
 use query::{ListMaker, Maker, RegexMaker};
 use report_commands::{Asked, Loaded, WordsFault};
@@ -66,6 +66,7 @@ fn words_of_the_program_name_a_journal(rt: HostRuntime) -> Result<(), Fail> {
 fn has_laws(rt: HostRuntime) -> Result<(), Fail> {
     any_year();
     plain_reports();
+    request_refused();
     request_runs();
     assert!(rt; true);
     Ok(())

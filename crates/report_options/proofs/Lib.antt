@@ -5,4 +5,5 @@ pub mod Depths
 pub mod Fields
 pub mod OptionRows
 pub mod Pieces
+pub mod Refused
 pub mod Requests

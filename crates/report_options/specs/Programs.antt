@@ -1,6 +1,7 @@
 -- What words behind the program's name say: the journal too.
-use Rattle.std.specs.Prelude.{ℕ, List, [], ◌∷◌, Option, Some, None, Result, Ok, Err}
-use Rattle.report_options.specs.Items.{items_of}
+use Rattle.std.specs.Prelude.{◌≡◌, ℕ, false, List, [], ◌∷◌, Option, Some, None, Result, Ok, Err}
+use Rattle.report_options.specs.Items.{items_of, option_name}
+use Rattle.report_options.specs.Names.{is_among}
 use Rattle.report_options.specs.Options.{latest, judged, options_of, query_words}
 use Rattle.report_options.specs.declared.command.Command.{Command}
 use Rattle.report_options.specs.declared.fault.OptionFault.{OptionFault}
@@ -36,3 +37,7 @@ program_reading_of command (Err fault) = Err fault
 -- or the fault of the first word that is no option or no value, or else of the first two words that exclude each other.
 abbrev pub program_reading : Command → ℕ → List (List ℕ) → Result (Given × Options × List (List ℕ)) OptionFault
 program_reading command day those = program_reading_of command (judged (items_of places.Program command day those))
+
+-- the word is neither `-f` nor `--store`, also with a value behind `=`
+abbrev pub NamesNoJournal : List ℕ → Type 0
+NamesNoJournal word = is_among (option_name word) (names.File ∷ names.Store ∷ []) ≡ false
