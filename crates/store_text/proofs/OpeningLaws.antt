@@ -7,13 +7,12 @@ use Rattle.text_store.specs.declared.image.Image.{Image}
 use Rattle.text_store.specs.declared.store.Store.{Store}
 use Rattle.text_store.specs.Files.{WhileOpened, opened_limit}
 use Rattle.text_store.specs.Image.{NoImage, NotAStore, Newer, image}
-use Rattle.text_store.specs.Refusals.{OpenRefused, Told}
+use Rattle.text_store.specs.Refusals.{ImageStays, OpenRefused, Told}
 use Rattle.text_store.specs.Stores.{Holds, Keeps, Leaves, Passes, Tell, Throughout, disks, fault_count, image_beside, limit_of, placed}
 use Rattle.text_store.proofs.Holding.{led}
 use Rattle.store_text.specs.Reading.{ReadAs, ReadsDisks}
 use Rattle.store_text.specs.Refusals.{text_of, unopened}
 use Rattle.store_text.specs.declared.refusal.StoreRefusal.{StoreRefusal}
-use Rattle.store_text.specs.declared.refusal.StoreRefusal.TheVariants as refusal
 
 abbrev pub refused : StoreRefusal → Result (List ℕ) StoreRefusal
 refused r = Err r
@@ -58,7 +57,7 @@ module _ {D : Type 0} (g : Disks D) where
         → Moments (disks store) → Bounds (disks store) → fault_count g (disks store) ≡ fault_count g old → ReadsDisks g old back (told_text shown.text)
     opened_reads store shown back is opened moments bounds same = subst (λ (b : D × D). ReadsDisks g old b (told_text shown.text)) (sym is) (record {
       text = λ f s is_first is_second. ap text_of (opened f s is_first is_second).0;
-      stays = λ _ f s is_first is_second.
+      stays = λ f s is_first is_second.
           let o = opened f s is_first is_second in
           let r = held_reads store shown o.1 in
           (r.0, r.1, r.2, r.3, r.4 ∙ sym o.0);
@@ -73,42 +72,43 @@ module _ {D : Type 0} (g : Disks D) where
     stays_same : (new : D × D) → g.seen new.0 ≡ g.seen old.0 → g.seen new.1 ≡ g.seen old.1 → Told g old (λ first second. ReadAs g new (λ f s. image f s ≡ image first second))
     stays_same new first second f s is_first is_second = (f, s, first ∙ is_first, second ∙ is_second, refl)
 
-    pub refused_reads : (new : D × D) (fault : StoreFault) → OpenRefused g old new fault → Moments new → Bounds new → ReadsDisks g old new (refused (unopened fault))
-    refused_reads new store_fault.DiskFault rose moments bounds = record {
+    pub refused_reads : (new : D × D) (fault : StoreFault) → OpenRefused g old new fault → (fault ≡ store_fault.DiskFault → ImageStays g old new) → Moments new → Bounds new
+        → ReadsDisks g old new (refused (unopened fault))
+    refused_reads new store_fault.DiskFault rose stays moments bounds = record {
       text = λ f s is_first is_second. tt;
-      stays = λ unlike. absurd (unlike refl);
+      stays = stays refl;
       any_moment = moments;
       kind = tt;
       rose = λ e. rose;
       no_fault = tt;
       keeps = bounds;
     }
-    refused_reads new (store_fault.NotAStore at) cause moments bounds = record {
+    refused_reads new (store_fault.NotAStore at) cause stays moments bounds = record {
       text = λ f s is_first is_second. ap text_of (cause.0 f s is_first is_second);
-      stays = λ unlike. stays_same new cause.1.0 cause.1.1;
+      stays = stays_same new cause.1.0 cause.1.1;
       any_moment = moments;
       kind = tt;
       rose = λ e. absurd cc;
       no_fault = tt;
       keeps = bounds;
     }
-    refused_reads new (store_fault.Newer version) cause moments bounds = record {
+    refused_reads new (store_fault.Newer version) cause stays moments bounds = record {
       text = λ f s is_first is_second. ap text_of (cause.0 f s is_first is_second);
-      stays = λ unlike. stays_same new cause.1.0 cause.1.1;
+      stays = stays_same new cause.1.0 cause.1.1;
       any_moment = moments;
       kind = tt;
       rose = λ e. absurd cc;
       no_fault = tt;
       keeps = bounds;
     }
-    refused_reads new store_fault.Memory cause moments bounds = record {
+    refused_reads new store_fault.Memory cause stays moments bounds = record {
       text = λ f s is_first is_second. tt;
-      stays = λ unlike. stays_same new cause.0 cause.1;
+      stays = stays_same new cause.0 cause.1;
       any_moment = moments;
       kind = tt;
       rose = λ e. absurd cc;
       no_fault = tt;
       keeps = bounds;
     }
-    refused_reads new (store_fault.Full size limit) cause moments bounds = absurd cause
-    refused_reads new (store_fault.Exists len) cause moments bounds = absurd cause
+    refused_reads new (store_fault.Full size limit) cause stays moments bounds = absurd cause
+    refused_reads new (store_fault.Exists len) cause stays moments bounds = absurd cause

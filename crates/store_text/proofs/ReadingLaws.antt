@@ -112,6 +112,7 @@ module _ {S D : Type 0} (s : Shelves S D) (g : Disks D) (name : List ℕ) (old :
   uncalled = record {
     text = λ told. tt;
     complete = λ told shown is none. refl;
+    kept = λ told. refl;
     stays = λ told unlike. refl;
     crash = λ told telling were. absurd were;
     others = λ other first second. refl;
@@ -133,9 +134,8 @@ module _ {S D : Type 0} (s : Shelves S D) (g : Disks D) (name : List ℕ) (old :
       complete = λ told shown is none. only_memory r (image_under (s.file old) name) shown (text_is told)
           (λ e. none.0 (unlike.rose (refused_is r refusal.ReadFault e)).0)
           (λ e. no_disk r unlike.kind (refused_is r refusal.DiskFault e)) is;
-      stays = λ told _.
-          ap (λ (o : Option (List ℕ)). image_in o (s.file new beside)) (unlike.keeps.files name tt)
-          ∙ ap (λ (o : Option (List ℕ)). image_in (s.file old name) o) (unlike.keeps.files beside tt);
+      kept = λ told. image_is_old;
+      stays = λ told _. image_is_old;
       crash = λ told telling were. absurd (not_taken r unlike.kind were);
       others = λ other first second. unlike.keeps.files other tt;
       kind = taking_reads r unlike.kind;
@@ -149,6 +149,11 @@ module _ {S D : Type 0} (s : Shelves S D) (g : Disks D) (name : List ℕ) (old :
       way = inr (inr (record { way = inl unlike }));
     }
       where
+        image_is_old : image_under (s.file new) name ≡ image_under (s.file old) name
+        image_is_old =
+            ap (λ (o : Option (List ℕ)). image_in o (s.file new beside)) (unlike.keeps.files name tt)
+            ∙ ap (λ (o : Option (List ℕ)). image_in (s.file old name) o) (unlike.keeps.files beside tt)
+
         text_is : IsTrue ((s.tells old).files) → image_is (image_under (s.file old) name) (refused r)
         text_is told = taking_gives r (image_under (s.file old) name) unlike.kind
             (λ e. ap (λ (o : Option (List ℕ)). image_in o (s.file old beside)) (absent_there (s.file old name) (unlike.absent told e)))
@@ -164,18 +169,20 @@ module _ {S D : Type 0} (s : Shelves S D) (g : Disks D) (name : List ℕ) (old :
         (λ e. absurd (never_absent (s.file mid beside) (unlike.absent (told_on (s.tells old) (s.tells mid) first_taken.tells told) e))) in
         let rose_so : r ≡ refusal.ReadFault → Rose (s.faults old) (s.faults new) = λ e.
         subst (λ (n : ℕ). Rose n (s.faults new)) first_taken.faults (subst (λ (n : ℕ). Rose (s.faults mid) n) (sym back.faults) (unlike.rose e).0) in
+        let of_second : s.file new beside ≡ s.file old beside = back.keeps.files beside (λ e. apart name (sym e)) ∙ same_file beside in
+        let image_is_old : IsTrue ((s.tells old).files) → image_under (s.file new) name ≡ image_under (s.file old) name = λ told.
+        let there = there_reads (s.file old name) (g.seen first) (first_taken.reads told) in
+        let of_first : s.file new name ≡ s.file old name =
+        subst (λ (o : Option (List ℕ)). IfSome o (λ bytes. s.file new name ≡ Some bytes)) there.2 (back.reads (told_on (s.tells old) (s.tells comes.mid) same_tells told))
+        ∙ sym there.1 in
+        ap (λ (o : Option (List ℕ)). image_in o (s.file new beside)) of_first ∙ ap (λ (o : Option (List ℕ)). image_in (s.file old name) o) of_second in
         record {
           text = text_is;
           complete = λ told shown is none. only_memory r (image_under (s.file old) name) shown (text_is told)
               (λ e. none.0 (rose_so (refused_is r refusal.ReadFault e)))
               (λ e. no_disk r unlike.kind (refused_is r refusal.DiskFault e)) is;
-          stays = λ told _.
-              let there = there_reads (s.file old name) (g.seen first) (first_taken.reads told) in
-              let of_first : s.file new name ≡ s.file old name =
-              subst (λ (o : Option (List ℕ)). IfSome o (λ bytes. s.file new name ≡ Some bytes)) there.2 (back.reads (told_on (s.tells old) (s.tells comes.mid) same_tells told))
-              ∙ sym there.1 in
-              let of_second : s.file new beside ≡ s.file old beside = back.keeps.files beside (λ e. apart name (sym e)) ∙ same_file beside in
-              ap (λ (o : Option (List ℕ)). image_in o (s.file new beside)) of_first ∙ ap (λ (o : Option (List ℕ)). image_in (s.file old name) o) of_second;
+          kept = image_is_old;
+          stays = λ told _. image_is_old told;
           crash = λ told telling were. absurd (not_taken r unlike.kind were);
           others = λ other not_first not_second. back.keeps.files other not_first ∙ same_file other;
           kind = taking_reads r unlike.kind;
@@ -217,9 +224,9 @@ module _ {S D : Type 0} (s : Shelves S D) (g : Disks D) (name : List ℕ) (old :
     image_old : (told : IsTrue ((s.tells old).files)) → image_under (s.file old) name ≡ Some (image (there told).0 (or_empty (s.file old beside)))
     image_old told = ap (λ (o : Option (List ℕ)). image_in o (s.file old beside)) (there told).1
 
-    stays_so : IsTrue ((s.tells old).files) → result ≢ Err refusal.DiskFault → image_under (s.file new) name ≡ image_under (s.file old) name
-    stays_so told unlike =
-        let r = reads.stays unlike (there told).0 (or_empty (s.file old beside)) (there told).2 (reads_second told) in
+    stays_so : IsTrue ((s.tells old).files) → image_under (s.file new) name ≡ image_under (s.file old) name
+    stays_so told =
+        let r = reads.stays (there told).0 (or_empty (s.file old beside)) (there told).2 (reads_second told) in
         let first : s.file new name ≡ Some r.0 = back_first s g name beside out new back returns (apart name) (told_out told) r.0 r.2 in
         let second : s.file new beside ≡ Some r.1 = back_second s g name beside out new back returns (apart name) (told_out told) r.1 r.3 in
         ap (λ (o : Option (List ℕ)). image_in o (s.file new beside)) first
@@ -257,7 +264,8 @@ module _ {S D : Type 0} (s : Shelves S D) (g : Disks D) (name : List ℕ) (old :
         record {
           text = text_so;
           complete = λ told shown is none. completes result (image_under (s.file old) name) shown (text_so told) not_read (λ e. none.1 (disks_rose e)) is;
-          stays = stays_so;
+          kept = stays_so;
+          stays = λ told unlike. stays_so told;
           crash = λ told telling were a b first second.
               ap (λ (x : Result Image NoImage). Some x)
               (left_so_by told telling a b (left_first s g name beside out new back returns (apart name) a first) (left_second s g name beside out new back returns (apart name) b second))

@@ -22,8 +22,8 @@ ReadAs g pair P = (first : List ℕ) × (second : List ℕ) × (g.seen pair.0 �
 -- The text of the image of two disks, or why there is none.
 pub record ReadsDisks {D : Type 0} (g : Disks D) (old new : D × D) (result : Result (List ℕ) StoreRefusal) : Type 0 where
   pub text : Told g old (λ first second. Gives (λ bytes. bytes) cause_of result (text_of (image first second)))
-  -- but for a disk fault they read as files with the same image, or the same want of one
-  pub stays : result ≢ Err refusal.DiskFault → Told g old (λ first second. ReadAs g new (λ f s. image f s ≡ image first second))
+  -- they read as files with the same image, or the same want of one, also after a disk fault
+  pub stays : Told g old (λ first second. ReadAs g new (λ f s. image f s ≡ image first second))
   -- a crash at any moment leaves files that it might have left before, or files with the image, or the want of one, of these
   pub any_moment : Told g old (λ first second. Tell g old → Throughout g old new (WhileOpened g old first second))
   pub kind : IfErr result IsOfOpening
@@ -52,9 +52,10 @@ pub record ReadsStore {S D : Type 0} (s : Shelves S D) (g : Disks D) (name : Lis
   -- where they have an image and no call failed the text is given, but for want of memory
   pub complete : IsTrue ((s.tells old).files) → (shown : Image) → image_under (s.file old) name ≡ Some (Ok shown)
       → NoneFailed s old new → IfErr result (λ r. r ≡ refusal.Memory)
-  -- its image, or the want of one, stays; what its files read as after a disk fault isn't told
+  -- its image, or the want of one, stays, also after a disk fault
+  pub kept : IsTrue ((s.tells old).files) → image_under (s.file new) name ≡ image_under (s.file old) name
   pub stays : IsTrue ((s.tells old).files) → result ≢ Err refusal.DiskFault → image_under (s.file new) name ≡ image_under (s.file old) name
-  -- and so each crash leaves it, also after a disk fault
+  -- and so each crash leaves it
   pub crash : IsTrue ((s.tells old).files) → IsTrue ((s.tells old).crashes) → WereTaken result → (first second : List ℕ)
       → s.may_leave new name first → s.may_leave new (second_name name) second → Some (image first second) ≡ image_under (s.file old) name
   -- each name but those of the store's files keeps what stands under it
