@@ -11,7 +11,7 @@ use Rattle.text_store.specs.Faults.{ReadRefused}
 use Rattle.text_store.specs.Files.{WhileOpened, opened_limit, opened_size, rest_of}
 use Rattle.text_store.specs.Frames.{frames_of}
 use Rattle.text_store.specs.Image.{NoImage, image, live}
-use Rattle.text_store.specs.Refusals.{OpenRefused, Told}
+use Rattle.text_store.specs.Refusals.{ImageStays, OpenRefused, Told}
 use Rattle.text_store.specs.Stores.{Holds, Keeps, Shows, Tell, Throughout, disks, fault_count, limit_of, size_of}
 use Rattle.text_store.proofs.Both.{less_said, then_on}
 use Rattle.text_store.proofs.Resting.{tells_still}
@@ -159,7 +159,7 @@ module _ {D : Type 0} (g : Disks D) where
       pub opened_fed : (back : D × D) (result : Result (List ℕ) StoreRefusal) → FeedsOpen store back result → FeedsDisks g old back result
       opened_fed back result fed = subst (λ (b : D × D). FeedsDisks g old b result) (sym fed.closed) (record {
         frames = feeds_so back result fed;
-        stays = λ _ f s is_first is_second.
+        stays = λ f s is_first is_second.
             let o = opened f s is_first is_second in
             let r = held_reads g fed.end shown (fed.held shown o.1) in
             (r.0, r.1, r.2, r.3, r.4 ∙ sym o.0);
@@ -179,42 +179,43 @@ module _ {D : Type 0} (g : Disks D) where
     stays_same new first second f s is_first is_second = (f, s, first ∙ is_first, second ∙ is_second, refl)
 
     -- one that wasn't opened
-    pub refused_fed : (new : D × D) (fault : StoreFault) → OpenRefused g old new fault → Moments new → Bounds new → FeedsDisks g old new (refused (unopened fault))
-    refused_fed new store_fault.DiskFault rose moments bounds = record {
+    pub refused_fed : (new : D × D) (fault : StoreFault) → OpenRefused g old new fault → (fault ≡ store_fault.DiskFault → ImageStays g old new) → Moments new → Bounds new
+        → FeedsDisks g old new (refused (unopened fault))
+    refused_fed new store_fault.DiskFault rose stays moments bounds = record {
       frames = λ f s is_first is_second. tt;
-      stays = λ unlike. absurd (unlike refl);
+      stays = stays refl;
       any_moment = moments_fed new moments;
       kind = tt;
       rose = λ e. rose;
       no_fault = tt;
       keeps = bounds;
     }
-    refused_fed new (store_fault.NotAStore at) cause moments bounds = record {
+    refused_fed new (store_fault.NotAStore at) cause stays moments bounds = record {
       frames = λ f s is_first is_second. subst (λ (x : Result Image NoImage). RefusedFor x (refusal.NotAStore at)) (sym (cause.0 f s is_first is_second)) refl;
-      stays = λ unlike. stays_same new cause.1.0 cause.1.1;
+      stays = stays_same new cause.1.0 cause.1.1;
       any_moment = moments_fed new moments;
       kind = tt;
       rose = λ e. absurd cc;
       no_fault = tt;
       keeps = bounds;
     }
-    refused_fed new (store_fault.Newer version) cause moments bounds = record {
+    refused_fed new (store_fault.Newer version) cause stays moments bounds = record {
       frames = λ f s is_first is_second. subst (λ (x : Result Image NoImage). RefusedFor x (refusal.Newer version)) (sym (cause.0 f s is_first is_second)) refl;
-      stays = λ unlike. stays_same new cause.1.0 cause.1.1;
+      stays = stays_same new cause.1.0 cause.1.1;
       any_moment = moments_fed new moments;
       kind = tt;
       rose = λ e. absurd cc;
       no_fault = tt;
       keeps = bounds;
     }
-    refused_fed new store_fault.Memory cause moments bounds = record {
+    refused_fed new store_fault.Memory cause stays moments bounds = record {
       frames = λ f s is_first is_second. tt;
-      stays = λ unlike. stays_same new cause.0 cause.1;
+      stays = stays_same new cause.0 cause.1;
       any_moment = moments_fed new moments;
       kind = tt;
       rose = λ e. absurd cc;
       no_fault = tt;
       keeps = bounds;
     }
-    refused_fed new (store_fault.Full size limit) cause moments bounds = absurd cause
-    refused_fed new (store_fault.Exists len) cause moments bounds = absurd cause
+    refused_fed new (store_fault.Full size limit) cause stays moments bounds = absurd cause
+    refused_fed new (store_fault.Exists len) cause stays moments bounds = absurd cause

@@ -93,7 +93,7 @@ module _ {S D : Type 0} (s : Shelves S D) (g : Disks D) (name : List ℕ) (old :
   pub uncalled : FeedsStore s g name old old (refused refusal.Memory)
   uncalled = record {
     frames = λ told. tt;
-    stays = λ told unlike. refl;
+    stays = λ told. refl;
     crash = λ told telling were. absurd were;
     others = λ other first second. refl;
     kind = tt;
@@ -112,7 +112,7 @@ module _ {S D : Type 0} (s : Shelves S D) (g : Disks D) (name : List ℕ) (old :
     first_untaken unlike = record {
       frames = λ told. taking_gives r (image_under (s.file old) name) unlike.kind
           (λ e. ap (λ (o : Option (List ℕ)). image_in o (s.file old beside)) (absent_there (s.file old name) (unlike.absent told e)));
-      stays = λ told _.
+      stays = λ told.
           ap (λ (o : Option (List ℕ)). image_in o (s.file new beside)) (unlike.keeps.files name tt)
           ∙ ap (λ (o : Option (List ℕ)). image_in (s.file old name) o) (unlike.keeps.files beside tt);
       crash = λ told telling were. absurd (not_taken r unlike.kind were);
@@ -137,7 +137,7 @@ module _ {S D : Type 0} (s : Shelves S D) (g : Disks D) (name : List ℕ) (old :
         record {
           frames = λ told. taking_gives r (image_under (s.file old) name) unlike.kind
               (λ e. absurd (never_absent (s.file mid beside) (unlike.absent (told_on (s.tells old) (s.tells mid) first_taken.tells told) e)));
-          stays = λ told _.
+          stays = λ told.
               let there = there_reads (s.file old name) (g.seen first) (first_taken.reads told) in
               let of_first : s.file new name ≡ s.file old name =
               subst (λ (o : Option (List ℕ)). IfSome o (λ bytes. s.file new name ≡ Some bytes)) there.2 (back.reads (told_on (s.tells old) (s.tells comes.mid) same_tells told))
@@ -187,9 +187,9 @@ module _ {S D : Type 0} (s : Shelves S D) (g : Disks D) (name : List ℕ) (old :
     image_old : (told : IsTrue ((s.tells old).files)) → image_under (s.file old) name ≡ Some (image (there told).0 (or_empty (s.file old beside)))
     image_old told = ap (λ (o : Option (List ℕ)). image_in o (s.file old beside)) (there told).1
 
-    stays_so : IsTrue ((s.tells old).files) → result ≢ Err refusal.DiskFault → image_under (s.file new) name ≡ image_under (s.file old) name
-    stays_so told unlike =
-        let r = reads.stays unlike (there told).0 (or_empty (s.file old beside)) (there told).2 (reads_second told) in
+    stays_so : IsTrue ((s.tells old).files) → image_under (s.file new) name ≡ image_under (s.file old) name
+    stays_so told =
+        let r = reads.stays (there told).0 (or_empty (s.file old beside)) (there told).2 (reads_second told) in
         let first : s.file new name ≡ Some r.0 = back_first s g name beside out new back returns (apart name) (told_out told) r.0 r.2 in
         let second : s.file new beside ≡ Some r.1 = back_second s g name beside out new back returns (apart name) (told_out told) r.1 r.3 in
         ap (λ (o : Option (List ℕ)). image_in o (s.file new beside)) first

@@ -73,8 +73,8 @@ WhileFed g old seen_first seen_second first second =
 -- The frames of the store of two disks, or why there are none.
 pub record FeedsDisks {D : Type 0} (g : Disks D) (old new : D × D) (result : Result (List ℕ) StoreRefusal) : Type 0 where
   pub frames : Told g old (λ first second. Feeds result first second)
-  -- but for a disk fault they read as files with the same image, or the same want of one
-  pub stays : result ≢ Err refusal.DiskFault → Told g old (λ first second. ReadAs g new (λ f s. image f s ≡ image first second))
+  -- they read as files with the same image, or the same want of one, also after a disk fault
+  pub stays : Told g old (λ first second. ReadAs g new (λ f s. image f s ≡ image first second))
   -- a crash at any moment leaves files that it might have left before, or files with the image, or the want of one, of these
   pub any_moment : Told g old (λ first second. Tell g old → Throughout g old new (WhileFed g old first second))
   pub kind : IfErr result IsOfOpening
@@ -87,9 +87,9 @@ pub record FeedsDisks {D : Type 0} (g : Disks D) (old new : D × D) (result : Re
 pub record FeedsStore {S D : Type 0} (s : Shelves S D) (g : Disks D) (name : List ℕ) (old new : S) (result : Result (List ℕ) StoreRefusal) : Type 0 where
   -- what its files say, where they are told
   pub frames : IsTrue ((s.tells old).files) → FeedsIn result (s.file old name) (s.file old (second_name name))
-  -- its image, or the want of one, stays; what its files read as after a disk fault isn't told
-  pub stays : IsTrue ((s.tells old).files) → result ≢ Err refusal.DiskFault → image_under (s.file new) name ≡ image_under (s.file old) name
-  -- and so each crash leaves it, also after a disk fault
+  -- its image, or the want of one, stays, also after a disk fault
+  pub stays : IsTrue ((s.tells old).files) → image_under (s.file new) name ≡ image_under (s.file old) name
+  -- and so each crash leaves it
   pub crash : IsTrue ((s.tells old).files) → IsTrue ((s.tells old).crashes) → WereTaken result → (first second : List ℕ)
       → s.may_leave new name first → s.may_leave new (second_name name) second → Some (image first second) ≡ image_under (s.file old) name
   -- each name but those of the store's files keeps what stands under it

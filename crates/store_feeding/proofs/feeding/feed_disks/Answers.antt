@@ -14,4 +14,4 @@ pub returns-in-Err : goal.returns-in-Err
 returns-in-Err g c =
     let o = c.in-Err.ensures in
     subst (λ (r : StoreRefusal). FeedsDisks g.D.Disk (c.args.first, c.args.second) (c.in-Err.first, c.in-Err.second) (Err r)) (sym c.unopened.ensures)
-    (refused_fed g.D.Disk (c.args.first, c.args.second) (c.in-Err.first, c.in-Err.second) c.in-Err.fault o.cause o.any_moment o.keeps)
+    (refused_fed g.D.Disk (c.args.first, c.args.second) (c.in-Err.first, c.in-Err.second) c.in-Err.fault o.cause o.stays o.any_moment o.keeps)
