@@ -1,4 +1,6 @@
+pub mod EachReads
 pub mod FieldLemmas
+pub mod Fronts
 pub mod HeadLemmas
 pub mod InTargets
 pub mod PathLemmas

@@ -16,4 +16,4 @@ pub mod route;
 pub mod target;
 
 pub use broken::Broken;
-pub use reading::one_reading;
+pub use reading::{each_stream_reads, one_reading};
