@@ -7,3 +7,4 @@ pub mod Readied
 pub mod Rooms
 pub mod Taking
 pub mod Texts
+pub mod Turning

@@ -1,5 +1,5 @@
 -- Frames as they are read, and images that can be written again.
-use Rattle.std.proofs.Common.{◌≡◌, ◌∙◌, ℕ, ◌+◌, ◌^◌, ◌<◌, ◌≤◌, Bool, true, false, nat_lt, if◌then◌else◌, List, length, Option, None, Some, IfSome, refl, sym, ap, subst, arith}
+use Rattle.std.proofs.Common.{◌≡◌, ◌∙◌, ℕ, ◌+◌, ◌^◌, ◌<◌, ◌≤◌, Bool, true, false, nat_lt, if◌then◌else◌, List, [], length, Option, None, Some, IfSome, Result, Ok, Err, OnOk, OnErr, refl, sym, ap, subst, arith}
 use Rattle.std.proofs.lemmas.Bool.Decides.{nat_tests}
 use Rattle.hl_base.specs.declared.change.Latest.{Latest}
 use Rattle.hl_base.specs.declared.change.Splice.{Splice as Part}
@@ -15,6 +15,8 @@ use Rattle.text_store.proofs.Growing.{none_some, content_edited}
 use Rattle.text_store.proofs.Sizes.{payload_size}
 use Rattle.text_store.proofs.Walking.{mark_writable}
 use Rattle.follower.specs.declared.frame.Frame.{Frame}
+use Rattle.follower.specs.declared.puts.Next.{Next}
+use Rattle.follower.specs.Changing.{states_or, text_after, with_next, with_parts}
 use Rattle.follower.specs.Images.{snapshot, image_after}
 use Rattle.follower.proofs.Texts.{within_is, change_is, unread_change}
 
@@ -101,3 +103,21 @@ writable_edited image change next is short writable =
     let after = content_writable (content_in image) change (content_in next) (content_edited (image.revision + 1) (edited_content (content_in image) change) next is).0 short
     (writable.few, writable.short, writable.own) in
     record { few = after.0; short = after.1; own = after.2 }
+
+-- an image that a change was made in, or that stays
+pub kept_writable : {T E : Type 0} (r : Result T E) (old next new : Image) → OnOk r (new ≡ next) → OnErr r (new ≡ old) → IsWritable next → IsWritable old → IsWritable new
+kept_writable (Ok v) old next new made same good was = subst (λ (i : Image). IsWritable i) (sym made) good
+kept_writable (Err e) old next new made same good was = subst (λ (i : Image). IsWritable i) (sym same) was
+
+-- an image whose text was taken out, and given back with a change made in it
+pub put_image : (old left new : Image) (change : Change) (next : Next) (taken text : List ℕ) → left ≡ record old { text = [] } → taken ≡ old.text → text ≡ text_after change taken
+    → new ≡ with_parts left text next → new ≡ with_next old change next
+put_image old left new change next taken text is_left is_taken is_text is_new =
+    let made : text ≡ text_after change old.text = is_text ∙ ap (λ (l : List ℕ). text_after change l) is_taken in
+    is_new ∙ (λ i. record { text = made i; latest = states_or next.latest (is_left i).latest; revision = (is_left i).revision + 1 })
+
+-- or given back as it was
+pub put_back : (old left : Image) (taken text given : List ℕ) → left ≡ record old { text = [] } → taken ≡ old.text → text ≡ taken → given ≡ text → record left { text = given } ≡ old
+put_back old left taken text given is_left is_taken is_text is_given =
+    let same : given ≡ old.text = is_given ∙ is_text ∙ is_taken in
+    (λ i. record { text = same i; latest = (is_left i).latest; revision = (is_left i).revision })

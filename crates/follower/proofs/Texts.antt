@@ -1,7 +1,7 @@
 -- A change made in an image.
 use Rattle.std.proofs.Common.{◌≡◌, ◌∙◌, ℕ, ◌+◌, ◌<◌, ◌≤◌, ◌^◌, Bool, true, false, nat_le, ◌==◌, if◌then◌else◌, List, [], ◌∷◌, ◌++◌, length, get_or, take, drop, Option, None, Some, refl, sym, ap, arith, append_assoc}
 use Rattle.std.proofs.lemmas.Bool.Decides.{nat_tests}
-use Rattle.std.proofs.lemmas.List.{drop-drop, drop_more, drop_all, take_more}
+use Rattle.std.proofs.lemmas.List.{drop_more, drop_all, take_more}
 use Rattle.hl_base.specs.declared.change.Latest.{Latest}
 use Rattle.hl_base.specs.declared.change.Splice.{Splice as Part}
 use Rattle.text_store.specs.declared.change.Change.{Change}
@@ -10,22 +10,20 @@ use Rattle.text_store.specs.Edits.{replaced, edited, content_in, at_revision}
 use Rattle.text_store.specs.Image.{Content, same_name, with_mark, changed}
 use Rattle.text_store.specs.Parsed.{IsChangeIn}
 use Rattle.follower.specs.declared.frame.Frame.{Frame}
+use Rattle.follower.specs.Changing.{with_part}
 use Rattle.follower.specs.Images.{within, snapshot, image_after}
 
 -- a part that lies in a text, and one that doesn't
-pub replaced_in : (text behind rest made : List ℕ) (part : Part) → part.at + part.removed ≤ length text → behind ≡ drop part.at text → rest ≡ drop part.removed behind
-    → made ≡ take part.at text ++ part.inserted ++ rest → Some made ≡ replaced text part
-replaced_in text behind rest made part inside is_behind is_rest is =
-    ap Some (is ∙ ap (λ (l : List ℕ). take part.at text ++ part.inserted ++ l)
-    (is_rest ∙ ap (λ (l : List ℕ). drop part.removed l) is_behind ∙ drop-drop part.removed part.at text))
-    ∙ sym (ap (λ (b : Bool). if b then Some (take part.at text ++ part.inserted ++ drop (part.at + part.removed) text) else None) (le_true (part.at + part.removed) (length text) inside))
+pub replaced_in : (text : List ℕ) (part : Part) → part.at + part.removed ≤ length text → replaced text part ≡ Some (with_part text part)
+replaced_in text part inside =
+    ap (λ (b : Bool). if b then Some (take part.at text ++ part.inserted ++ drop (part.at + part.removed) text) else None) (le_true (part.at + part.removed) (length text) inside)
   where
     le_true : (a b : ℕ) → a ≤ b → nat_le a b ≡ true
     le_true a b le = grind (arith, nat_tests)
 
-pub not_in : (text : List ℕ) (part : Part) → length text < part.at + part.removed → None ≡ replaced text part
+pub not_in : (text : List ℕ) (part : Part) → length text < part.at + part.removed → replaced text part ≡ None
 not_in text part outside =
-    sym (ap (λ (b : Bool). if b then Some (take part.at text ++ part.inserted ++ drop (part.at + part.removed) text) else None) (le_false (part.at + part.removed) (length text) outside))
+    ap (λ (b : Bool). if b then Some (take part.at text ++ part.inserted ++ drop (part.at + part.removed) text) else None) (le_false (part.at + part.removed) (length text) outside)
   where
     le_false : (a b : ℕ) → b < a → nat_le a b ≡ false
     le_false a b less = grind (arith, nat_tests)

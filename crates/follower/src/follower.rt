@@ -219,9 +219,7 @@ impl<D: Disk> Follower<D> {
         ensures { Accepts self.old frame.now result self.new }
     {
         let revision = frame.revision;
-        let Prepared { change, next } = prepared;
-        keep_change(&mut self.store, alloc, &self.image, &change, size)?;
-        next.put_into(&mut self.image);
+        keep_change(&mut self.store, alloc, &mut self.image, prepared, size)?;
         Ok(Accepted::Taken { revision })
     }
 

@@ -1,16 +1,21 @@
 //! How a frame is stored: a due repair first, then a store that is written anew where that is due, then the record.
-ghost use Rattle.std.specs.Prelude.{◌≡◌, ◌↔◌, ◌+◌, ◌^◌, ◌<◌, ◌≤◌, true, false, IsTrue, Option, Some, IfErr, OnOk, OnErr, length};
+ghost use Rattle.std.specs.Prelude.{◌≡◌, ◌↔◌, ◌+◌, ◌^◌, ◌<◌, ◌≤◌, true, false, IsTrue, Option, Some, IfErr, OnOk, OnErr, length, vec_len};
 ghost use Rattle.text_store.specs.Changes.{payload_of, HasShortName};
 ghost use Rattle.text_store.specs.Edits.{edited, whole_size};
 ghost use Rattle.text_store.specs.Files.{IsWritable};
 ghost use Rattle.text_store.specs.Stores.{disks, size_of, limit_of, repair_due, Tell, fault_count, Throughout, ShowsEither, Holds};
 ghost use Rattle.text_store.specs.declared.image.Image.{Image};
+ghost use Rattle.follower.specs.declared.keep.Unkept.TheVariants.{Memory as NoRoom};
+ghost use Rattle.follower.specs.Changing.{text_after, LiesIn};
 ghost use Rattle.follower.specs.Keeping as spec;
+ghost use Rattle.follower.specs.Prepared.{next_image};
 ghost use Rattle.follower.specs.Refused as refused;
 ghost use Rattle.follower.specs.Stands.{ShowsOne, Stands};
 
 use crate::fault::FollowFault;
-use hl_base::Disk;
+use crate::preparing::Prepared;
+use crate::splicing::{put_in, reserve_for, take_text};
+use hl_base::{Bytes, Disk, Memory};
 use std::alloc::Global;
 use text_store::{Change, Image, Store, StoreFault};
 
@@ -56,6 +61,14 @@ fn fault_of(reason: Unkept) -> FollowFault
     match reason {
         Unkept::DiskFault => FollowFault::Store(StoreFault::DiskFault),
         Unkept::Memory => FollowFault::Memory,
+    }
+}
+
+impl From<Memory> for Unkept {
+    ghost from_gives = { λ _ e. e ≡ NoRoom };
+
+    fn from(_memory: Memory) -> Unkept {
+        Unkept::Memory
     }
 }
 
@@ -109,23 +122,35 @@ fn write_image<D: Disk>(store: &mut Store<D>, alloc: Global, image: &Image) -> R
     }
 }
 
-// Puts a change behind the records of a store that has the room.
-fn put_record<D: Disk>(store: &mut Store<D>, alloc: Global, change: &Change) -> Result<(), Unkept>
+// Puts a change behind the records of a store that has the room, and then into the text, whose room is asked for first.
+fn put_record<D: Disk>(
+    store: &mut Store<D>,
+    alloc: Global,
+    text: &mut Vec<u8>,
+    change: Change,
+) -> Result<(), Unkept>
     requires ready { repair_due store.old ≡ false }
-    requires name { HasShortName change.now }
-    requires room { size_of store.old + 10 + length (payload_of change.now) ≤ limit_of store.old }
-    ensures held { OnOk result ((shown next : Image) → Holds store.old shown → edited shown change.now ≡ Some next → Holds store.new next) }
-    ensures any_moment { (shown next : Image) → Holds store.old shown → edited shown change.now ≡ Some next → Tell D.Disk (disks store.old)
+    requires name { HasShortName change }
+    requires room { size_of store.old + 10 + length (payload_of change) ≤ limit_of store.old }
+    requires inside { LiesIn change (vec_len text.old) }
+    ensures held { OnOk result ((shown next : Image) → Holds store.old shown → edited shown change ≡ Some next → Holds store.new next) }
+    ensures any_moment { (shown next : Image) → Holds store.old shown → edited shown change ≡ Some next → Tell D.Disk (disks store.old)
         → Throughout D.Disk (disks store.old) (disks store.new) (ShowsEither shown next) }
-    ensures torn { IfErr result (λ e. (shown next : Image) → Holds store.old shown → edited shown change.now ≡ Some next → spec.LeftBy e store.new shown next) }
+    ensures torn { IfErr result (λ e. (shown next : Image) → Holds store.old shown → edited shown change ≡ Some next → spec.LeftBy e store.new shown next) }
     ensures cause { IfErr result (λ e. spec.IsCause e (fault_count D.Disk (disks store.old)) (fault_count D.Disk (disks store.new))) }
     ensures no_fault { OnOk result (fault_count D.Disk (disks store.new) ≡ fault_count D.Disk (disks store.old)) }
-    ensures size { OnOk result (size_of store.new ≡ size_of store.old + 10 + length (payload_of change.now)) }
+    ensures size { OnOk result (size_of store.new ≡ size_of store.old + 10 + length (payload_of change)) }
     ensures ready { OnOk result (repair_due store.new ≡ false) }
     ensures goes_on { spec.GoesOn store.old store.new }
+    ensures put { OnOk result (text.new.items ≡ text_after change text.old.items) }
+    ensures same { OnErr result (text.new.items ≡ text.old.items) }
 {
-    match store.append(alloc, change) {
-        Ok(()) => Ok(()),
+    reserve_for(text, &change)?;
+    match store.append(alloc, &change) {
+        Ok(()) => {
+            put_in(text, change);
+            Ok(())
+        }
         Err(fault) => Err(reason_of(fault)),
     }
 }
@@ -194,35 +219,46 @@ pub fn keep_image<D: Disk>(store: &mut Store<D>, alloc: Global, image: &Image) -
     }
 }
 
-/// Stores a change of an image, of so many bytes as a record: a due repair comes first, then a store that is written anew where
-/// that is due, then the change's record.
+/// Stores a change of an image, of so many bytes as a record, and then makes it in the image: a due repair comes first, then a store that
+/// is written anew where that is due, then the change's record. What isn't stored leaves the image as it is.
 pub fn keep_change<D: Disk>(
     store: &mut Store<D>,
     alloc: Global,
-    image: &Image,
-    change: &Change,
+    image: &mut Image,
+    prepared: Prepared,
     size: u64,
 ) -> Result<(), Unkept>
-    requires name { HasShortName change.now }
-    requires record_size { size ≡ 10 + length (payload_of change.now) }
-    requires writable { IsWritable image.now }
-    requires revision { image.now.revision ≤ 2 ^ 62 }
-    requires room { spec.room_size (size_of store.old) (limit_of store.old) size (whole_size image.now) + size ≤ limit_of store.old }
-    ensures held { OnOk result ((next : Image) (pending : Option Image) → Stands store.old image.now pending → edited image.now change.now ≡ Some next
+    requires name { HasShortName prepared.change }
+    requires record_size { size ≡ 10 + length (payload_of prepared.change) }
+    requires writable { IsWritable image.old }
+    requires revision { image.old.revision ≤ 2 ^ 62 }
+    requires inside { LiesIn prepared.change (length image.old.text) }
+    requires room { spec.room_size (size_of store.old) (limit_of store.old) size (whole_size image.old) + size ≤ limit_of store.old }
+    ensures held { OnOk result ((next : Image) (pending : Option Image) → Stands store.old image.old pending → edited image.old prepared.change ≡ Some next
         → (repair_due store.new ≡ false) × Holds store.new next) }
-    ensures torn { IfErr result (λ e. (next : Image) (pending : Option Image) → Stands store.old image.now pending → edited image.now change.now ≡ Some next
-        → (after : Option Image) × spec.LeftPending e pending next after × Stands store.new image.now after) }
-    ensures any_moment { (next : Image) (pending : Option Image) → Stands store.old image.now pending → edited image.now change.now ≡ Some next
-        → Tell D.Disk (disks store.old) → Throughout D.Disk (disks store.old) (disks store.new) (ShowsOne image.now pending (Some next)) }
+    ensures torn { IfErr result (λ e. (next : Image) (pending : Option Image) → Stands store.old image.old pending → edited image.old prepared.change ≡ Some next
+        → (after : Option Image) × spec.LeftPending e pending next after × Stands store.new image.old after) }
+    ensures any_moment { (next : Image) (pending : Option Image) → Stands store.old image.old pending → edited image.old prepared.change ≡ Some next
+        → Tell D.Disk (disks store.old) → Throughout D.Disk (disks store.old) (disks store.new) (ShowsOne image.old pending (Some next)) }
     ensures cause { IfErr result (λ e. spec.IsCause e (fault_count D.Disk (disks store.old)) (fault_count D.Disk (disks store.new))) }
     ensures no_fault { OnOk result (fault_count D.Disk (disks store.new) ≡ fault_count D.Disk (disks store.old)) }
-    ensures size { OnOk result (size_of store.new ≡ spec.room_size (size_of store.old) (limit_of store.old) size (whole_size image.now) + size) }
+    ensures size { OnOk result (size_of store.new ≡ spec.room_size (size_of store.old) (limit_of store.old) size (whole_size image.old) + size) }
     ensures goes_on { spec.GoesOn store.old store.new }
+    ensures made { OnOk result (image.new ≡ next_image image.old prepared) }
+    ensures same { OnErr result (image.new ≡ image.old) }
 {
     mend(store)?;
     make_room(store, alloc, image, size)?;
-    match put_record(store, alloc, change) {
-        Ok(()) => Ok(()),
-        Err(reason) => Err(reason),
+    let Prepared { change, next } = prepared;
+    let mut text = take_text(alloc, image);
+    match put_record(store, alloc, &mut text, change) {
+        Ok(()) => {
+            next.put_into(image, text);
+            Ok(())
+        }
+        Err(reason) => {
+            image.text = Bytes::from_vec(text);
+            Err(reason)
+        }
     }
 }

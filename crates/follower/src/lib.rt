@@ -10,6 +10,7 @@ mod histories;
 mod keep;
 mod preparing;
 mod puts;
+mod splicing;
 mod standing;
 
 pub use fault::{Accepted, FollowFault, FrameFault};

@@ -13,7 +13,7 @@ use text_store::{Change, Image};
 /// The greatest revision of a frame that is taken.
 const LAST: u64 = 1 << 62;
 
-/// A frame's change, and what it makes anew of an image.
+/// A frame's change, and what it makes anew of an image beside its text.
 #[derive(Drop)]
 pub struct Prepared {
     pub change: Change,

@@ -1,36 +1,23 @@
 //! A change made in an image.
-ghost use Rattle.std.specs.Prelude.{◌≡◌, ◌+◌, ◌^◌, ◌<◌, [], ◌∷◌, ◌++◌, IfOk, OnOk};
-ghost use Rattle.text_store.specs.Edits.{replaced};
+ghost use Rattle.std.specs.Prelude.{◌≡◌, ◌↔◌, ◌+◌, ◌^◌, ◌<◌, [], ◌∷◌, ◌++◌, length, IsTrue, IfOk, OnOk};
 ghost use Rattle.text_store.specs.Image.{same_name, with_mark};
-ghost use Rattle.follower.specs.Changing.{with_next, IsNextOf};
+ghost use Rattle.follower.specs.Changing.{with_parts, IsNextOf};
 
 use hl_base::{Bytes, Latest, List, Memory, Splice, Text};
 use std::alloc::Global;
 use text_store::{Change, Image};
 
-/// What a change makes anew of an image: its text, and for an import its import states.
+/// What a change makes anew of an image beside its text: the import states of an import.
 #[derive(Drop)]
 pub struct Next {
-    text: Bytes,
     latest: Option<List<Latest>>,
 }
 
-// A text with a part of it replaced; none, where the part lies outside.
-fn text_with(alloc: Global, text: &[u8], part: &Splice) -> Result<Option<Bytes>, Memory>
-    ensures { IfOk result (λ found. found ≡ replaced text.now part.now) }
+// Whether a part lies outside a text.
+fn is_outside(text: &[u8], part: &Splice) -> bool
+    ensures { IsTrue result ↔ (length text.now < part.now.at + part.now.removed) }
 {
-    if part.at.saturating_add(part.removed) > text.len() as u64 {
-        return Ok(None);
-    }
-    let (front, behind) = text.split_at(part.at as usize);
-    let (_, rest) = behind.split_at(part.removed as usize);
-    let inserted = part.inserted.as_slice();
-    let length = front.len().saturating_add(inserted.len());
-    let mut made = Vec::with_capacity(alloc, length.saturating_add(rest.len()))?;
-    made.extend_from_slice(front)?;
-    made.extend_from_slice(inserted)?;
-    made.extend_from_slice(rest)?;
-    Ok(Some(Bytes::from_vec(made)))
+    part.at.saturating_add(part.removed) > text.len() as u64
 }
 
 // A copy of an import's state.
@@ -101,24 +88,13 @@ fn push_state(alloc: Global, made: &mut Vec<Latest>, state: &Latest) -> Result<(
 }
 
 // What a splice makes anew of an image.
-fn next_splice(alloc: Global, image: &Image, part: &Splice) -> Result<Option<Next>, Memory>
-    ensures { IfOk result (IsNextOf image.now (Change.Splice part.now)) }
+fn next_splice(image: &Image, part: &Splice) -> Option<Next>
+    ensures { IsNextOf image.now (Change.Splice part.now) result }
 {
-    match text_with(alloc, image.text.as_slice(), part)? {
-        None => Ok(None),
-        Some(text) => Ok(Some(Next { text, latest: None })),
+    if is_outside(image.text.as_slice(), part) {
+        return None;
     }
-}
-
-// What a whole text makes anew of an image.
-fn next_whole(alloc: Global, image: &Image, text: &Bytes) -> Result<Option<Next>, Memory>
-    ensures { IfOk result (IsNextOf image.now (Change.Whole text.now)) }
-{
-    let _revision = image.revision;
-    Ok(Some(Next {
-        text: Bytes::copied(alloc, text.as_slice())?,
-        latest: None,
-    }))
+    Some(Next { latest: None })
 }
 
 // What an import makes anew of an image.
@@ -134,13 +110,12 @@ fn next_import(
     if latest.len() as u64 >= 1 << 32 {
         return Ok(None);
     }
-    match text_with(alloc, image.text.as_slice(), part)? {
-        None => Ok(None),
-        Some(text) => Ok(Some(Next {
-            text,
-            latest: Some(latest),
-        })),
+    if is_outside(image.text.as_slice(), part) {
+        return Ok(None);
     }
+    Ok(Some(Next {
+        latest: Some(latest),
+    }))
 }
 
 /// What a change makes anew of an image; none, where its part lies outside the text or where it makes 2^32 import states.
@@ -148,19 +123,19 @@ pub fn next_of(alloc: Global, image: &Image, change: &Change) -> Result<Option<N
     ensures { IfOk result (IsNextOf image.now change.now) }
 {
     match change {
-        Change::Splice(part) => next_splice(alloc, image, part),
-        Change::Whole(text) => next_whole(alloc, image, text),
+        Change::Splice(part) => Ok(next_splice(image, part)),
+        Change::Whole(_) => Ok(Some(Next { latest: None })),
         Change::Import(state, part) => next_import(alloc, image, state, part),
     }
 }
 
 impl Next {
-    /// Puts what was made anew into its image. It takes no memory.
-    pub fn put_into(self, image: &mut Image)
+    /// Puts a change's text into its image, and the import states that were made anew. It takes no memory.
+    pub fn put_into(self, image: &mut Image, text: Vec<u8>)
         requires { image.old.revision + 1 < 2 ^ 64 }
-        ensures { image.new ≡ with_next image.old self }
+        ensures { image.new ≡ with_parts image.old text.items self }
     {
-        image.text = self.text;
+        image.text = Bytes::from_vec(text);
         image.revision += 1;
         match self.latest {
             None => (),

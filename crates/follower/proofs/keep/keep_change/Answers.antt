@@ -1,10 +1,12 @@
-use Rattle.std.proofs.Common.{◌≡◌, ◌∙◌, ℕ, ◌+◌, ◌≤◌, Some, subst, arith}
+use Rattle.std.proofs.Common.{◌≡◌, ◌∙◌, ℕ, ◌+◌, ◌≤◌, Some, sym, subst, arith}
 use Rattle.std.proofs.lemmas.Result.{err_from_is_err_and}
 use Rattle.text_store.specs.Edits.{whole_size}
 use Rattle.text_store.specs.Stores.{disks, fault_count, limit_of, size_of}
 use Rattle.text_store.proofs.Both.{less_said, then_on}
+use Rattle.follower.specs.Changing.{LiesIn}
 use Rattle.follower.specs.Keeping.{IsCause, room_size}
 use Rattle.follower.proofs.Kept.{goes_on_then, left_after, left_same, left_torn, shows_next, shows_same, tells_on}
+use Rattle.follower.proofs.Readied.{put_image, put_back}
 use Rattle.follower.proofs.Rooms.{due_room}
 use Rattle.follower.proofs.keep.keep_change.Goals as goal
 
@@ -114,6 +116,20 @@ returns-in-Err-clause-any_moment g c = λ next pending stands edited tell.
     let anew = less_said g.D.Disk _ _ _ _ (shows_same shown pending (Some next)) (c.make_room.ensures.any_moment rest.1 tell_on) in
     let putting = less_said g.D.Disk _ _ _ _ (shows_next shown pending next) (c.put_record.ensures.any_moment shown next room edited tell_more) in
     then_on g.D.Disk _ _ _ _ (then_on g.D.Disk _ _ _ _ mending anew) putting
+
+pub put_record-requires-clause-inside : goal.put_record-requires-clause-inside
+put_record-requires-clause-inside g c = subst (λ (n : ℕ). LiesIn c.args.prepared.change n) (sym c.take_text-text.ensures.len) c.requires.inside
+
+pub returns-in-Ok-clause-made : goal.returns-in-Ok-clause-made
+returns-in-Ok-clause-made g c =
+    let took = c.take_text-text in
+    put_image c.args.image.now took.new.image c.put_into.new.image c.args.prepared.change c.args.prepared.next took.result.items c.put_record.new.text.items took.ensures.left
+    took.ensures.text c.in-Ok.ensures.put c.put_into.ensures
+
+pub returns-in-Err-clause-same : goal.returns-in-Err-clause-same
+returns-in-Err-clause-same g c =
+    let took = c.take_text-text in
+    put_back c.args.image.now took.new.image took.result.items c.put_record.new.text.items c.from_vec.result took.ensures.left took.ensures.text c.in-Err.ensures.same c.from_vec.ensures
 
 pub returns-in-Ok-clause-size : goal.returns-in-Ok-clause-size
 returns-in-Ok-clause-size g c =

@@ -3,7 +3,7 @@ use Rattle.text_store.specs.declared.change.Change.{Change}
 use Rattle.text_store.specs.Edits.{edited}
 use Rattle.text_store.specs.Parsed.{IsChangeIn}
 use Rattle.follower.specs.declared.puts.Next.{Next}
-use Rattle.follower.specs.Changing.{with_next, IsNextOf}
+use Rattle.follower.specs.Changing.{IsNextOf}
 use Rattle.follower.proofs.Readied.{unread, is_edit}
 use Rattle.follower.proofs.Texts.{late_change}
 use Rattle.follower.proofs.preparing.prepare.Goals as goal
@@ -35,11 +35,12 @@ returns c =
     let image = c.args.image.now in
     let change = c.in-Some.change in
     let small : frame.revision ≤ 2 ^ 62 = omega arith in
-    let edits : edited image change ≡ Some (with_next image c.in-Some-2.next) = subst (λ (o : Option Next). IsNextOf image change o) c.in-Some-2.is c.in_ok-next.ensures in
+    let made : IsNextOf image change (Some c.in-Some-2.next) = subst (λ (o : Option Next). IsNextOf image change o) c.in-Some-2.is c.in_ok-next.ensures in
     let reads : IsChangeIn frame.kind c.as_slice.result.now (Some change) = subst (λ (o : Option Change). IsChangeIn frame.kind c.as_slice.result.now o) c.in-Some.is c.in_ok-change.ensures in
     record {
-      edits = edits;
-      after = is_edit image frame c.requires.kind small c.requires.next c.as_slice.result.now c.as_slice.ensures change reads ∙ edits;
+      edits = made.1;
+      after = is_edit image frame c.requires.kind small c.requires.next c.as_slice.result.now c.as_slice.ensures change reads ∙ made.1;
+      inside = made.0;
       name = reads.1;
       size = reads.2 ∙ ap (λ (l : List ℕ). length l) c.as_slice.ensures;
       below = omega (arith, small, c.requires.next);

@@ -2,11 +2,10 @@ use Rattle.std.proofs.Common.{◌≡◌, ◌∙◌, ◌+◌, inr, Option, Err, r
 use Rattle.std.proofs.lemmas.Result.{err_from_is_err_and}
 use Rattle.follower.specs.declared.fault.FollowFault.TheVariants as fault
 use Rattle.follower.specs.declared.preparing.Prepared.{Prepared}
-use Rattle.follower.specs.Prepared.{IsPrepared, IsReady}
+use Rattle.follower.specs.Prepared.{IsPrepared, IsReady, next_image}
 use Rattle.text_store.specs.Edits.{whole_size}
 use Rattle.text_store.specs.Stores.{limit_of, size_of}
 use Rattle.follower.specs.Accepting.{needed}
-use Rattle.follower.specs.Changing.{with_next}
 use Rattle.follower.specs.Keeping.{room_size}
 use Rattle.follower.proofs.Taking.{still, full, needs_room}
 use Rattle.follower.proofs.follower.Follower.take_change.Goals as goal
@@ -32,7 +31,7 @@ returns-in-Some-no_room g c =
     let frame = c.args.frame.now in
     let prepared = c.in-Some.prepared in
     let size = c.record_size-size.result in
-    let next = with_next old.image prepared.next in
+    let next = next_image old.image prepared in
     let ready : IsReady old.image frame prepared = subst (λ (o : Option Prepared). IsPrepared old.image frame o) c.in-Some.is c.in_ok-prepared.ensures in
     let same : needed old frame next ≡ room_size (size_of old.store) (limit_of old.store) size (whole_size old.image) + size =
     needs_room old frame next c.requires.kind ∙ (λ i. room_size (size_of old.store) (limit_of old.store) (sym c.record_size-size.ensures i) (whole_size old.image) + sym c.record_size-size.ensures i) in
