@@ -3,7 +3,7 @@ ghost use Rattle.std.specs.Prelude.{◌≡◌, ◌↔◌, ◌+◌, ◌^◌, ◌<
 ghost use Rattle.text_store.specs.Changes.{payload_of, HasShortName};
 ghost use Rattle.text_store.specs.Edits.{edited, whole_size};
 ghost use Rattle.text_store.specs.Files.{IsWritable};
-ghost use Rattle.text_store.specs.Stores.{disks, size_of, limit_of, repair_due, Tell, fault_count, Throughout, ShowsEither, Holds};
+ghost use Rattle.text_store.specs.Stores.{size_of, limit_of, repair_due, ShowsEither, Holds};
 ghost use Rattle.text_store.specs.declared.image.Image.{Image};
 ghost use Rattle.follower.specs.declared.keep.Unkept.TheVariants.{Memory as NoRoom};
 ghost use Rattle.follower.specs.Changing.{text_after, LiesIn};
@@ -82,14 +82,16 @@ impl From<Unkept> for FollowFault {
 
 // Repairs a store where that is due.
 fn mend<D: Disk>(store: &mut Store<D>) -> Result<(), Unkept>
-    ensures mended { OnOk result ((shown : Image) (pending : Option Image) → Stands store.old shown pending
-        → (repair_due store.new ≡ false) × Holds store.new shown) }
-    ensures torn { OnErr result ((shown : Image) (pending : Option Image) → Stands store.old shown pending → Stands store.new shown pending) }
-    ensures any_moment { (shown : Image) (pending next : Option Image) → Stands store.old shown pending → Tell D.Disk (disks store.old)
-        → Throughout D.Disk (disks store.old) (disks store.new) (ShowsOne shown pending next) }
+    ensures mended { OnOk result ((shown : Image) (pending : Option Image)
+        → Stands store.old shown pending → (repair_due store.new ≡ false) × Holds store.new shown) }
+    ensures torn { OnErr result ((shown : Image) (pending : Option Image)
+        → Stands store.old shown pending → Stands store.new shown pending) }
+    ensures any_moment { (shown : Image) (pending next : Option Image)
+        → Stands store.old shown pending
+        → spec.Between store.old store.new (ShowsOne shown pending next) }
     ensures disk { IfErr result (λ e. e ≡ Unkept.DiskFault) }
-    ensures cause { IfErr result (λ e. spec.IsCause e (fault_count D.Disk (disks store.old)) (fault_count D.Disk (disks store.new))) }
-    ensures no_fault { OnOk result (fault_count D.Disk (disks store.new) ≡ fault_count D.Disk (disks store.old)) }
+    ensures cause { IfErr result (λ e. spec.IsCauseIn e store.old store.new) }
+    ensures no_fault { OnOk result (spec.HasNoFault store.old store.new) }
     ensures ready { OnOk result (repair_due store.new ≡ false) }
     ensures size { size_of store.new ≡ size_of store.old }
     ensures goes_on { spec.GoesOn store.old store.new }
@@ -106,12 +108,14 @@ fn write_image<D: Disk>(store: &mut Store<D>, alloc: Global, image: &Image) -> R
     requires writable { IsWritable image.now }
     requires revision { image.now.revision ≤ 2 ^ 62 }
     requires room { whole_size image.now ≤ limit_of store.old }
-    ensures held { OnOk result ((shown : Image) → Holds store.old shown → Holds store.new image.now) }
-    ensures any_moment { (shown : Image) → Holds store.old shown → Tell D.Disk (disks store.old)
-        → Throughout D.Disk (disks store.old) (disks store.new) (ShowsEither shown image.now) }
-    ensures torn { IfErr result (λ e. (shown : Image) → Holds store.old shown → spec.LeftBy e store.new shown image.now) }
-    ensures cause { IfErr result (λ e. spec.IsCause e (fault_count D.Disk (disks store.old)) (fault_count D.Disk (disks store.new))) }
-    ensures no_fault { OnOk result (fault_count D.Disk (disks store.new) ≡ fault_count D.Disk (disks store.old)) }
+    ensures held { OnOk result ((shown : Image) → Holds store.old shown
+        → Holds store.new image.now) }
+    ensures any_moment { (shown : Image) → Holds store.old shown
+        → spec.Between store.old store.new (ShowsEither shown image.now) }
+    ensures torn { IfErr result (λ e. (shown : Image) → Holds store.old shown
+        → spec.LeftBy e store.new shown image.now) }
+    ensures cause { IfErr result (λ e. spec.IsCauseIn e store.old store.new) }
+    ensures no_fault { OnOk result (spec.HasNoFault store.old store.new) }
     ensures size { OnOk result (size_of store.new ≡ whole_size image.now) }
     ensures ready { OnOk result (repair_due store.new ≡ false) }
     ensures goes_on { spec.GoesOn store.old store.new }
@@ -133,13 +137,17 @@ fn put_record<D: Disk>(
     requires name { HasShortName change }
     requires room { size_of store.old + 10 + length (payload_of change) ≤ limit_of store.old }
     requires inside { LiesIn change (vec_len text.old) }
-    ensures held { OnOk result ((shown next : Image) → Holds store.old shown → edited shown change ≡ Some next → Holds store.new next) }
-    ensures any_moment { (shown next : Image) → Holds store.old shown → edited shown change ≡ Some next → Tell D.Disk (disks store.old)
-        → Throughout D.Disk (disks store.old) (disks store.new) (ShowsEither shown next) }
-    ensures torn { IfErr result (λ e. (shown next : Image) → Holds store.old shown → edited shown change ≡ Some next → spec.LeftBy e store.new shown next) }
-    ensures cause { IfErr result (λ e. spec.IsCause e (fault_count D.Disk (disks store.old)) (fault_count D.Disk (disks store.new))) }
-    ensures no_fault { OnOk result (fault_count D.Disk (disks store.new) ≡ fault_count D.Disk (disks store.old)) }
-    ensures size { OnOk result (size_of store.new ≡ size_of store.old + 10 + length (payload_of change)) }
+    ensures held { OnOk result ((shown next : Image) → Holds store.old shown
+        → edited shown change ≡ Some next → Holds store.new next) }
+    ensures any_moment { (shown next : Image) → Holds store.old shown
+        → edited shown change ≡ Some next
+        → spec.Between store.old store.new (ShowsEither shown next) }
+    ensures torn { IfErr result (λ e. (shown next : Image) → Holds store.old shown
+        → edited shown change ≡ Some next → spec.LeftBy e store.new shown next) }
+    ensures cause { IfErr result (λ e. spec.IsCauseIn e store.old store.new) }
+    ensures no_fault { OnOk result (spec.HasNoFault store.old store.new) }
+    ensures size { OnOk result
+        (size_of store.new ≡ size_of store.old + 10 + length (payload_of change)) }
     ensures ready { OnOk result (repair_due store.new ≡ false) }
     ensures goes_on { spec.GoesOn store.old store.new }
     ensures put { OnOk result (text.new.items ≡ text_after change text.old.items) }
@@ -157,7 +165,7 @@ fn put_record<D: Disk>(
 
 /// Whether a store of an image is written anew before a record of so many bytes.
 pub fn is_due<D: Disk>(store: &Store<D>, image: &Image, size: u64) -> bool
-    ensures { result ≡ spec.due_at (size_of store.now) (limit_of store.now) size (whole_size image.now) }
+    ensures { result ≡ spec.is_due_for store.now image.now size }
 {
     let _size = store.size();
     store.due(size, image.size())
@@ -180,14 +188,16 @@ fn make_room<D: Disk>(
     requires ready { repair_due store.old ≡ false }
     requires writable { IsWritable image.now }
     requires revision { image.now.revision ≤ 2 ^ 62 }
-    requires room { spec.due_at (size_of store.old) (limit_of store.old) size (whole_size image.now) ≡ true → whole_size image.now + size ≤ limit_of store.old }
+    requires room { spec.is_due_for store.old image.now size ≡ true
+        → whole_size image.now + size ≤ limit_of store.old }
     ensures held { OnOk result (Holds store.old image.now → Holds store.new image.now) }
-    ensures any_moment { Holds store.old image.now → Tell D.Disk (disks store.old)
-        → Throughout D.Disk (disks store.old) (disks store.new) (ShowsEither image.now image.now) }
-    ensures torn { IfErr result (λ e. Holds store.old image.now → spec.LeftBy e store.new image.now image.now) }
-    ensures cause { IfErr result (λ e. spec.IsCause e (fault_count D.Disk (disks store.old)) (fault_count D.Disk (disks store.new))) }
-    ensures no_fault { OnOk result (fault_count D.Disk (disks store.new) ≡ fault_count D.Disk (disks store.old)) }
-    ensures size { OnOk result (size_of store.new ≡ spec.room_size (size_of store.old) (limit_of store.old) size (whole_size image.now)) }
+    ensures any_moment { Holds store.old image.now
+        → spec.Between store.old store.new (ShowsEither image.now image.now) }
+    ensures torn { IfErr result (λ e. Holds store.old image.now
+        → spec.LeftBy e store.new image.now image.now) }
+    ensures cause { IfErr result (λ e. spec.IsCauseIn e store.old store.new) }
+    ensures no_fault { OnOk result (spec.HasNoFault store.old store.new) }
+    ensures size { OnOk result (size_of store.new ≡ spec.size_for store.old image.now size) }
     ensures ready { OnOk result (repair_due store.new ≡ false) }
     ensures goes_on { spec.GoesOn store.old store.new }
 {
@@ -202,13 +212,15 @@ pub fn keep_image<D: Disk>(store: &mut Store<D>, alloc: Global, image: &Image) -
     requires writable { IsWritable image.now }
     requires revision { image.now.revision ≤ 2 ^ 62 }
     requires room { whole_size image.now ≤ limit_of store.old }
-    ensures held { OnOk result ((shown : Image) (pending : Option Image) → Stands store.old shown pending → (repair_due store.new ≡ false) × Holds store.new image.now) }
-    ensures torn { IfErr result (λ e. (shown : Image) (pending : Option Image) → Stands store.old shown pending
-        → (after : Option Image) × spec.LeftPending e pending image.now after × Stands store.new shown after) }
-    ensures any_moment { (shown : Image) (pending : Option Image) → Stands store.old shown pending → Tell D.Disk (disks store.old)
-        → Throughout D.Disk (disks store.old) (disks store.new) (ShowsOne shown pending (Some image.now)) }
-    ensures cause { IfErr result (λ e. spec.IsCause e (fault_count D.Disk (disks store.old)) (fault_count D.Disk (disks store.new))) }
-    ensures no_fault { OnOk result (fault_count D.Disk (disks store.new) ≡ fault_count D.Disk (disks store.old)) }
+    ensures held { OnOk result ((shown : Image) (pending : Option Image)
+        → Stands store.old shown pending
+        → (repair_due store.new ≡ false) × Holds store.new image.now) }
+    ensures torn { IfErr result (λ e. (shown : Image) (pending : Option Image)
+        → Stands store.old shown pending → spec.StandsStill e store.new shown pending image.now) }
+    ensures any_moment { (shown : Image) (pending : Option Image) → Stands store.old shown pending
+        → spec.Between store.old store.new (ShowsOne shown pending (Some image.now)) }
+    ensures cause { IfErr result (λ e. spec.IsCauseIn e store.old store.new) }
+    ensures no_fault { OnOk result (spec.HasNoFault store.old store.new) }
     ensures size { OnOk result (size_of store.new ≡ whole_size image.now) }
     ensures goes_on { spec.GoesOn store.old store.new }
 {
@@ -233,16 +245,19 @@ pub fn keep_change<D: Disk>(
     requires writable { IsWritable image.old }
     requires revision { image.old.revision ≤ 2 ^ 62 }
     requires inside { LiesIn prepared.change (length image.old.text) }
-    requires room { spec.room_size (size_of store.old) (limit_of store.old) size (whole_size image.old) + size ≤ limit_of store.old }
-    ensures held { OnOk result ((next : Image) (pending : Option Image) → Stands store.old image.old pending → edited image.old prepared.change ≡ Some next
+    requires room { spec.size_for store.old image.old size + size ≤ limit_of store.old }
+    ensures held { OnOk result ((next : Image) (pending : Option Image)
+        → Stands store.old image.old pending → edited image.old prepared.change ≡ Some next
         → (repair_due store.new ≡ false) × Holds store.new next) }
-    ensures torn { IfErr result (λ e. (next : Image) (pending : Option Image) → Stands store.old image.old pending → edited image.old prepared.change ≡ Some next
-        → (after : Option Image) × spec.LeftPending e pending next after × Stands store.new image.old after) }
-    ensures any_moment { (next : Image) (pending : Option Image) → Stands store.old image.old pending → edited image.old prepared.change ≡ Some next
-        → Tell D.Disk (disks store.old) → Throughout D.Disk (disks store.old) (disks store.new) (ShowsOne image.old pending (Some next)) }
-    ensures cause { IfErr result (λ e. spec.IsCause e (fault_count D.Disk (disks store.old)) (fault_count D.Disk (disks store.new))) }
-    ensures no_fault { OnOk result (fault_count D.Disk (disks store.new) ≡ fault_count D.Disk (disks store.old)) }
-    ensures size { OnOk result (size_of store.new ≡ spec.room_size (size_of store.old) (limit_of store.old) size (whole_size image.old) + size) }
+    ensures torn { IfErr result (λ e. (next : Image) (pending : Option Image)
+        → Stands store.old image.old pending → edited image.old prepared.change ≡ Some next
+        → spec.StandsStill e store.new image.old pending next) }
+    ensures any_moment { (next : Image) (pending : Option Image)
+        → Stands store.old image.old pending → edited image.old prepared.change ≡ Some next
+        → spec.Between store.old store.new (ShowsOne image.old pending (Some next)) }
+    ensures cause { IfErr result (λ e. spec.IsCauseIn e store.old store.new) }
+    ensures no_fault { OnOk result (spec.HasNoFault store.old store.new) }
+    ensures size { OnOk result (size_of store.new ≡ spec.size_for store.old image.old size + size) }
     ensures goes_on { spec.GoesOn store.old store.new }
     ensures made { OnOk result (image.new ≡ next_image image.old prepared) }
     ensures same { OnErr result (image.new ≡ image.old) }
