@@ -1,5 +1,5 @@
 //! A connection, from its first byte to its end.
-ghost use Rattle.std.specs.Prelude.{◌≡◌, ◌⊎◌, ◌≤◌, ◌<◌, ◌+◌, ◌++◌, ℕ, List, [], Some, Ok, Err, true, ◌||◌, ◌==◌, IfSome, IfOk, IfErr, OnOk};
+ghost use Rattle.std.specs.Prelude.{◌≡◌, ◌⊎◌, ◌≤◌, ◌<◌, ◌+◌, ◌++◌, ℕ, List, [], length, Some, Ok, Err, true, ◌||◌, ◌==◌, IfSome, IfOk, IfErr, OnOk};
 ghost use Rattle.web_desk.specs.Answers.{refusal_message};
 ghost use Rattle.web_desk.specs.Calls.{call_at};
 ghost use Rattle.web_desk.specs.Counts.{Counted, CountedIn};
@@ -238,7 +238,8 @@ fn serve_one<A: Ask, K: Link, C: Clock, M: Maker, L: Ledger>(
         (M.last_refused maker.old) (M.last_refused maker.new) entries
         × ((rest : List ℕ) → IsStream (K.coming link.old) incoming.old rest
         → Turned (K.sent link.old) (K.sent link.new) (K.coming link.new) incoming.new at count rest
-        result entries) }
+        result entries)
+        × length entries ≤ 1 }
     ensures size { IfOk result (λ size. size ≤ 8404992) }
     ensures few { OnOk result (count + 1 < most_messages) }
     ensures spent { result ≡ Err ConnEnd.Spent → A.IsSpent ask.new }
@@ -274,12 +275,14 @@ pub fn serve_link<A: Ask, K: Link, C: Clock, M: Maker, L: Ledger>(
 ) -> ConnEnd
     // The entries that were made are those of the messages that asked, in order, each on the clock's day; the maker's
     // count rises with those alone whose pattern was refused; and what was sent, where the link tells it, are the
-    // answers in order, and then the reply that belongs to the end.
+    // answers in order, and then the reply that belongs to the end. They are no more than the messages of a connection
+    // may be, whatever the link tells.
     ensures served { (entries : List Entry) × A.leads ask.old entries ask.new
         × AreAsked (C.always clock.old) (M.refusals maker.old) (M.refusals maker.new)
         (M.last_refused maker.old) (M.last_refused maker.new) entries
         × IfSome (K.coming link.old)
-        (λ bytes. Sends (K.sent link.old) (K.sent link.new) (λ text. Served bytes result entries text)) }
+        (λ bytes. Sends (K.sent link.old) (K.sent link.new) (λ text. Served bytes result entries text))
+        × length entries ≤ most_messages }
     ensures counted { Counted result (K.read_faults link.old) (K.read_faults link.new)
         (K.write_faults link.old) (K.write_faults link.new) }
     ensures spent { result ≡ ConnEnd.Spent → A.IsSpent ask.new }

@@ -1,6 +1,7 @@
 use Rattle.std.proofs.Common.{◌∙◌, [], ◌++◌, sym, subst, refl, lit<, arith}
 use Rattle.web_messages.specs.Unread.{Unread}
 use Rattle.web_desk.proofs.CourseLemmas.{nothing_well, told_well}
+use Rattle.web_desk.proofs.FewEntries.{few_in_all, few_more}
 use Rattle.web_desk.proofs.MakerLemmas.{asked_more, none_asked}
 use Rattle.web_desk.proofs.ServeLemmas.{Ran, ran_start, ran_more, served_end, served_nothing}
 use Rattle.web_desk.proofs.serve.serve_link.Goals as goal
@@ -8,12 +9,12 @@ use Rattle.web_desk.proofs.serve.serve_link.Goals as goal
 pub returns-in_default-clause-served : goal.returns-in_default-clause-served
 returns-in_default-clause-served g c =
     let link = g.K.Link in
-    ([], g.met.A.Ask.none c.args.ask.now, none_asked (g.C.Clock.always c.args.clock.now) (g.M.Maker.refusals c.args.maker.now) (g.M.Maker.last_refused c.args.maker.now), served_nothing (link.coming c.args.link.now) (link.sent c.args.link.now))
+    ([], g.met.A.Ask.none c.args.ask.now, none_asked (g.C.Clock.always c.args.clock.now) (g.M.Maker.refusals c.args.maker.now) (g.M.Maker.last_refused c.args.maker.now), served_nothing (link.coming c.args.link.now) (link.sent c.args.link.now), omega arith)
 
 pub returns-in_default-new-clause-served : goal.returns-in_default-new-clause-served
 returns-in_default-new-clause-served g c =
     let link = g.K.Link in
-    ([], g.met.A.Ask.none c.args.ask.now, none_asked (g.C.Clock.always c.args.clock.now) (g.M.Maker.refusals c.args.maker.now) (g.M.Maker.last_refused c.args.maker.now), served_nothing (link.coming c.args.link.now) (link.sent c.args.link.now))
+    ([], g.met.A.Ask.none c.args.ask.now, none_asked (g.C.Clock.always c.args.clock.now) (g.M.Maker.refusals c.args.maker.now) (g.M.Maker.last_refused c.args.maker.now), served_nothing (link.coming c.args.link.now) (link.sent c.args.link.now), omega arith)
 
 pub messages-init : goal.messages-init
 messages-init g c =
@@ -27,7 +28,7 @@ messages-init g c =
       always = refl;
       reads = refl;
       writes = refl;
-      run = ([], g.met.A.Ask.none c.args.ask.now, none_asked (g.C.Clock.always c.args.clock.now) (g.M.Maker.refusals c.args.maker.now) (g.M.Maker.last_refused c.args.maker.now), subst P (sym c.in-Ok-new.ensures) (ran_start coming sent));
+      run = ([], g.met.A.Ask.none c.args.ask.now, none_asked (g.C.Clock.always c.args.clock.now) (g.M.Maker.refusals c.args.maker.now) (g.M.Maker.last_refused c.args.maker.now), subst P (sym c.in-Ok-new.ensures) (ran_start coming sent), omega arith);
     }
 
 pub returns-in-Err-clause-served : goal.returns-in-Err-clause-served
@@ -43,6 +44,7 @@ returns-in-Err-clause-served g c =
       served_end (link.coming c.args.link.now) (link.sent c.args.link.now) (link.coming c.messages.link) (link.sent c.messages.link)
           (link.coming c.serve_one.new.link) (link.sent c.serve_one.new.link) c.messages.incoming c.serve_one.new.incoming c.messages.at c.messages.count
           c.in-Err.end run.0 one.0 run.3 one.3,
+      few_in_all run.0 one.0 c.messages.count c.messages.invariant.few run.4 one.4,
     )
 
 pub messages-preserved : goal.messages-preserved
@@ -65,6 +67,7 @@ messages-preserved g c =
         ran_more (link.coming c.args.link.now) (link.sent c.args.link.now) (link.coming c.messages.link) (link.sent c.messages.link)
             (link.coming c.serve_one.new.link) (link.sent c.serve_one.new.link) c.messages.incoming c.serve_one.new.incoming c.messages.at c.messages.count
             c.in-Ok-serve_one.size run.0 one.0 run.3 one.3,
+        few_more run.0 one.0 c.messages.count run.4 one.4,
       );
     }
 

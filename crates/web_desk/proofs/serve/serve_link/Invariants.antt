@@ -1,4 +1,4 @@
-use Rattle.std.proofs.Common.{◌≡◌, List, ◌*◌, ◌<◌, ◌≤◌}
+use Rattle.std.proofs.Common.{◌≡◌, List, length, ◌*◌, ◌<◌, ◌≤◌}
 use Rattle.desk.specs.Entries.{Entry}
 use Rattle.web_desk.specs.Makers.{AreAsked}
 use Rattle.web_messages.specs.Streams.{most_messages}
@@ -18,5 +18,6 @@ invariant-messages g l =
       run : (entries : List Entry) × g.A.Ask.leads l.fn.ask entries l.ask
           × AreAsked (g.C.Clock.always l.fn.clock) (g.M.Maker.refusals l.fn.maker) (g.M.Maker.refusals l.maker)
           (g.M.Maker.last_refused l.fn.maker) (g.M.Maker.last_refused l.maker) entries
-          × Ran (link.coming l.fn.link) (link.sent l.fn.link) (link.coming l.link) (link.sent l.link) l.incoming l.at l.count entries;
+          × Ran (link.coming l.fn.link) (link.sent l.fn.link) (link.coming l.link) (link.sent l.link) l.incoming l.at l.count entries
+          × length entries ≤ l.count;
     }

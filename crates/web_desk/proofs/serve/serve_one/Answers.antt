@@ -1,4 +1,4 @@
-use Rattle.std.proofs.Common.{◌∙◌, ℕ, List, [], ◌++◌, true, false, Option, Ok, Err, ap, sym, subst, refl, drop, take}
+use Rattle.std.proofs.Common.{◌∙◌, ℕ, List, [], ◌++◌, true, false, Option, Ok, Err, ap, sym, subst, refl, drop, take, arith}
 use Rattle.std.proofs.lemmas.Result.{err_from_is_err_and}
 use Rattle.web_desk.specs.declared.conn_end.ConnEnd.TheVariants as conn
 use Rattle.web_messages.specs.declared.receive.Next.{Next}
@@ -8,6 +8,7 @@ use Rattle.web_messages.specs.Streams.{is_last}
 use Rattle.web_desk.specs.Turns.{ClosesSo, AnswersSo, StepSo}
 use Rattle.web_desk.specs.Sent.{Sends}
 use Rattle.web_desk.proofs.AnswerLemmas.{sends_more, sends_nothing}
+use Rattle.web_desk.proofs.FewEntries.{one_at_most}
 use Rattle.web_desk.proofs.MakerLemmas.{none_asked}
 use Rattle.web_desk.proofs.ServeLemmas.{stops, finishes_stop, finishes_unread, finishes_failed, finishes_last, step_on, call_is, after_message, one_end, one_on, told_as, last_is, after_use}
 use Rattle.web_desk.proofs.serve.serve_one.Goals as goal
@@ -25,6 +26,7 @@ returns-in_err-stop-clause-served g c =
           (sends_nothing (link.sent c.args.link.now) (link.sent c.read_next.new.link)
           (λ text. Finishes c.args.at c.args.count rest c.in_err-stop.field-0.0 [] text) c.in_err-stop.ensures.sent
           (finishes_unread c.args.at c.args.count rest c.in_err-stop.field-0.0 c.in_err-stop.ensures.broken)),
+      omega arith,
     )
 
 pub returns-in-Stopped-clause-served : goal.returns-in-Stopped-clause-served
@@ -46,6 +48,7 @@ returns-in-Stopped-clause-served g c =
           (λ text closes. finishes_stop c.args.at c.args.count rest c.in-Stopped.stop c.finish.result text
           (stops c.args.count (link.coming c.read_next.new.link) u rest c.in-Stopped.stop (c.in_ok-stop.ensures.stream rest s) stopped) closes)
           (subst S c.in_ok-stop.ensures.sent c.finish.ensures.told)),
+      omega arith,
     )
 
 pub returns-in_err-answer-in-Message-clause-served : goal.returns-in_err-answer-in-Message-clause-served
@@ -76,6 +79,7 @@ returns-in_err-answer-in-Message-clause-served g c =
           (λ text. Finishes c.args.at c.args.count rest end answered.0 text)
           (λ text failed. finishes_failed c.args.at c.args.count rest _ n.0 end answered.0 text n.2
           (after_message n.0 u.bytes n.1 rest stream.0 c.in-Message.total n.3 n.5 stream.2) failed) told),
+      one_at_most (link.sent c.args.link.now) (link.sent c.answer.new.link) (is_last c.args.count n.0) (asks n.0) (Err end) answered.0 told,
     )
 
 pub returns-then-closing-clause-served : goal.returns-then-closing-clause-served
@@ -104,6 +108,7 @@ returns-then-closing-clause-served g c =
           (λ text. Finishes c.args.at c.args.count rest conn.Closed answered.0 text)
           (λ text done. finishes_last c.args.at c.args.count rest _ n.0 answered.0 text n.2
           (after_message n.0 u.bytes n.1 rest stream.0 c.in-Message.total n.3 n.5 stream.2) (sym closing ∙ c.if-closing.true) done) told),
+      one_at_most (link.sent c.args.link.now) (link.sent c.answer.new.link) true (asks n.0) (Ok tt) answered.0 told,
     )
 
 pub returns-else-closing-clause-served : goal.returns-else-closing-clause-served
@@ -133,4 +138,5 @@ returns-else-closing-clause-served g c =
           (λ text. StepSo c.args.at c.args.count rest (drop c.in-Message.total u.bytes ++ stream.0) (Ok c.in-Message.total) answered.0 text)
           (λ text done. step_on c.args.at c.args.count c.in-Message.total rest _ n.0 answered.0 text n.2
           (after_message n.0 u.bytes n.1 rest stream.0 c.in-Message.total n.3 n.5 stream.2) (sym closing ∙ c.if-closing.false) done n.5 c.requires) told),
+      one_at_most (link.sent c.args.link.now) (link.sent c.answer.new.link) false (asks n.0) (Ok tt) answered.0 told,
     )
