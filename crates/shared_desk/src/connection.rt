@@ -1,5 +1,5 @@
 //! One connection to a journal that others serve at the same time.
-ghost use Rattle.std.specs.Prelude.{◌≡◌, List, IfSome};
+ghost use Rattle.std.specs.Prelude.{◌≡◌, ◌≤◌, List, length, IfSome};
 ghost use Rattle.desk.specs.Entries.{Entry};
 ghost use Rattle.shared_desk.specs.Full.{IsFull};
 ghost use Rattle.turn_lock.specs.Growth.{Grown};
@@ -9,7 +9,7 @@ ghost use Rattle.web_desk.specs.Ends.{EndsWell};
 ghost use Rattle.web_desk.specs.Makers.{AreAsked};
 ghost use Rattle.web_desk.specs.Sent.{Sends};
 ghost use Rattle.web_desk.specs.Served.{Served};
-ghost use Rattle.web_messages.specs.Streams.{IsOfWhole};
+ghost use Rattle.web_messages.specs.Streams.{IsOfWhole, most_messages};
 
 use crate::locked::Locked;
 use crate::shared::Shared;
@@ -35,7 +35,8 @@ fn serve_locked<'a, D: Disk, W: Wait, K: Link, C: Clock, M: Maker, L: Ledger>(
         × AreAsked (C.always clock.old) (M.refusals maker.old) (M.refusals maker.new)
         (M.last_refused maker.old) (M.last_refused maker.new) entries
         × IfSome (K.coming link.old)
-        (λ bytes. Sends (K.sent link.old) (K.sent link.new) (λ text. Served bytes result entries text)) }
+        (λ bytes. Sends (K.sent link.old) (K.sent link.new) (λ text. Served bytes result entries text))
+        × length entries ≤ most_messages }
     ensures counted { Counted result
         (K.read_faults link.old) (K.read_faults link.new) (K.write_faults link.old) (K.write_faults link.new) }
     ensures always { C.always clock.new ≡ C.always clock.old }
@@ -61,12 +62,14 @@ pub fn serve_connection<D: Disk, W: Wait, K: Link, C: Clock, M: Maker, L: Ledger
     requires { IsFree turn.now pass.old }
     // The pass grew by the entries of the messages that asked, in order, each on the clock's day; the maker's count rises
     // with those alone whose pattern was refused; and what was sent, where the link tells it, are the answers in order,
-    // and then the reply that belongs to the end.
+    // and then the reply that belongs to the end. The entries are no more than the messages of a connection may be,
+    // whatever the link tells.
     ensures served { (entries : List Entry) × Grown pass.old pass.new entries
         × AreAsked (C.always clock.old) (M.refusals maker.old) (M.refusals maker.new)
         (M.last_refused maker.old) (M.last_refused maker.new) entries
         × IfSome (K.coming link.old)
-        (λ bytes. Sends (K.sent link.old) (K.sent link.new) (λ text. Served bytes result entries text)) }
+        (λ bytes. Sends (K.sent link.old) (K.sent link.new) (λ text. Served bytes result entries text))
+        × length entries ≤ most_messages }
     ensures counted { Counted result
         (K.read_faults link.old) (K.read_faults link.new) (K.write_faults link.old) (K.write_faults link.new) }
     ensures always { C.always clock.new ≡ C.always clock.old }

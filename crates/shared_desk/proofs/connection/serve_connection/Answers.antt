@@ -8,4 +8,4 @@ returns-clause-served g c =
     let new = c.serve_locked.new.ask.pass.now in
     let same : new ≡ c.pass-1.given.0 = search rules in
     let grown = subst (λ old. Grown old new s.0) c.new-ask.ensures.pass s.1 in
-    (s.0, subst (λ last. Grown c.args.pass.now last s.0) same grown, s.2, s.3)
+    (s.0, subst (λ last. Grown c.args.pass.now last s.0) same grown, s.2, s.3, s.4)
