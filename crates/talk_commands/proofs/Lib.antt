@@ -1,6 +1,9 @@
+mod Alone
+mod Closing
 mod Connecting
 mod Faults
 mod Leading
+mod Locking
 mod Making
 mod Sound
 mod Standing

@@ -1,5 +1,5 @@
 -- Why there is no machine of a text, over disks with room that never fail: its text refuses it, or memory ran out.
-use Rattle.std.proofs.Common.{◌≡◌, ◌∙◌, ℕ, ◌≤◌, Bool, true, false, nat_lt, if◌then◌else◌, List, [], ◌∷◌, length, Option, None, Some, inl, inr, refl, subst, arith}
+use Rattle.std.proofs.Common.{◌≡◌, ◌∙◌, ℕ, ◌≤◌, Bool, true, false, nat_lt, if◌then◌else◌, List, [], ◌∷◌, length, Option, None, Some, Result, Ok, Err, inl, inr, refl, sym, subst, arith}
 use Rattle.std.proofs.lemmas.Bool.Decides.{nat_tests}
 use Rattle.hl_base.specs.Causes.{Rose}
 use Rattle.hl_base.specs.Items.{items_of}
@@ -19,11 +19,13 @@ use Rattle.desk.specs.declared.fault.DeskFault.TheVariants as desk_fault
 use Rattle.desk.specs.declared.request.Allow.{Allow}
 use Rattle.store_commands.specs.Asking.{Patterns, of_opening}
 use Rattle.store_making.specs.Refusals.{IsOfText}
+use Rattle.store_making.specs.declared.refusal.JournalRefusal.{JournalRefusal}
+use Rattle.store_making.specs.declared.refusal.JournalRefusal.TheVariants as journal
 use Rattle.web_desk.specs.declared.conn_end.ConnEnd.{ConnEnd}
 use Rattle.talk_commands.specs.Histories.{IsHistory}
 use Rattle.talk_commands.specs.Links.{Wire}
-use Rattle.talk_commands.specs.Memory.{NeverFails, TalkedFrom, begun, room}
-use Rattle.talk_commands.specs.Stores.{IsTalked}
+use Rattle.talk_commands.specs.Memory.{NeverFails, TalkedFrom, TalksFrom, begun, room}
+use Rattle.talk_commands.specs.Stores.{IsTalked, TalksDesk}
 use Rattle.talk_commands.proofs.Sound.{history}
 
 -- a text that loads is within the limit of bytes
@@ -41,6 +43,10 @@ few_bytes text e =
 rises : (before now : ℕ) → now ≡ 0 → Rose before now → ⊥
 rises before now none (inl less) = omega (arith, none, less)
 rises before now none (inr top) = omega (arith, none, top)
+
+-- want of memory is told of any text
+of_memory : (e : JournalRefusal) (fault : Option OpenFault) → e ≡ journal.Memory → IsOfText e fault
+of_memory e fault is = subst (λ (r : JournalRefusal). IsOfText r fault) (sym is) tt
 
 -- two disks that read as empty files, have room and never fail
 pub record AreSound {D : Type 0} (g : Ghosts D) (disks : D × D) : Type 0 where
@@ -75,7 +81,7 @@ module _ {D : Type 0} {g : Ghosts D} (unfailing : (disk : D) (most : ℕ) → g.
       absurd (omega (arith, none, h.1.1))
 
   -- a connection asked such a machine
-  pub talked_from : (text : List ℕ) (level : Allow) (desk : Desk D g) (day : ℕ) (p : Patterns) (w : Wire) (end : ConnEnd) (back : D × D) → fault_of None text ≡ None
+  talked_from : (text : List ℕ) (level : Allow) (desk : Desk D g) (day : ℕ) (p : Patterns) (w : Wire) (end : ConnEnd) (back : D × D) → fault_of None text ≡ None
       → state_of desk ≡ begun text level → NeverFails room desk → (entries : List Entry) × IsTalked desk day p w end back entries
       → TalkedFrom text level day p w end
   talked_from text level desk day p w end back loads is never (entries, talked) = record {
@@ -84,3 +90,9 @@ module _ {D : Type 0} {g : Ghosts D} (unfailing : (disk : D) (most : ℕ) → g.
     history = subst (λ (s : State). IsHistory s entries) is (history room unfailing desk talked.now entries never talked.led);
     held = talked.held;
   }
+
+  -- it did, or memory ran out before
+  pub talks_from : (text : List ℕ) (level : Allow) (desk : Desk D g) (day : ℕ) (p : Patterns) (w : Wire) (r : Result ConnEnd JournalRefusal) (back : D × D)
+      → fault_of None text ≡ None → state_of desk ≡ begun text level → NeverFails room desk → TalksDesk desk day p w r back → TalksFrom text level day p w r
+  talks_from text level desk day p w (Ok end) back loads is never talked = talked_from text level desk day p w end back loads is never talked
+  talks_from text level desk day p w (Err e) back loads is never refused = (of_memory e (fault_of None text) refused.0, refused.2, refused.3)

@@ -50,6 +50,11 @@ pub record IsTalked {D : Type 0} {g : Disks D} (desk : Desk D g) (day : ℕ) (p 
   pub held : IsHeld day p w end entries
   pub returned : back ≡ disks now.store
 
+-- A connection asked a machine, and its disks came back; or memory ran out before, and they came back as they were.
+abbrev pub TalksDesk : {D : Type 0} {g : Disks D} → Desk D g → ℕ → Patterns → Wire → Result ConnEnd JournalRefusal → D × D → Type 0
+TalksDesk desk day p w (Ok end) back = (entries : List Entry) × IsTalked desk day p w end back entries
+TalksDesk desk day p w (Err e) back = (e ≡ journal.Memory) × (back ≡ disks desk.store) × PatternsStay p × IsSilent w
+
 -- Two disks were opened as a machine that a connection asked by these entries.
 abbrev pub AskedBy : {D : Type 0} → Disks D → Allow → D × D → D × D → ℕ → Patterns → Wire → ConnEnd → List Entry → Type 0
 AskedBy {D} g level old new day p w end entries = (desk : Desk D g) × IsOpened g level old desk × IsTalked desk day p w end new entries

@@ -16,6 +16,7 @@ use hl_base::{Link, MemDisk, Memory, Steps};
 use live_journal::load_book;
 use query::Maker;
 use std::alloc::Global;
+use std::sync::Wait;
 use std::sync::ledger::Ledger;
 use store_making::{JournalRefusal, of_text};
 use web_desk::ConnEnd;
@@ -76,7 +77,8 @@ fn machine_of<L: Ledger>(
 /// Answers the messages that come over a link, up to the end of the connection, from a journal in memory that begins as a text.
 /// The text has no year before it. It is judged first: where it has more than 16,777,216 bytes or 200,000 items, or a fault,
 /// that is told, and nothing is read of the link or sent over it.
-pub fn talk_from<K: Link, M: Maker, L: Ledger>(
+pub fn talk_from<W: Wait, K: Link, M: Maker, L: Ledger>(
+    rt: &W,
     alloc: Global,
     text: &[u8],
     terms: Terms,
@@ -94,8 +96,8 @@ pub fn talk_from<K: Link, M: Maker, L: Ledger>(
     }
     match machine_of(alloc, text, terms.allow, steps) {
         Ok(desk) => {
-            let (_, _, end) = talk_desk(alloc, desk, terms.day, link, maker, steps);
-            Ok(end)
+            let (_, _, end) = talk_desk(rt, alloc, desk, terms.day, link, maker, steps);
+            end
         }
         Err(refusal) => Err(refusal),
     }

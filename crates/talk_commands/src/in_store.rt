@@ -11,6 +11,7 @@ use desk::Desk;
 use hl_base::{Disk, Link, Shelf, Steps, Text};
 use query::Maker;
 use std::alloc::Global;
+use std::sync::Wait;
 use std::sync::ledger::Ledger;
 use store_making::{JournalRefusal, of_store};
 use store_text::{give_back_disks, second_name, take_disks};
@@ -25,7 +26,8 @@ pub struct StoreTalk {
 
 /// Opens two disks as a machine, answers a link from it, and closes it: the disks, and the connection's end, or why it wasn't
 /// opened.
-fn talk_disks<D: Disk, K: Link, M: Maker, L: Ledger>(
+fn talk_disks<D: Disk, W: Wait, K: Link, M: Maker, L: Ledger>(
+    rt: &W,
     alloc: Global,
     disks: (D, D),
     terms: Terms,
@@ -40,10 +42,7 @@ fn talk_disks<D: Disk, K: Link, M: Maker, L: Ledger>(
 {
     let (first, second) = disks;
     match Desk::open(alloc, first, second, terms.allow, steps) {
-        Ok(desk) => {
-            let (first, second, end) = talk_desk(alloc, desk, terms.day, link, maker, steps);
-            (first, second, Ok(end))
-        }
+        Ok(desk) => talk_desk(rt, alloc, desk, terms.day, link, maker, steps),
         Err((first, second, fault)) => (first, second, Err(refusal_of(fault))),
     }
 }
@@ -53,7 +52,8 @@ fn talk_disks<D: Disk, K: Link, M: Maker, L: Ledger>(
 /// made where it is absent. It is refused where the first file is absent, where the files are no store or one of a later edition,
 /// where its text makes no journal, where a disk couldn't be taken, where a call of a disk failed, and where memory ran out. Then
 /// nothing is read of the link or sent over it.
-pub fn talk_store<S: Shelf, K: Link, M: Maker, L: Ledger>(
+pub fn talk_store<S: Shelf, W: Wait, K: Link, M: Maker, L: Ledger>(
+    rt: &W,
     alloc: Global,
     talk: &StoreTalk,
     shelf: &mut S,
@@ -71,7 +71,7 @@ pub fn talk_store<S: Shelf, K: Link, M: Maker, L: Ledger>(
     };
     match take_disks(alloc, shelf, &talk.store, &beside, false) {
         Ok(disks) => {
-            let (first, second, end) = talk_disks(alloc, disks, talk.terms, link, maker, steps);
+            let (first, second, end) = talk_disks(rt, alloc, disks, talk.terms, link, maker, steps);
             give_back_disks(shelf, &talk.store, &beside, first, second);
             end
         }
