@@ -26,6 +26,7 @@ use hl_time::Day;
 use query::Maker;
 use refusals::Refusal;
 use std::alloc::Global;
+use std::sync::Wait;
 use std::sync::ledger::Ledger;
 
 /// An exit status.
@@ -139,7 +140,8 @@ fn run_stored<J: Source, O: Sink, E: Sink, S: Shelf, M: Maker, L: Ledger>(
 }
 
 /// Runs one connection over the input and the output, and tells how it ended, or why there was none.
-fn run_talk<J: Source, O: Sink, E: Sink, S: Shelf, M: Maker, L: Ledger>(
+fn run_talk<J: Source, O: Sink, E: Sink, S: Shelf, M: Maker, W: Wait, L: Ledger>(
+    rt: &W,
     alloc: Global,
     what: Talking,
     day: Day,
@@ -152,7 +154,7 @@ fn run_talk<J: Source, O: Sink, E: Sink, S: Shelf, M: Maker, L: Ledger>(
     ensures talked { RunsTalk (scene J.Source O.Sink E.Sink S.Shelf M.Maker)
         (soundness J.Source O.Sink E.Sink S.Shelf) S.Shelf S.Disk.Disk M.Maker what day result.0 outside.old outside.new }
 {
-    match talk(alloc, what, day, outside, steps) {
+    match talk(rt, alloc, what, day, outside, steps) {
         Ok(end) => tell_end(&mut outside.err, end),
         Err(refusal) => refuse(&mut outside.err, &refusal),
     }
@@ -182,7 +184,8 @@ fn run_sample<J: Source, O: Sink, E: Sink, S: Shelf, M: Maker, L: Ledger>(
 }
 
 /// Runs what is asked for.
-fn run_task<J: Source, O: Sink, E: Sink, S: Shelf, M: Maker, L: Ledger>(
+fn run_task<J: Source, O: Sink, E: Sink, S: Shelf, M: Maker, W: Wait, L: Ledger>(
+    rt: &W,
     alloc: Global,
     task: Task,
     day: Day,
@@ -207,7 +210,7 @@ fn run_task<J: Source, O: Sink, E: Sink, S: Shelf, M: Maker, L: Ledger>(
     match task {
         Task::Over(given) => run_text(alloc, &given, day, outside, steps),
         Task::Stored(what) => run_stored(alloc, what, day, outside, steps),
-        Task::Talk(what) => run_talk(alloc, what, day, outside, steps),
+        Task::Talk(what) => run_talk(rt, alloc, what, day, outside, steps),
         Task::Sample(count) => run_sample(alloc, count, outside, steps),
         Task::Help => finish(
             &mut outside.streams.output,
@@ -229,9 +232,11 @@ fn run_task<J: Source, O: Sink, E: Sink, S: Shelf, M: Maker, L: Ledger>(
 /// disk of the store failed; 6 where memory ran out; 7 where the text, what rules make or a report is past a limit; and 8
 /// where there is no file or no store of that name. Dates without a year have that of the day, and in a store they don't
 /// read. `talk` answers the requests of one connection over the input and the output, to a journal in memory that begins as the
-/// text of a file or empty, or to a store; what a request is answered sets no status, but how the connection ends does. No
-/// file is changed but those of a store: one that is read keeps its image.
-pub fn run<J: Source, O: Sink, E: Sink, S: Shelf, M: Maker, L: Ledger>(
+/// text of a file or empty, or to a store; what a request is answered sets no status, but how the connection ends does. It alone
+/// may wait: for the lock under which its journal lies, of which nobody else has a pass. No file is changed but those of a
+/// store: one that is read keeps its image.
+pub fn run<J: Source, O: Sink, E: Sink, S: Shelf, M: Maker, W: Wait, L: Ledger>(
+    rt: &W,
     alloc: Global,
     words: &[Text],
     day: Day,
@@ -253,7 +258,7 @@ pub fn run<J: Source, O: Sink, E: Sink, S: Shelf, M: Maker, L: Ledger>(
         (soundness J.Source O.Sink E.Sink S.Shelf) S.Shelf S.Disk.Disk M.Maker day result.0 outside.old outside.new (task_of day.0 words.now) }
 {
     match read_words(alloc, words, day) {
-        Ok(task) => run_task(alloc, task, day, outside, steps),
+        Ok(task) => run_task(rt, alloc, task, day, outside, steps),
         Err(fault) => refuse(&mut outside.err, &refuse_words(alloc, words, &fault)),
     }
 }

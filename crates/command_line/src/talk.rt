@@ -15,12 +15,14 @@ use hl_time::Day;
 use query::Maker;
 use refusals::Refusal;
 use std::alloc::Global;
+use std::sync::Wait;
 use std::sync::ledger::Ledger;
 use talk_commands::{StoreTalk, Terms, talk_from, talk_store};
 use web_desk::{ConnEnd, Way};
 
 /// One connection to a journal in memory that begins as a text.
-fn talk_text<J: Source, O: Sink, E: Sink, S: Shelf, M: Maker, L: Ledger>(
+fn talk_text<J: Source, O: Sink, E: Sink, S: Shelf, M: Maker, W: Wait, L: Ledger>(
+    rt: &W,
     alloc: Global,
     text: &[u8],
     terms: Terms,
@@ -33,6 +35,7 @@ fn talk_text<J: Source, O: Sink, E: Sink, S: Shelf, M: Maker, L: Ledger>(
     ensures kind { IfErr result IsOfStored }
 {
     match talk_from(
+        rt,
         alloc,
         text,
         terms,
@@ -46,7 +49,8 @@ fn talk_text<J: Source, O: Sink, E: Sink, S: Shelf, M: Maker, L: Ledger>(
 }
 
 /// One connection to a journal in memory that begins as the text of a file.
-fn talk_file<J: Source, O: Sink, E: Sink, S: Shelf, M: Maker, L: Ledger>(
+fn talk_file<J: Source, O: Sink, E: Sink, S: Shelf, M: Maker, W: Wait, L: Ledger>(
+    rt: &W,
     alloc: Global,
     name: Text,
     terms: Terms,
@@ -60,13 +64,14 @@ fn talk_file<J: Source, O: Sink, E: Sink, S: Shelf, M: Maker, L: Ledger>(
 {
     let source = Origin::File(name);
     match read_text(alloc, &source, outside) {
-        Ok(text) => talk_text(alloc, text.as_slice(), terms, outside, steps),
+        Ok(text) => talk_text(rt, alloc, text.as_slice(), terms, outside, steps),
         Err(refusal) => Err(refusal),
     }
 }
 
 /// One connection to a store.
-fn talk_over<J: Source, O: Sink, E: Sink, S: Shelf, M: Maker, L: Ledger>(
+fn talk_over<J: Source, O: Sink, E: Sink, S: Shelf, M: Maker, W: Wait, L: Ledger>(
+    rt: &W,
     alloc: Global,
     talk: &StoreTalk,
     outside: &mut Outside<J, O, E, S, M>,
@@ -78,6 +83,7 @@ fn talk_over<J: Source, O: Sink, E: Sink, S: Shelf, M: Maker, L: Ledger>(
     ensures kind { IfErr result IsOfStored }
 {
     match talk_store(
+        rt,
         alloc,
         talk,
         &mut outside.shelf,
@@ -91,7 +97,8 @@ fn talk_over<J: Source, O: Sink, E: Sink, S: Shelf, M: Maker, L: Ledger>(
 }
 
 /// One connection over the input and the output, on a day: how it ended, or why there was none.
-pub(crate) fn talk<J: Source, O: Sink, E: Sink, S: Shelf, M: Maker, L: Ledger>(
+pub(crate) fn talk<J: Source, O: Sink, E: Sink, S: Shelf, M: Maker, W: Wait, L: Ledger>(
+    rt: &W,
     alloc: Global,
     what: Talking,
     day: Day,
@@ -106,11 +113,11 @@ pub(crate) fn talk<J: Source, O: Sink, E: Sink, S: Shelf, M: Maker, L: Ledger>(
     let Talking { origin, allow } = what;
     let terms = Terms { allow, day };
     match origin {
-        Origin::Input => talk_text(alloc, &[], terms, outside, steps),
-        Origin::File(name) => talk_file(alloc, name, terms, outside, steps),
+        Origin::Input => talk_text(rt, alloc, &[], terms, outside, steps),
+        Origin::File(name) => talk_file(rt, alloc, name, terms, outside, steps),
         Origin::Store(store) => {
             let talk = StoreTalk { store, terms };
-            talk_over(alloc, &talk, outside, steps)
+            talk_over(rt, alloc, &talk, outside, steps)
         }
     }
 }
