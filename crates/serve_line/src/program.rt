@@ -128,7 +128,8 @@ fn run_serve<
 }
 
 /// Runs what other words ask for; the house isn't asked.
-fn run_other<J: Source, O: Sink, E: Sink, S: Shelf, M: Maker, H: House, L: Ledger>(
+fn run_other<J: Source, O: Sink, E: Sink, S: Shelf, M: Maker, H: House, W: Wait, L: Ledger>(
+    rt: &W,
     alloc: Global,
     words: &[Text],
     day: Day,
@@ -138,7 +139,7 @@ fn run_other<J: Source, O: Sink, E: Sink, S: Shelf, M: Maker, H: House, L: Ledge
     requires { IsDay day.0 }
     ensures { RunsOther J.Source O.Sink E.Sink S.Shelf S.Disk.Disk M.Maker words.now day result.0 site.old site.new }
 {
-    run(alloc, words, day, &mut site.outside, steps)
+    run(rt, alloc, words, day, &mut site.outside, steps)
 }
 
 /// Runs the program. Where the first word is `serve`, the store that the words name is opened and served at the doors of the house
@@ -173,6 +174,6 @@ pub fn run_program<
     if asks_serve(words) {
         run_serve(rt, alloc, words, site, steps)
     } else {
-        run_other(alloc, words, day, site, steps)
+        run_other(rt, alloc, words, day, site, steps)
     }
 }
