@@ -10,6 +10,7 @@ use hl_time::Day;
 use query::{ListMaker, Maker};
 use std::alloc::Global;
 use std::marker::Brand;
+use std::sync::Wait;
 use std::sync::ledger::{Blank, Ledger};
 
 /// The words, the input, and the numbers of the reads and writes that are to fail.
@@ -79,17 +80,27 @@ fn maker_of(alloc: Global, beside: &Beside) -> Result<ListMaker, Memory> {
 }
 
 /// Runs the program on the case, beside a file.
-pub fn answer_beside(alloc: Global, case: &Case, beside: &Beside) -> Result<Seen, Memory> {
+pub fn answer_beside<W: Wait>(
+    rt: &W,
+    alloc: Global,
+    case: &Case,
+    beside: &Beside,
+) -> Result<Seen, Memory> {
     let input = MemSource::new(alloc, case.text, case.read_fails)?;
-    counted::<Brand, MemSource>(alloc, Blank::new(3), case, input, beside)
+    counted::<Brand, MemSource, W>(rt, alloc, Blank::new(3), case, input, beside)
 }
 
 /// Runs the program on the case, where a read gives at most so many bytes.
-pub fn answer_in_cuts(alloc: Global, case: &Case, most: usize) -> Result<Seen, Memory>
+pub fn answer_in_cuts<W: Wait>(
+    rt: &W,
+    alloc: Global,
+    case: &Case,
+    most: usize,
+) -> Result<Seen, Memory>
     requires { 0 < most }
 {
     let input = Cuts::new(alloc, case.text, case.read_fails, most)?;
-    counted::<Brand, Cuts>(alloc, Blank::new(3), case, input, &nothing())
+    counted::<Brand, Cuts, W>(rt, alloc, Blank::new(3), case, input, &nothing())
 }
 
 /// The words of a case.
@@ -101,7 +112,8 @@ fn words_of(alloc: Global, case: &Case) -> Result<Vec<Text>, Memory> {
     Ok(words)
 }
 
-fn counted<L: Ledger, J: Source + Drop>(
+fn counted<L: Ledger, J: Source + Drop, W: Wait>(
+    rt: &W,
     alloc: Global,
     blank: Blank,
     case: &Case,
@@ -122,6 +134,7 @@ fn counted<L: Ledger, J: Source + Drop>(
     };
     let mut steps = Steps::<L>::start(blank);
     let status = run(
+        rt,
         alloc,
         words.as_slice(),
         Day(739_052),

@@ -81,7 +81,7 @@ fn runs_each_command(rt: HostRuntime) -> Result<(), Fail> {
             b"".as_slice(),
         ),
     ] {
-        let seen = answer_beside(rt.alloc(), &case_of(words, BREAD), &beside)?;
+        let seen = answer_beside(&rt, rt.alloc(), &case_of(words, BREAD), &beside)?;
         expect(&rt, &seen, status, output, error, "a command");
     }
     Ok(())
@@ -138,7 +138,7 @@ fn tells_faults_of_the_outside(rt: HostRuntime) -> Result<(), Fail> {
             write_fails,
             error_fails,
         };
-        let seen = answer_beside(rt.alloc(), &case, &nothing())?;
+        let seen = answer_beside(&rt, rt.alloc(), &case, &nothing())?;
         expect(&rt, &seen, status, b"", error, "a fault");
     }
     Ok(())
@@ -168,7 +168,7 @@ fn tells_a_load_that_fails(rt: HostRuntime) -> Result<(), Fail> {
             refused: "a.c",
         };
         let case = case_of(&["accounts", "-f", "home", "food"], BREAD);
-        let seen = answer_beside(rt.alloc(), &case, &beside)?;
+        let seen = answer_beside(&rt, rt.alloc(), &case, &beside)?;
         expect(&rt, &seen, status, output, error, "a load");
     }
     Ok(())

@@ -58,7 +58,7 @@ fn reads_a_store(rt: HostRuntime) -> Result<(), Fail> {
             disk_fails,
             refused: "a.c",
         };
-        let seen = answer_beside(rt.alloc(), &case_of(words, b""), &beside)?;
+        let seen = answer_beside(&rt, rt.alloc(), &case_of(words, b""), &beside)?;
         expect(&rt, &seen, status, output, error, "a store");
     }
     Ok(())

@@ -12,9 +12,9 @@ const GET_AND_ADD: &[u8] =
 fn answers_the_same_byte_by_byte(rt: HostRuntime) -> Result<(), Fail> {
     let sent = joined(rt.alloc(), LISTED, ADDED)?;
     let case = case_of(&["talk"], GET_AND_ADD);
-    let seen = answer_beside(rt.alloc(), &case, &nothing())?;
+    let seen = answer_beside(&rt, rt.alloc(), &case, &nothing())?;
     expect(&rt, &seen, 0, sent.as_slice(), b"", "at once");
-    let seen = answer_in_cuts(rt.alloc(), &case, 1)?;
+    let seen = answer_in_cuts(&rt, rt.alloc(), &case, 1)?;
     expect(&rt, &seen, 0, sent.as_slice(), b"", "byte by byte");
     Ok(())
 }
@@ -75,7 +75,7 @@ fn tells_faults_of_a_connection(rt: HostRuntime) -> Result<(), Fail> {
             write_fails,
             error_fails,
         };
-        let seen = answer_beside(rt.alloc(), &case, &nothing())?;
+        let seen = answer_beside(&rt, rt.alloc(), &case, &nothing())?;
         expect(&rt, &seen, status, sent, error, "a fault");
     }
     Ok(())
