@@ -1,5 +1,5 @@
 -- One connection over a link, and the entries that it made.
-use Rattle.std.specs.Prelude.{◌≡◌, ◌≢◌, ℕ, ◌+◌, ◌^◌, List, length, Option, IfSome}
+use Rattle.std.specs.Prelude.{◌≡◌, ◌≢◌, ℕ, List, Option, IfSome}
 use Rattle.hl_base.specs.declared.link.Link.{Ghosts as Links}
 use Rattle.web_messages.specs.Streams.{IsOfWhole}
 use Rattle.desk.specs.Entries.{Entry}
@@ -43,10 +43,8 @@ pub record IsHeld (day : ℕ) (p : Patterns) (w : Wire) (end : ConnEnd) (entries
   pub maker : TellsEntries p.before p.now p.last_before p.last_now entries
   -- a fault of the link was counted as one of its way
   pub counted : Counted end w.read_faults w.read_faults_now w.write_faults w.write_faults_now
-  -- the one who was asked was spent only where the history has room for no other entry than these, and never where the link
-  -- tells what comes
-  pub full : end ≡ conn.Spent → length entries + 1 ≡ 2 ^ 63
-  pub unspent : IfSome w.coming (λ bytes. end ≢ conn.Spent)
+  -- the one who was asked is never spent: a connection has fewer entries than the lock's history has room for
+  pub unspent : end ≢ conn.Spent
   -- a stream of whole messages within the limits is answered to its end, unless the connection breaks off before
   pub whole : IfSome w.coming (λ bytes. IsOfWhole bytes → EndsWell end)
 

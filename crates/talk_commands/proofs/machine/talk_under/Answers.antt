@@ -32,4 +32,4 @@ returns g c =
     talked lock c.args.lock.1 s.new.pass closed.result.1 lock.opening.desk closed.result.0.desk served.0
     c.requires.first c.requires.done served.1 closed.ensures.pass closed.ensures.led closed.ensures.whole
     c.args.day.0 (told_by g.M.Maker c.args.maker.now s.new.maker) (wire g.K.Link c.args.link.now s.new.link) s.result (back.result.0, back.result.1)
-    (of_day _ c.args.day.0 served.0 c.new-clock.ensures served.2.0) served.3 served.2.1 s.ensures.counted s.ensures.sound s.ensures.spent back.ensures
+    (of_day _ c.args.day.0 served.0 c.new-clock.ensures served.2.0) served.3 served.2.1 s.ensures.counted s.ensures.sound s.ensures.spent back.ensures served.4
