@@ -1,3 +1,4 @@
 mod Choosing
 mod Digits
+pub mod Plain
 mod Saying

@@ -1,5 +1,6 @@
 pub mod Chores
 pub mod Commands
+pub mod Connections
 pub mod Limits
 pub mod Said
 pub mod StoreWords
