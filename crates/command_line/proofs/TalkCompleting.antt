@@ -68,9 +68,7 @@ held_end : (day : ℕ) (p : Patterns) (w : Wire) (end : ConnEnd) (entries : List
 held_end day p w end entries bytes held is whole reads writes =
     let F : Option (List ℕ) → Type 0 = λ o. IfSome o (λ b. IsOfWhole b → EndsWell end) in
     let well : F (Some bytes) = subst F is held.whole in
-    let U : Option (List ℕ) → Type 0 = λ o. IfSome o (λ b. end ≢ conn.Spent) in
-    let unspent : U (Some bytes) = subst U is held.unspent in
-    end_by end w.read_faults w.read_faults_now w.write_faults w.write_faults_now (well whole) held.counted unspent reads writes
+    end_by end w.read_faults w.read_faults_now w.write_faults w.write_faults_now (well whole) held.counted held.unspent reads writes
 
 -- its end is told
 told_end : (end : ConnEnd) (status : ℕ) (old new : Option (List ℕ)) (fo fn : ℕ) → (end ≡ conn.Closed) ⊎ (end ≡ conn.Memory) → (Rose fo fn → ⊥)
