@@ -16,5 +16,5 @@ mod streams;
 mod talk;
 
 pub use outside::Outside;
-pub use program::{Status, run, say};
+pub use program::{Status, asks_talk, run, run_waiting, say};
 pub use streams::Streams;

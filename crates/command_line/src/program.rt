@@ -1,10 +1,12 @@
 //! The program's run over its words, its input, its files and its outputs.
-ghost use Rattle.std.specs.Prelude.{◌≡◌, ◌≢◌, ◌⊎◌, ◌≤◌, length};
+ghost use Rattle.std.specs.Prelude.{◌≡◌, ◌≢◌, ◌⊎◌, ◌≤◌, codes, false, length};
+ghost use Rattle.std.specs.Str.{bytes_eq};
 ghost use Rattle.hl_base.specs.Causes.{Rose};
 ghost use Rattle.hl_time.specs.Calendar.{IsDay};
 ghost use Rattle.book_commands.specs.Works.{IsWorkable};
 ghost use Rattle.command_line.specs.Answers.{IsStatus, Says, Wrote, WrotePrefix, line_of, status_of};
 ghost use Rattle.command_words.specs.Commands.{IsReadable, task_of};
+ghost use Rattle.command_words.specs.Connections.{IsPlain, talks};
 ghost use Rattle.command_line.specs.Complete.{Completes, CompletesTask};
 ghost use Rattle.refusals.specs.Errors.{write_fault_line};
 ghost use Rattle.command_line.specs.Runs.{RunsText, TextSoundly, Runs, RunsSoundly, RunsTask, TaskSoundly};
@@ -183,8 +185,50 @@ fn run_sample<J: Source, O: Sink, E: Sink, S: Shelf, M: Maker, L: Ledger>(
     }
 }
 
-/// Runs what is asked for.
-fn run_task<J: Source, O: Sink, E: Sink, S: Shelf, M: Maker, W: Wait, L: Ledger>(
+/// Runs what is asked for that is no connection: it waits for nobody.
+fn run_task<J: Source, O: Sink, E: Sink, S: Shelf, M: Maker, L: Ledger>(
+    alloc: Global,
+    task: Task,
+    day: Day,
+    outside: &mut Outside<J, O, E, S, M>,
+    steps: &mut Steps<L>,
+) -> Status
+    requires day { IsDay day.0 }
+    requires valid { IsReadable task }
+    requires plain { IsPlain task }
+    ensures statuses { IsStatus result.0 }
+    ensures runs { RunsTask day.0 result.0
+        (scene J.Source O.Sink E.Sink S.Shelf M.Maker outside.old)
+        (scene J.Source O.Sink E.Sink S.Shelf M.Maker outside.new) task }
+    ensures sound { TaskSoundly day.0 result.0
+        (scene J.Source O.Sink E.Sink S.Shelf M.Maker outside.old)
+        (soundness J.Source O.Sink E.Sink S.Shelf outside.old) task }
+    ensures complete { CompletesTask day.0 result.0
+        (scene J.Source O.Sink E.Sink S.Shelf M.Maker outside.old)
+        (scene J.Source O.Sink E.Sink S.Shelf M.Maker outside.new) task }
+    ensures stored { StoresTask J.Source (scene J.Source O.Sink E.Sink S.Shelf M.Maker)
+        (soundness J.Source O.Sink E.Sink S.Shelf) S.Shelf S.Disk.Disk M.Maker day result.0 outside.old outside.new task }
+{
+    match task {
+        Task::Over(given) => run_text(alloc, &given, day, outside, steps),
+        Task::Stored(what) => run_stored(alloc, what, day, outside, steps),
+        Task::Talk(_) => unreachable!(),
+        Task::Sample(count) => run_sample(alloc, count, outside, steps),
+        Task::Help => finish(
+            &mut outside.streams.output,
+            &mut outside.err,
+            help_text().as_bytes(),
+        ),
+        Task::Version => finish(
+            &mut outside.streams.output,
+            &mut outside.err,
+            version_text().as_bytes(),
+        ),
+    }
+}
+
+/// Runs what is asked for: only a connection may wait.
+fn run_any_task<J: Source, O: Sink, E: Sink, S: Shelf, M: Maker, W: Wait, L: Ledger>(
     rt: &W,
     alloc: Global,
     task: Task,
@@ -208,34 +252,59 @@ fn run_task<J: Source, O: Sink, E: Sink, S: Shelf, M: Maker, W: Wait, L: Ledger>
         (soundness J.Source O.Sink E.Sink S.Shelf) S.Shelf S.Disk.Disk M.Maker day result.0 outside.old outside.new task }
 {
     match task {
-        Task::Over(given) => run_text(alloc, &given, day, outside, steps),
-        Task::Stored(what) => run_stored(alloc, what, day, outside, steps),
         Task::Talk(what) => run_talk(rt, alloc, what, day, outside, steps),
-        Task::Sample(count) => run_sample(alloc, count, outside, steps),
-        Task::Help => finish(
-            &mut outside.streams.output,
-            &mut outside.err,
-            help_text().as_bytes(),
-        ),
-        Task::Version => finish(
-            &mut outside.streams.output,
-            &mut outside.err,
-            version_text().as_bytes(),
-        ),
+        other => run_task(alloc, other, day, outside, steps),
     }
 }
 
-/// Runs the program: reads what the words ask for, and writes the answer or the line that says why there is none.
-/// The status is 0 where all was done; 1 where the text has a fault, the query, a rule or the range of a report refuses, a
-/// check fails, accounts can't be closed, a time log isn't read, or a connection ended badly; 2 where the words have no
-/// reading; 3 where the input, the file or the store couldn't be read; 4 where an output couldn't be written; 5 where a
-/// disk of the store failed; 6 where memory ran out; 7 where the text, what rules make or a report is past a limit; and 8
-/// where there is no file or no store of that name. Dates without a year have that of the day, and in a store they don't
-/// read. `talk` answers the requests of one connection over the input and the output, to a journal in memory that begins as the
-/// text of a file or empty, or to a store; what a request is answered sets no status, but how the connection ends does. It alone
-/// may wait: for the lock under which its journal lies, of which nobody else has a pass. No file is changed but those of a
-/// store: one that is read keeps its image.
-pub fn run<J: Source, O: Sink, E: Sink, S: Shelf, M: Maker, W: Wait, L: Ledger>(
+/// Whether a word is `talk`.
+fn names_talk(word: &Text) -> bool
+    ensures { result ≡ bytes_eq word.now (codes "talk") }
+{
+    word.as_bytes() == b"talk".as_slice()
+}
+
+/// Whether the words are those of a connection: the first is `talk`.
+pub fn asks_talk(words: &[Text]) -> bool
+    ensures { result ≡ talks words.now }
+{
+    match words {
+        [] => false,
+        [word, ..] => names_talk(word),
+    }
+}
+
+/// Runs the program over words whose first isn't `talk`, as `run_waiting` does over any: without a handle it waits for nobody.
+pub fn run<J: Source, O: Sink, E: Sink, S: Shelf, M: Maker, L: Ledger>(
+    alloc: Global,
+    words: &[Text],
+    day: Day,
+    outside: &mut Outside<J, O, E, S, M>,
+    steps: &mut Steps<L>,
+) -> Status
+    requires day { IsDay day.0 }
+    requires plain { talks words.now ≡ false }
+    ensures statuses { IsStatus result.0 }
+    ensures runs { Runs words.now day.0 result.0
+        (scene J.Source O.Sink E.Sink S.Shelf M.Maker outside.old)
+        (scene J.Source O.Sink E.Sink S.Shelf M.Maker outside.new) (task_of day.0 words.now) }
+    ensures sound { RunsSoundly words.now day.0 result.0
+        (scene J.Source O.Sink E.Sink S.Shelf M.Maker outside.old)
+        (soundness J.Source O.Sink E.Sink S.Shelf outside.old) (task_of day.0 words.now) }
+    ensures complete { Completes day.0 result.0
+        (scene J.Source O.Sink E.Sink S.Shelf M.Maker outside.old)
+        (scene J.Source O.Sink E.Sink S.Shelf M.Maker outside.new) (task_of day.0 words.now) }
+    ensures stored { Stores J.Source (scene J.Source O.Sink E.Sink S.Shelf M.Maker)
+        (soundness J.Source O.Sink E.Sink S.Shelf) S.Shelf S.Disk.Disk M.Maker day result.0 outside.old outside.new (task_of day.0 words.now) }
+{
+    match read_words(alloc, words, day) {
+        Ok(task) => run_task(alloc, task, day, outside, steps),
+        Err(fault) => refuse(&mut outside.err, &refuse_words(alloc, words, &fault)),
+    }
+}
+
+/// Runs what words ask for that may be those of a connection.
+fn run_words<J: Source, O: Sink, E: Sink, S: Shelf, M: Maker, W: Wait, L: Ledger>(
     rt: &W,
     alloc: Global,
     words: &[Text],
@@ -258,7 +327,46 @@ pub fn run<J: Source, O: Sink, E: Sink, S: Shelf, M: Maker, W: Wait, L: Ledger>(
         (soundness J.Source O.Sink E.Sink S.Shelf) S.Shelf S.Disk.Disk M.Maker day result.0 outside.old outside.new (task_of day.0 words.now) }
 {
     match read_words(alloc, words, day) {
-        Ok(task) => run_task(rt, alloc, task, day, outside, steps),
+        Ok(task) => run_any_task(rt, alloc, task, day, outside, steps),
         Err(fault) => refuse(&mut outside.err, &refuse_words(alloc, words, &fault)),
+    }
+}
+
+/// Runs the program: reads what the words ask for, and writes the answer or the line that says why there is none.
+/// The status is 0 where all was done; 1 where the text has a fault, the query, a rule or the range of a report refuses, a
+/// check fails, accounts can't be closed, a time log isn't read, or a connection ended badly; 2 where the words have no
+/// reading; 3 where the input, the file or the store couldn't be read; 4 where an output couldn't be written; 5 where a
+/// disk of the store failed; 6 where memory ran out; 7 where the text, what rules make or a report is past a limit; and 8
+/// where there is no file or no store of that name. Dates without a year have that of the day, and in a store they don't
+/// read. `talk` answers the requests of one connection over the input and the output, to a journal in memory that begins as the
+/// text of a file or empty, or to a store; what a request is answered sets no status, but how the connection ends does. Its words
+/// alone may wait: for the lock under which the journal lies, of which nobody else has a pass. All other words are run by `run`,
+/// which has no handle to wait by. No file is changed but those of a store: one that is read keeps its image.
+pub fn run_waiting<J: Source, O: Sink, E: Sink, S: Shelf, M: Maker, W: Wait, L: Ledger>(
+    rt: &W,
+    alloc: Global,
+    words: &[Text],
+    day: Day,
+    outside: &mut Outside<J, O, E, S, M>,
+    steps: &mut Steps<L>,
+) -> Status
+    requires { IsDay day.0 }
+    ensures statuses { IsStatus result.0 }
+    ensures runs { Runs words.now day.0 result.0
+        (scene J.Source O.Sink E.Sink S.Shelf M.Maker outside.old)
+        (scene J.Source O.Sink E.Sink S.Shelf M.Maker outside.new) (task_of day.0 words.now) }
+    ensures sound { RunsSoundly words.now day.0 result.0
+        (scene J.Source O.Sink E.Sink S.Shelf M.Maker outside.old)
+        (soundness J.Source O.Sink E.Sink S.Shelf outside.old) (task_of day.0 words.now) }
+    ensures complete { Completes day.0 result.0
+        (scene J.Source O.Sink E.Sink S.Shelf M.Maker outside.old)
+        (scene J.Source O.Sink E.Sink S.Shelf M.Maker outside.new) (task_of day.0 words.now) }
+    ensures stored { Stores J.Source (scene J.Source O.Sink E.Sink S.Shelf M.Maker)
+        (soundness J.Source O.Sink E.Sink S.Shelf) S.Shelf S.Disk.Disk M.Maker day result.0 outside.old outside.new (task_of day.0 words.now) }
+{
+    if asks_talk(words) {
+        run_words(rt, alloc, words, day, outside, steps)
+    } else {
+        run(alloc, words, day, outside, steps)
     }
 }

@@ -1,6 +1,9 @@
+use Rattle.std.proofs.Common.{subst}
 use Rattle.command_words.specs.Commands.{task_of}
 use Rattle.command_line.specs.Scenes.{scene, soundness}
 use Rattle.command_line.proofs.Completing.{words_complete}
+use Rattle.command_words.proofs.Plain.{plain_read}
+use Rattle.command_words.specs.Connections.{IsPlainRead}
 use Rattle.command_line.proofs.Running.{words_run, words_sound}
 use Rattle.command_line.proofs.StoreEnds.{words_store}
 use Rattle.command_line.proofs.program.run.Goals as goal
@@ -34,3 +37,6 @@ returns-in-Err-clause-complete g c =
     words_complete c.args.day.0 c.refuse.result.0 (scene g.J.Source g.O.Sink err g.S.Shelf g.M.Maker outside)
     (err.written c.refuse.new.err) (err.faults c.refuse.new.err) c.refuse_words.result (task_of c.args.day.0 c.args.words.now)
     c.in-Err.fault c.in-Err.ensures.answer c.refuse_words.ensures.memory c.refuse.ensures.told
+
+pub run_task-requires-clause-plain : goal.run_task-requires-clause-plain
+run_task-requires-clause-plain g c κs within = subst IsPlainRead c.in-Ok.ensures.answer (plain_read c.args.day.0 c.args.words.now c.requires.plain)
