@@ -12,7 +12,7 @@ ghost use Rattle.serve_line.specs.declared.words.NoReading.TheVariants as no_rea
 use crate::ends::end_serve;
 use crate::laws::histories_are_answered;
 use crate::words::{NoReading, read_serve};
-use command_line::{Outside, Status, run};
+use command_line::{Outside, Status, run_waiting};
 use desk_team::House;
 use hl_base::{Memory, Shelf, Sink, Source, Steps, Text};
 use hl_time::Day;
@@ -139,7 +139,7 @@ fn run_other<J: Source, O: Sink, E: Sink, S: Shelf, M: Maker, H: House, W: Wait,
     requires { IsDay day.0 }
     ensures { RunsOther J.Source O.Sink E.Sink S.Shelf S.Disk.Disk M.Maker words.now day result.0 site.old site.new }
 {
-    run(rt, alloc, words, day, &mut site.outside, steps)
+    run_waiting(rt, alloc, words, day, &mut site.outside, steps)
 }
 
 /// Runs the program. Where the first word is `serve`, the store that the words name is opened and served at the doors of the house
