@@ -2,7 +2,7 @@
 ghost use Rattle.std.specs.Prelude.{◌≡◌, ◌<◌};
 
 use crate::cuts::Cuts;
-use command_line::{Outside, Streams, run};
+use command_line::{Outside, Streams, asks_talk, run, run_waiting};
 use hl_base::{
     Bytes, List, MemShelf, MemSink, MemSource, Memory, Shelf, Sink, Source, Steps, Text,
 };
@@ -133,14 +133,13 @@ fn counted<L: Ledger, J: Source + Drop, W: Wait>(
         maker: maker_of(alloc, beside)?,
     };
     let mut steps = Steps::<L>::start(blank);
-    let status = run(
-        rt,
-        alloc,
-        words.as_slice(),
-        Day(739_052),
-        &mut outside,
-        &mut steps,
-    );
+    let words = words.as_slice();
+    let day = Day(739_052);
+    let status = if asks_talk(words) {
+        run_waiting(rt, alloc, words, day, &mut outside, &mut steps)
+    } else {
+        run(alloc, words, day, &mut outside, &mut steps)
+    };
     Ok(Seen {
         status: status.0,
         output: Bytes::copied(alloc, outside.streams.output.as_slice())?,
