@@ -88,8 +88,22 @@ fn read_piece(alloc: Global, bytes: &[u8], context: &Context, line: u64) -> Resu
 /// What a piece of a text says, by its bytes, of which the first is in the `line`-th line, in the context of the items
 /// before it. Bytes that aren't UTF-8 are refused first, in the line of the first of them; then an entry, a directive or
 /// a rule of more than 65,536 bytes, in its first line; then the first place that isn't of its form. Of gaps and blocks
-/// nothing more is asked.
+/// nothing more is asked. The bytes aren't counted: whoever has several pieces read at once counts them.
 #[tactic(auto, unfolding(crate::specs::Items::reading))]
+pub fn read_uncounted(
+    alloc: Global,
+    bytes: &[u8],
+    context: &Context,
+    line: u64,
+) -> Result<Item, ReadFault>
+    requires { line + length bytes.now < 2 ^ 64 }
+    ensures { Gives (λ item. item) cause_in result (spec.reading context.now line bytes.now) }
+{
+    check_utf8(bytes, line)?;
+    read_piece(alloc, bytes, context, line)
+}
+
+/// What a piece of a text says, as `read_uncounted` reads it. Its bytes are counted.
 pub fn read_item<L: Ledger>(
     alloc: Global,
     bytes: &[u8],
@@ -102,6 +116,5 @@ pub fn read_item<L: Ledger>(
     ensures steps { steps.new ≡ record steps.old { bytes_read = steps.old.bytes_read + length bytes.now } }
 {
     steps.read_bytes(bytes.len() as u64);
-    check_utf8(bytes, line)?;
-    read_piece(alloc, bytes, context, line)
+    read_uncounted(alloc, bytes, context, line)
 }
