@@ -83,15 +83,21 @@ tried_within b i n old e h = subst (λ (t : Bool). n ≤ old + cond t i 0) (sym 
 pub tried_at : (text seen : List ℕ) (splice : Splice) (n old : ℕ) → is_at_end text splice ≡ true → seen ≡ splice.inserted → n ≤ old + length seen → n ≤ old + tried text splice
 tried_at text seen splice n old at e h = tried_within (is_at_end text splice) (length splice.inserted) n old at (omega (arith, h, ap length e))
 
-some_read : (b p : Bool) (i l n old : ℕ) → n ≤ old + cond b i 0 → n ≤ old + cond (b && p) i (cond b i 0 + 2 * l)
-some_read true true i l n old h = h
-some_read true false i l n old h = omega (arith, h)
-some_read false p i l n old h = omega (arith, h)
+some_read : (b p : Bool) (i l n old : ℕ) → (b ≡ true → i ≤ l) → n ≤ old + cond b i 0 → n ≤ old + cond (b && p) i (2 * l)
+some_read true true i l n old least h = h
+some_read true false i l n old least h = omega (arith, h, least refl)
+some_read false p i l n old least h = omega (arith, h)
 
-none_read : (b p : Bool) (i l n old mid : ℕ) → mid ≤ old + cond b i 0 → n ≤ mid + 2 * l → (b ≡ true → p ≡ true → ⊥) → n ≤ old + cond (b && p) i (cond b i 0 + 2 * l)
-none_read true true i l n old mid h k never = absurd (never refl refl)
-none_read true false i l n old mid h k never = omega (arith, h, k)
-none_read false p i l n old mid h k never = omega (arith, h, k)
+none_read : (b p : Bool) (i l n old mid : ℕ) → (b ≡ true → i ≤ l) → mid ≤ old + cond b i 0 → n ≤ mid + l → (b ≡ true → p ≡ true → ⊥) → n ≤ old + cond (b && p) i (2 * l)
+none_read true true i l n old mid least h k never = absurd (never refl refl)
+none_read true false i l n old mid least h k never = omega (arith, h, k, least refl)
+none_read false p i l n old mid least h k never = omega (arith, h, k)
+
+-- what is put behind a text is no longer than the whole
+within_new : (text new : List ℕ) (splice : Splice) → new ≡ spliced text splice → is_at_end text splice ≡ true → length splice.inserted ≤ length new
+within_new text new splice is at =
+    let whole : new ≡ text ++ splice.inserted = is ∙ spliced_behind text splice at in
+    omega (arith, ap length whole, length-append text splice.inserted)
 
 -- what is known of a text that was loaded
 known_so : (j : Journal) (kept : Loaded) → IsKept j.year j.text kept → known_from j.year j.text (reading_in j.year j.text) (book_of j.year j.text) ≡ Some (facts_of kept.end)
@@ -104,22 +110,22 @@ plain_so : (j : Journal) (splice : Splice) (kept : Loaded) → IsKept j.year j.t
 plain_so j splice kept k = ap (λ (o : Option Facts). are_plain o j.text splice.inserted) (known_so j kept k)
 
 -- bytes that were put behind the text
-pub read_behind : (j : Journal) (splice : Splice) (text new : List ℕ) (n old : ℕ) → text ≡ j.text → n ≤ old + tried text splice → n ≤ old + most_read j splice new
+pub read_behind : (j : Journal) (splice : Splice) (text new : List ℕ) (n old : ℕ) → text ≡ j.text → new ≡ spliced j.text splice → n ≤ old + tried text splice → n ≤ old + most_read j splice new
 unfolding most_read
-read_behind j splice text new n old e h =
+read_behind j splice text new n old e is h =
     some_read (is_at_end j.text splice) (are_plain (known_from j.year j.text (reading_in j.year j.text) (book_of j.year j.text)) j.text splice.inserted) (length splice.inserted) (length new) n old
-    (subst (λ (t : List ℕ). n ≤ old + tried t splice) e h)
+    (within_new j.text new splice is) (subst (λ (t : List ℕ). n ≤ old + tried t splice) e h)
 
 -- a text that was loaded anew
 pub read_anew : (j : Journal) (splice : Splice) (text new : List ℕ) (kept : Loaded) (r : Result Made EditFault) (n old mid : ℕ) → text ≡ j.text → IsKept j.year j.text kept
-    → mid ≤ old + tried text splice → n ≤ mid + 2 * length new → new ≡ spliced j.text splice
+    → mid ≤ old + tried text splice → n ≤ mid + length new → new ≡ spliced j.text splice
     → (is_at_end text splice ≡ true → IsMissed (facts_of kept.end) text splice.inserted) → OnOk r (fault_of j.year new ≡ None) → OnOk r (n ≤ old + most_read j splice new)
 unfolding most_read
 read_anew j splice text new kept (Err x) n old mid e k h l is missed loads = tt
 read_anew j splice text new kept (Ok m) n old mid e k h l is missed loads =
     let known = known_from j.year j.text (reading_in j.year j.text) (book_of j.year j.text) in
     none_read (is_at_end j.text splice) (are_plain known j.text splice.inserted) (length splice.inserted) (length new) n old mid
-    (subst (λ (t : List ℕ). mid ≤ old + tried t splice) e h) l
+    (within_new j.text new splice is) (subst (λ (t : List ℕ). mid ≤ old + tried t splice) e h) l
     (λ at plain.
     let whole : new ≡ j.text ++ splice.inserted = is ∙ spliced_behind j.text splice at in
     let miss : IsMissed (facts_of kept.end) j.text splice.inserted = subst (λ (t : List ℕ). IsMissed (facts_of kept.end) t splice.inserted) e (missed (subst (λ (t : List ℕ). is_at_end t splice ≡ true) (sym e) at)) in

@@ -1,4 +1,5 @@
 mod Blocks
+mod Copying
 mod Counting
 mod Limits
 mod Putting

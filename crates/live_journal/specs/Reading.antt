@@ -34,9 +34,9 @@ abbrev pub tried : List ℕ → Splice → ℕ
 tried text splice = if is_at_end text splice then length splice.inserted else 0
 
 -- The most bytes that are read for a change that makes a new text of a journal's: what it puts in, where it is plain;
--- else twice the new text besides.
+-- else twice the new text.
 unfoldable pub most_read : Journal → Splice → List ℕ → ℕ
-most_read j splice new = if is_plain j splice then length splice.inserted else tried j.text splice + 2 * length new
+most_read j splice new = if is_plain j splice then length splice.inserted else 2 * length new
 
 -- what is known of a text doesn't make the bytes plain, or there are too many of them or of their items
 abbrev pub IsMissed : Facts → List ℕ → List ℕ → Type 0

@@ -1,5 +1,5 @@
 //! An entry that is put behind the text, without a load of the whole.
-ghost use Rattle.std.specs.Prelude.{◌≡◌, ◌+◌, ◌*◌, ◌<◌, ◌≤◌, ◌++◌, None, Option, IfErr, IfOk, IfSome, OnOk, ℕ, length, nat_lt, true};
+ghost use Rattle.std.specs.Prelude.{◌≡◌, ◌+◌, ◌<◌, ◌≤◌, ◌++◌, None, Option, IfErr, IfOk, IfSome, OnOk, ℕ, length, nat_lt, true};
 ghost use Rattle.std.specs.Prelude as lists;
 ghost use Rattle.plain_edits.specs.Words.{facts_of};
 ghost use Rattle.live_journal.specs.Edits as edits;
@@ -150,7 +150,7 @@ pub(crate) fn loaded_anew<L: Ledger>(
     ensures loads { OnOk result (fault_of year new.now ≡ None) }
     ensures few { OnOk result (length new.now ≤ 16777216) }
     ensures fault { IfErr result (λ e. TellsRefusal e (fault_of year new.now)) }
-    ensures read { steps.new.bytes_read ≤ steps.old.bytes_read + 2 * length new.now }
+    ensures read { steps.new.bytes_read ≤ steps.old.bytes_read + length new.now }
     ensures others { steps.new ≡ record steps.old { bytes_read = steps.new.bytes_read } }
 {
     let loaded = load_text(alloc, new, year, steps)?;

@@ -4,6 +4,7 @@
 mod applied;
 mod behind;
 mod edit;
+mod entries;
 mod fault;
 mod judge;
 mod live;

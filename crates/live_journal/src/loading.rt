@@ -1,5 +1,5 @@
 //! What is made of a text when it is loaded.
-ghost use Rattle.std.specs.Prelude.{◌≡◌, ◌+◌, ◌*◌, ◌≤◌, None, IfErr, IfOk, Ok, OnOk, length};
+ghost use Rattle.std.specs.Prelude.{◌≡◌, ◌+◌, ◌≤◌, None, IfErr, IfOk, Ok, OnOk, length};
 ghost use Rattle.hl_base.specs.Items.{items_of};
 ghost use Rattle.hl_base.specs.Pieces.{bytes_in};
 ghost use Rattle.book.specs.Bounds.{TurnoverFits};
@@ -9,9 +9,10 @@ ghost use Rattle.journal_reader.specs.Whole.{AreWithin};
 ghost use Rattle.plain_edits.specs.Words.{facts_of};
 ghost use Rattle.live_journal.specs.Loading.{IsLoaded, Tells, book_of, fault_of, reading_in, text_fault};
 
+use crate::entries::entries_of;
 use crate::fault::OpenFault;
 use balancing::{CheckFault, check};
-use book::{Book, Items, Styles};
+use book::{Book, Items, Placed, Styles};
 use hl_base::{List, Piece, Steps, cut_items};
 use journal_reader::{ReadFault, read_items};
 use plain_edits::TextEnd;
@@ -55,6 +56,29 @@ fn read<L: Ledger>(
         Err(ReadFault::Read(fault)) => Err(OpenFault::Load(fault)),
         Err(ReadFault::Memory) => Err(OpenFault::Memory),
     }
+}
+
+/// The book of some items.
+fn checked(alloc: Global, items: Items) -> Result<Book, OpenFault>
+    ensures book { IfOk result (λ book. load items ≡ Ok book) }
+    ensures fault { IfErr result (λ e. Tells e (text_fault (load items))) }
+    ensures fits { IfOk result (λ book. TurnoverFits (postings_of book.txns)) }
+{
+    match check(alloc, items) {
+        Ok(book) => Ok(book),
+        Err(CheckFault::Journal(fault)) => Err(OpenFault::Load(fault)),
+        Err(CheckFault::Memory) => Err(OpenFault::Memory),
+    }
+}
+
+/// The book of some items, of which copies of the transactions are checked.
+fn book_of_items(alloc: Global, items: &[Placed]) -> Result<Book, OpenFault>
+    ensures book { IfOk result (λ book. load items.now ≡ Ok book) }
+    ensures fault { IfErr result (λ e. Tells e (text_fault (load items.now))) }
+    ensures fits { IfOk result (λ book. TurnoverFits (postings_of book.txns)) }
+{
+    let entries = entries_of(alloc, items)?;
+    checked(alloc, entries)
 }
 
 /// The book of a text that is cut into these pieces.
@@ -112,7 +136,7 @@ pub fn load_book<L: Ledger>(
     Ok(book)
 }
 
-/// Loads a text within the limits: it is read once for the items that are kept, and once for the book.
+/// Loads a text within the limits. It is read once: the book is made of copies of its transactions.
 pub(crate) fn load_text<L: Ledger>(
     alloc: Global,
     text: &[u8],
@@ -121,7 +145,7 @@ pub(crate) fn load_text<L: Ledger>(
 ) -> Result<Loaded, OpenFault>
     ensures loaded { IfOk result (λ l. IsLoaded year text.now l.pieces l.items l.book l.styles (facts_of l.end)) }
     ensures fault { IfErr result (λ e. Tells e (fault_of year text.now)) }
-    ensures bound { steps.new.bytes_read ≤ steps.old.bytes_read + 2 * length text.now }
+    ensures bound { steps.new.bytes_read ≤ steps.old.bytes_read + length text.now }
     ensures others { steps.new ≡ record steps.old { bytes_read = steps.new.bytes_read } }
 {
     let size = text.len() as u64;
@@ -135,8 +159,8 @@ pub(crate) fn load_text<L: Ledger>(
         let limit = MOST_ITEMS;
         return Err(OpenFault::TooLarge { limit, size: count });
     }
-    let book = make_book(alloc, text, pieces.as_slice(), year, steps)?;
     let items = read(alloc, text, pieces.as_slice(), year, steps)?;
+    let book = book_of_items(alloc, items.as_slice())?;
     let styles = Styles::of(alloc, items.as_slice())?;
     let end = TextEnd::of(alloc, year, text, items.as_slice(), book.txns.as_slice())?;
     Ok(Loaded {

@@ -117,7 +117,7 @@ fn copied_postings(alloc: Global, postings: &[Posting]) -> Result<List<Posting>,
 }
 
 /// A copy of a transaction.
-fn copied(alloc: Global, txn: &Txn) -> Result<Txn, Memory>
+pub fn copied_entry(alloc: Global, txn: &Txn) -> Result<Txn, Memory>
     ensures { IfOk result (λ copy. copy ≡ txn.now) }
 {
     let postings = copied_postings(alloc, txn.postings.as_slice())?;
@@ -130,7 +130,7 @@ fn balanced(alloc: Global, txn: &Txn) -> Result<Txn, NotPlain>
     requires { has_assignment txn.now.postings ≡ false }
     ensures { Tells (λ t. t) result (spec.told (balanced txn.now)) }
 {
-    let copy = copied(alloc, txn)?;
+    let copy = copied_entry(alloc, txn)?;
     let solved = balance_txn(alloc, copy)?;
     Ok(solved)
 }

@@ -17,5 +17,6 @@ mod room;
 pub use addition::Addition;
 pub use decimals::Decimals;
 pub use ending::TextEnd;
+pub use fine::copied_entry;
 pub use laws::plain_entries_add;
 pub use room::{Room, put_items};

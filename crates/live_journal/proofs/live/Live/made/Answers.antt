@@ -46,7 +46,7 @@ returns-in-None-clause-fault g c =
 
 pub returns-in-Some-clause-read : goal.returns-in-Some-clause-read
 returns-in-Some-clause-read g c =
-    read_behind c.args.self.now c.args.splice.now c.as_slice-text.result.now c.args.new.now _ _ (c.as_slice-text.ensures ∙ ap (λ (x : Journal). x.text) c.self.view_is) c.in_ok-put.ensures.read
+    read_behind c.args.self.now c.args.splice.now c.as_slice-text.result.now c.args.new.now _ _ (c.as_slice-text.ensures ∙ ap (λ (x : Journal). x.text) c.self.view_is) c.requires c.in_ok-put.ensures.read
 
 pub returns-in-None-clause-read : goal.returns-in-None-clause-read
 returns-in-None-clause-read g c =
