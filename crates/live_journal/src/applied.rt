@@ -171,8 +171,11 @@ pub(crate) fn spliced(alloc: Global, text: &[u8], splice: &Splice) -> Result<Byt
 {
     let (front, _) = text.split_at(splice.at as usize);
     let (_, behind) = text.split_at((splice.at + splice.removed) as usize);
-    let mut new = Vec::from_slice(alloc, front)?;
-    new.extend_from_slice(splice.inserted.as_slice())?;
+    let inserted = splice.inserted.as_slice();
+    let size = front.len().saturating_add(inserted.len());
+    let mut new = Vec::with_capacity(alloc, size.saturating_add(behind.len()))?;
+    new.extend_from_slice(front)?;
+    new.extend_from_slice(inserted)?;
     new.extend_from_slice(behind)?;
     Ok(Bytes::from_vec(new))
 }
