@@ -4,5 +4,6 @@ mod Counting
 mod Limits
 mod Putting
 mod Steps
+mod Telling
 pub mod Changes
 mod Verdicts

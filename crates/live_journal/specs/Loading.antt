@@ -2,7 +2,7 @@
 use Rattle.std.specs.Prelude.{◌≡◌, ℕ, ◌≤◌, List, nat_lt, Option, Some, None, [], ◌∷◌, IfSome, Result, Ok, Err, if◌then◌else◌, length}
 use Rattle.std.specs.List.{AllByRecursion}
 use Rattle.hl_base.specs.Items.{items_of}
-use Rattle.hl_base.specs.Pieces.{IsWithin}
+use Rattle.hl_base.specs.Pieces.{IsWithin, bytes_in}
 use Rattle.hl_base.specs.declared.items.Piece.{Piece}
 use Rattle.book.specs.declared.item.Placed.{Placed}
 use Rattle.book.specs.declared.item.Book.{Book}
@@ -13,6 +13,7 @@ use Rattle.book.specs.Postings.{postings_of}
 use Rattle.book.specs.Style.{style_of}
 use Rattle.book.specs.Styles.{style_in}
 use Rattle.journal_reader.specs.Items.{items_in}
+use Rattle.journal_reader.specs.Whole.{AreWithin}
 use Rattle.balancing.specs.Load.{load}
 use Rattle.plain_edits.specs.Facts.{Facts, facts_in}
 use Rattle.live_journal.specs.declared.fault.OpenFault.{OpenFault}
@@ -80,6 +81,15 @@ open_cause (unopened.TooLarge limit size) = Some (unopened.TooLarge limit size)
 -- an error tells this fault, or want of memory
 abbrev pub Tells : OpenFault → Option OpenFault → Type 0
 Tells e fault = IfSome (open_cause e) (λ told. fault ≡ Some told)
+
+-- the pieces of a text that is within the limits
+pub record IsCut (text : List ℕ) (pieces : List Piece) : Type 0 where
+  pub few_bytes : length text ≤ most_bytes
+  pub few_items : length (items_of text) ≤ most_items
+  pub cut : pieces ≡ items_of text
+  pub within : AllByRecursion (IsWithin (length text)) pieces
+  pub readable : AreWithin text pieces
+  pub whole : bytes_in pieces ≡ length text
 
 -- what is made of a text: its pieces, items, book and styles, and what is known of it for entries behind it
 pub record IsLoaded (year : Option ℕ) (text : List ℕ) (pieces : List Piece) (items : List Placed) (book : Book) (styles : Styles) (facts : Facts) : Type 0 where

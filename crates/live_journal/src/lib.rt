@@ -14,5 +14,5 @@ mod plan;
 pub use edit::Edit;
 pub use fault::{EditFault, OpenFault};
 pub use live::Live;
-pub use loading::load_book;
+pub use loading::{load_book, load_book_by};
 pub use plan::Plan;

@@ -7,7 +7,7 @@ ghost use Rattle.book.specs.Postings.{postings_of};
 ghost use Rattle.balancing.specs.Load.{load};
 ghost use Rattle.journal_reader.specs.Whole.{AreWithin};
 ghost use Rattle.plain_edits.specs.Words.{facts_of};
-ghost use Rattle.live_journal.specs.Loading.{IsLoaded, Tells, book_of, fault_of, reading_in, text_fault};
+ghost use Rattle.live_journal.specs.Loading.{IsCut, IsLoaded, Tells, book_of, fault_of, limit_fault, past_limit, reading_in, text_fault};
 
 use crate::entries::entries_of;
 use crate::fault::OpenFault;
@@ -18,6 +18,7 @@ use journal_reader::{ReadFault, read_items};
 use plain_edits::TextEnd;
 use std::alloc::Global;
 use std::sync::ledger::Ledger;
+use std::thread::Threads;
 
 /// The most bytes that a text may have.
 pub(crate) const MOST_BYTES: u64 = 16_777_216;
@@ -33,6 +34,25 @@ pub(crate) struct Loaded {
     pub book: Book,
     pub styles: Styles,
     pub end: TextEnd,
+}
+
+/// The pieces of a text that is within the limits: its bytes are judged before its items.
+fn cut_within(alloc: Global, text: &[u8]) -> Result<List<Piece>, OpenFault>
+    ensures cut { IfOk result (IsCut text.now) }
+    ensures fault { IfErr result (λ e. Tells e (limit_fault (past_limit text.now))) }
+{
+    let size = text.len() as u64;
+    if size > MOST_BYTES {
+        let limit = MOST_BYTES;
+        return Err(OpenFault::TooLarge { limit, size });
+    }
+    let pieces = cut_items(alloc, text)?;
+    let count = pieces.len() as u64;
+    if count > MOST_ITEMS {
+        let limit = MOST_ITEMS;
+        return Err(OpenFault::TooLarge { limit, size: count });
+    }
+    Ok(pieces)
 }
 
 /// The items of a text that is cut into these pieces.
@@ -52,6 +72,30 @@ fn read<L: Ledger>(
     ensures others { steps.new ≡ record steps.old { bytes_read = steps.new.bytes_read } }
 {
     match read_items(alloc, text, pieces, year, steps) {
+        Ok(items) => Ok(items),
+        Err(ReadFault::Read(fault)) => Err(OpenFault::Load(fault)),
+        Err(ReadFault::Memory) => Err(OpenFault::Memory),
+    }
+}
+
+/// The items of a text that is cut into these pieces, which several threads may read.
+fn read_by<R: Threads + Sync, L: Ledger>(
+    rt: &R,
+    alloc: Global,
+    text: &[u8],
+    pieces: &[Piece],
+    year: Option<u16>,
+    steps: &mut Steps<L>,
+) -> Result<Items, OpenFault>
+    requires pieces { pieces.now ≡ items_of text.now }
+    requires within { AreWithin text.now pieces.now }
+    requires whole { bytes_in pieces.now ≡ length text.now }
+    ensures read { IfOk result (λ items. reading_in year text.now ≡ Ok items) }
+    ensures fault { IfErr result (λ e. Tells e (text_fault (reading_in year text.now))) }
+    ensures bound { steps.new.bytes_read ≤ steps.old.bytes_read + length text.now }
+    ensures others { steps.new ≡ record steps.old { bytes_read = steps.new.bytes_read } }
+{
+    match parallel_reading::read_items(rt, alloc, text, pieces, year, steps) {
         Ok(items) => Ok(items),
         Err(ReadFault::Read(fault)) => Err(OpenFault::Load(fault)),
         Err(ReadFault::Memory) => Err(OpenFault::Memory),
@@ -81,35 +125,6 @@ fn book_of_items(alloc: Global, items: &[Placed]) -> Result<Book, OpenFault>
     checked(alloc, entries)
 }
 
-/// The book of a text that is cut into these pieces.
-fn make_book<L: Ledger>(
-    alloc: Global,
-    text: &[u8],
-    pieces: &[Piece],
-    year: Option<u16>,
-    steps: &mut Steps<L>,
-) -> Result<Book, OpenFault>
-    requires pieces { pieces.now ≡ items_of text.now }
-    requires within { AreWithin text.now pieces.now }
-    requires whole { bytes_in pieces.now ≡ length text.now }
-    ensures book { IfOk result (λ book. book_of year text.now ≡ Ok book) }
-    ensures fault { IfErr result (λ e. Tells e (text_fault (book_of year text.now))) }
-    ensures fits { IfOk result (λ book. TurnoverFits (postings_of book.txns)) }
-    ensures bound { steps.new.bytes_read ≤ steps.old.bytes_read + length text.now }
-    ensures others { steps.new ≡ record steps.old { bytes_read = steps.new.bytes_read } }
-{
-    let items = match read_items(alloc, text, pieces, year, steps) {
-        Ok(items) => items,
-        Err(ReadFault::Read(fault)) => return Err(OpenFault::Load(fault)),
-        Err(ReadFault::Memory) => return Err(OpenFault::Memory),
-    };
-    match check(alloc, items) {
-        Ok(book) => Ok(book),
-        Err(CheckFault::Journal(fault)) => Err(OpenFault::Load(fault)),
-        Err(CheckFault::Memory) => Err(OpenFault::Memory),
-    }
-}
-
 /// The book of a text within the limits, which is read once, since nothing else is kept of it.
 pub fn load_book<L: Ledger>(
     alloc: Global,
@@ -120,19 +135,32 @@ pub fn load_book<L: Ledger>(
     ensures book { IfOk result (λ book. book_of year text.now ≡ Ok book) }
     ensures good { OnOk result (fault_of year text.now ≡ None) }
     ensures fault { IfErr result (λ e. Tells e (fault_of year text.now)) }
+    ensures bound { steps.new.bytes_read ≤ steps.old.bytes_read + length text.now }
+    ensures others { steps.new ≡ record steps.old { bytes_read = steps.new.bytes_read } }
 {
-    let size = text.len() as u64;
-    if size > MOST_BYTES {
-        let limit = MOST_BYTES;
-        return Err(OpenFault::TooLarge { limit, size });
-    }
-    let pieces = cut_items(alloc, text)?;
-    let count = pieces.len() as u64;
-    if count > MOST_ITEMS {
-        let limit = MOST_ITEMS;
-        return Err(OpenFault::TooLarge { limit, size: count });
-    }
-    let book = make_book(alloc, text, pieces.as_slice(), year, steps)?;
+    let pieces = cut_within(alloc, text)?;
+    let items = read(alloc, text, pieces.as_slice(), year, steps)?;
+    let book = checked(alloc, items)?;
+    Ok(book)
+}
+
+/// The book of a text within the limits, as `load_book` makes it, where several threads may read the text.
+pub fn load_book_by<R: Threads + Sync, L: Ledger>(
+    rt: &R,
+    alloc: Global,
+    text: &[u8],
+    year: Option<u16>,
+    steps: &mut Steps<L>,
+) -> Result<Book, OpenFault>
+    ensures book { IfOk result (λ book. book_of year text.now ≡ Ok book) }
+    ensures good { OnOk result (fault_of year text.now ≡ None) }
+    ensures fault { IfErr result (λ e. Tells e (fault_of year text.now)) }
+    ensures bound { steps.new.bytes_read ≤ steps.old.bytes_read + length text.now }
+    ensures others { steps.new ≡ record steps.old { bytes_read = steps.new.bytes_read } }
+{
+    let pieces = cut_within(alloc, text)?;
+    let items = read_by(rt, alloc, text, pieces.as_slice(), year, steps)?;
+    let book = checked(alloc, items)?;
     Ok(book)
 }
 
@@ -148,17 +176,7 @@ pub(crate) fn load_text<L: Ledger>(
     ensures bound { steps.new.bytes_read ≤ steps.old.bytes_read + length text.now }
     ensures others { steps.new ≡ record steps.old { bytes_read = steps.new.bytes_read } }
 {
-    let size = text.len() as u64;
-    if size > MOST_BYTES {
-        let limit = MOST_BYTES;
-        return Err(OpenFault::TooLarge { limit, size });
-    }
-    let pieces = cut_items(alloc, text)?;
-    let count = pieces.len() as u64;
-    if count > MOST_ITEMS {
-        let limit = MOST_ITEMS;
-        return Err(OpenFault::TooLarge { limit, size: count });
-    }
+    let pieces = cut_within(alloc, text)?;
     let items = read(alloc, text, pieces.as_slice(), year, steps)?;
     let book = book_of_items(alloc, items.as_slice())?;
     let styles = Styles::of(alloc, items.as_slice())?;
