@@ -29,6 +29,7 @@ use refusals::{Refusal, refuse_report};
 use report_commands::WordsFault;
 use std::alloc::Global;
 use std::sync::ledger::Ledger;
+use std::thread::Threads;
 
 /// The entries as they are read at the end of the text.
 fn closing_text(
@@ -106,7 +107,8 @@ fn close_kept<M: Maker>(
 }
 
 /// What is asked to be closed of a text, on a day.
-pub(crate) fn close_on<M: Maker, L: Ledger>(
+pub(crate) fn close_on<R: Threads + Sync, M: Maker, L: Ledger>(
+    rt: &R,
     alloc: Global,
     asked: &CloseAsked,
     text: &[u8],
@@ -120,7 +122,7 @@ pub(crate) fn close_on<M: Maker, L: Ledger>(
     ensures kind { IsOfReport result }
     ensures maker { TellsWords today.day.0 asked.now.words (told_by M.Maker maker.old maker.new) result }
 {
-    let kept = load_kept(alloc, text, today.year, steps)?;
+    let kept = load_kept(rt, alloc, text, today.year, steps)?;
     let found = close_kept(alloc, asked, &kept, today.day, maker);
     // The program ends after its answer, so a large journal isn't taken apart first.
     std::mem::forget(kept);

@@ -14,12 +14,14 @@ use balancing::{CheckFault, check};
 use book::{Book, Items, Styles};
 use book_care::Declarations;
 use hl_base::{Piece, Steps, cut_items};
-use journal_reader::{ReadFault, read_items};
+use journal_reader::ReadFault;
+use parallel_reading::read_items;
 use prices::Prices;
 use query::Types;
 use refusals::{Refusal, past_limit, refuse_fault};
 use std::alloc::Global;
 use std::sync::ledger::Ledger;
+use std::thread::Threads;
 
 /// The most items that a text may have.
 const MOST_ITEMS: u64 = 200_000;
@@ -54,8 +56,9 @@ pub(crate) struct Whole {
     pub journal: Journal,
 }
 
-/// The items of a text, with a year for dates without one.
-fn read<L: Ledger>(
+/// The items of a text, with a year for dates without one, read by several threads where that serves.
+fn read<R: Threads + Sync, L: Ledger>(
+    rt: &R,
     alloc: Global,
     text: &[u8],
     pieces: &[Piece],
@@ -68,7 +71,7 @@ fn read<L: Ledger>(
     ensures refused { IfErr result (λ r. (make : Making)
         → RefusesText r (made_read make (items_in year text.now))) }
 {
-    match read_items(alloc, text, pieces, year, steps) {
+    match read_items(rt, alloc, text, pieces, year, steps) {
         Ok(items) => Ok(items),
         Err(ReadFault::Read(fault)) => Err(refuse_fault(alloc, &fault)),
         Err(ReadFault::Memory) => Err(Refusal::Memory),
@@ -90,7 +93,8 @@ fn make_book(alloc: Global, items: Items) -> Result<Book, Refusal>
 }
 
 /// The items of a text within the limit of bytes, with a year for dates without one.
-fn load_items<L: Ledger>(
+fn load_items<R: Threads + Sync, L: Ledger>(
+    rt: &R,
     alloc: Global,
     text: &[u8],
     year: Option<u16>,
@@ -108,7 +112,7 @@ fn load_items<L: Ledger>(
         let line = past_limit(alloc, count, MOST_ITEMS)?;
         return Err(Refusal::Line { status: 7, line });
     }
-    read(alloc, text, pieces.as_slice(), year, steps)
+    read(rt, alloc, text, pieces.as_slice(), year, steps)
 }
 
 /// What a text's items make. Balancing takes the items, so their book is made last.
@@ -130,7 +134,8 @@ fn make_journal(alloc: Global, items: Items) -> Result<Journal, Refusal>
 }
 
 /// What a text within the limit of bytes makes, with a year for dates without one.
-pub(crate) fn load_journal<L: Ledger>(
+pub(crate) fn load_journal<R: Threads + Sync, L: Ledger>(
+    rt: &R,
     alloc: Global,
     text: &[u8],
     year: Option<u16>,
@@ -142,7 +147,7 @@ pub(crate) fn load_journal<L: Ledger>(
     ensures refused { IfErr result (λ r. (make : Making)
         → RefusesText r (judged_text make year text.now)) }
 {
-    let items = load_items(alloc, text, year, steps)?;
+    let items = load_items(rt, alloc, text, year, steps)?;
     make_journal(alloc, items)
 }
 
@@ -158,7 +163,8 @@ fn make_checked(alloc: Global, items: Items) -> Result<Checked, Refusal>
 }
 
 /// The names that a text within the limit of bytes declares, and its book, with a year for dates without one.
-pub(crate) fn load_checked<L: Ledger>(
+pub(crate) fn load_checked<R: Threads + Sync, L: Ledger>(
+    rt: &R,
     alloc: Global,
     text: &[u8],
     year: Option<u16>,
@@ -170,12 +176,13 @@ pub(crate) fn load_checked<L: Ledger>(
     ensures refused { IfErr result (λ r. (make : Making)
         → RefusesText r (judged_text make year text.now)) }
 {
-    let items = load_items(alloc, text, year, steps)?;
+    let items = load_items(rt, alloc, text, year, steps)?;
     make_checked(alloc, items)
 }
 
 /// The book of a text within the limit of bytes, with a year for dates without one.
-fn load_book<L: Ledger>(
+fn load_book<R: Threads + Sync, L: Ledger>(
+    rt: &R,
     alloc: Global,
     text: &[u8],
     year: Option<u16>,
@@ -187,13 +194,14 @@ fn load_book<L: Ledger>(
     ensures refused { IfErr result (λ r. (make : Making)
         → RefusesText r (judged_text make year text.now)) }
 {
-    let items = load_items(alloc, text, year, steps)?;
+    let items = load_items(rt, alloc, text, year, steps)?;
     make_book(alloc, items)
 }
 
 /// The items of a text within the limit of bytes, with a year for dates without one, and their book. It is read
 /// once for the book, which takes its items, and once for those that are kept.
-pub(crate) fn load_kept<L: Ledger>(
+pub(crate) fn load_kept<R: Threads + Sync, L: Ledger>(
+    rt: &R,
     alloc: Global,
     text: &[u8],
     year: Option<u16>,
@@ -205,14 +213,15 @@ pub(crate) fn load_kept<L: Ledger>(
     ensures refused { IfErr result (λ r. (make : Making)
         → RefusesText r (judged_text make year text.now)) }
 {
-    let book = load_book(alloc, text, year, steps)?;
-    let items = load_items(alloc, text, year, steps)?;
+    let book = load_book(rt, alloc, text, year, steps)?;
+    let items = load_items(rt, alloc, text, year, steps)?;
     Ok(Kept { items, book })
 }
 
 /// The items of a text within the limit of bytes, with a year for dates without one, and what they make. It is read once
 /// for the book, which takes its items, and once for those that are kept.
-pub(crate) fn load_whole<L: Ledger>(
+pub(crate) fn load_whole<R: Threads + Sync, L: Ledger>(
+    rt: &R,
     alloc: Global,
     text: &[u8],
     year: Option<u16>,
@@ -224,7 +233,7 @@ pub(crate) fn load_whole<L: Ledger>(
     ensures refused { IfErr result (λ r. (make : Making)
         → RefusesText r (judged_text make year text.now)) }
 {
-    let journal = load_journal(alloc, text, year, steps)?;
-    let items = load_items(alloc, text, year, steps)?;
+    let journal = load_journal(rt, alloc, text, year, steps)?;
+    let items = load_items(rt, alloc, text, year, steps)?;
     Ok(Whole { items, journal })
 }

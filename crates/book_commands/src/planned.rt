@@ -19,6 +19,7 @@ use refusals::{Refusal, refuse_plan};
 use report_commands::{Asked, Material};
 use std::alloc::Global;
 use std::sync::ledger::Ledger;
+use std::thread::Threads;
 
 /// What is asked of the items of a text and what they make, on a day.
 fn planned_whole<M: Maker>(
@@ -52,7 +53,8 @@ fn planned_whole<M: Maker>(
 }
 
 /// What is asked of a text, on a day.
-pub(crate) fn planned_on<M: Maker, L: Ledger>(
+pub(crate) fn planned_on<R: Threads + Sync, M: Maker, L: Ledger>(
+    rt: &R,
     alloc: Global,
     asked: &Asked,
     text: &[u8],
@@ -68,7 +70,7 @@ pub(crate) fn planned_on<M: Maker, L: Ledger>(
     ensures maker { TellsWork today.day.0 today.year (works.Report asked.now) text.now
         (told_by M.Maker maker.old maker.new) result }
 {
-    let whole = load_whole(alloc, text, today.year, steps)?;
+    let whole = load_whole(rt, alloc, text, today.year, steps)?;
     let found = planned_whole(alloc, asked, &whole, today.day, maker);
     // The program ends after its report, so a large journal isn't taken apart first.
     std::mem::forget(whole);

@@ -22,6 +22,7 @@ use refusals::{Refusal, refuse_report};
 use report_commands::{Asked, Material, report_of};
 use std::alloc::Global;
 use std::sync::ledger::Ledger;
+use std::thread::Threads;
 
 /// What is asked of a journal, on a day, without rules and budgets, over any items that make it.
 fn report_journal<M: Maker>(
@@ -54,7 +55,8 @@ fn report_journal<M: Maker>(
 }
 
 /// What is asked of a text, on a day, without rules and budgets: once its book is made its items aren't needed any more.
-fn plain_on<M: Maker, L: Ledger>(
+fn plain_on<R: Threads + Sync, M: Maker, L: Ledger>(
+    rt: &R,
     alloc: Global,
     asked: &Asked,
     text: &[u8],
@@ -71,7 +73,7 @@ fn plain_on<M: Maker, L: Ledger>(
     ensures maker { TellsWork today.day.0 today.year (works.Report asked.now) text.now
         (told_by M.Maker maker.old maker.new) result }
 {
-    let journal = load_journal(alloc, text, today.year, steps)?;
+    let journal = load_journal(rt, alloc, text, today.year, steps)?;
     let found = report_journal(alloc, asked, &journal, today.day, maker);
     // The program ends after its report, so a large journal isn't taken apart first.
     std::mem::forget(journal);
@@ -79,7 +81,8 @@ fn plain_on<M: Maker, L: Ledger>(
 }
 
 /// What is asked of a text, on a day.
-pub(crate) fn report_on<M: Maker, L: Ledger>(
+pub(crate) fn report_on<R: Threads + Sync, M: Maker, L: Ledger>(
+    rt: &R,
     alloc: Global,
     asked: &Asked,
     text: &[u8],
@@ -96,8 +99,8 @@ pub(crate) fn report_on<M: Maker, L: Ledger>(
         (told_by M.Maker maker.old maker.new) result }
 {
     if asks_rules(&asked.options) {
-        planned_on(alloc, asked, text, today, maker, steps)
+        planned_on(rt, alloc, asked, text, today, maker, steps)
     } else {
-        plain_on(alloc, asked, text, today, maker, steps)
+        plain_on(rt, alloc, asked, text, today, maker, steps)
     }
 }

@@ -15,6 +15,7 @@ use hl_base::{Bytes, Steps};
 use refusals::Refusal;
 use std::alloc::Global;
 use std::sync::ledger::Ledger;
+use std::thread::Threads;
 
 /// Whether a journal passes the checks, or what the first says that fails.
 #[tactic(auto, using(crate::proofs::Checking::broken_more, crate::proofs::Checking::broken_none))]
@@ -46,7 +47,8 @@ fn strict_checked(alloc: Global, checks: &[Check], checked: &Checked) -> Result<
 }
 
 /// What the checks of a text answer, with a year for dates without one.
-pub(crate) fn strict_on<L: Ledger>(
+pub(crate) fn strict_on<R: Threads + Sync, L: Ledger>(
+    rt: &R,
     alloc: Global,
     checks: &[Check],
     text: &[u8],
@@ -58,7 +60,7 @@ pub(crate) fn strict_on<L: Ledger>(
     ensures kind { IsOfReport result }
     ensures quiet { IsQuiet result }
 {
-    let checked = load_checked(alloc, text, year, steps)?;
+    let checked = load_checked(rt, alloc, text, year, steps)?;
     let found = strict_checked(alloc, checks, &checked);
     // The program ends after its answer, so a large journal isn't taken apart first.
     std::mem::forget(checked);

@@ -21,6 +21,7 @@ use report_commands::Asked;
 use std::alloc::Global;
 use std::marker::Model;
 use std::sync::ledger::Ledger;
+use std::thread::Threads;
 
 /// The forms of a time log.
 #[derive(Clone, Copy, Debug, PartialEq, Eq)]
@@ -107,8 +108,10 @@ fn text_on(alloc: Global, text: &[u8]) -> Result<Bytes, Refusal>
 
 /// What is asked of a text, on a day: what is to be written, or why there is nothing. A text of which more is asked than
 /// itself has at most 16,777,216 bytes. A journal has at most 200,000 items, and is read and loaded before anything else of it is judged. Where a report asks for
-/// entries that rules make, or for a budget, the text is read once more, since its book takes the items.
-pub fn answer_text<M: Maker, L: Ledger>(
+/// entries that rules make, or for a budget, the text is read once more, since its book takes the items. Threads of its own may
+/// read a long journal: they have ended when it answers, and the answer is that of one.
+pub fn answer_text<R: Threads + Sync, M: Maker, L: Ledger>(
+    rt: &R,
     alloc: Global,
     work: &Work,
     text: &[u8],
@@ -126,9 +129,9 @@ pub fn answer_text<M: Maker, L: Ledger>(
 {
     match work {
         Work::Text => text_on(alloc, text),
-        Work::Report(asked) => report_on(alloc, asked, text, today, maker, steps),
+        Work::Report(asked) => report_on(rt, alloc, asked, text, today, maker, steps),
         Work::Hours(form) => hours_on(alloc, *form, text),
-        Work::Strict(checks) => strict_on(alloc, checks.as_slice(), text, today.year, steps),
-        Work::Close(asked) => close_on(alloc, asked, text, today, maker, steps),
+        Work::Strict(checks) => strict_on(rt, alloc, checks.as_slice(), text, today.year, steps),
+        Work::Close(asked) => close_on(rt, alloc, asked, text, today, maker, steps),
     }
 }
