@@ -13,19 +13,22 @@ use crate::machine::{refusal_of, talk_desk};
 use crate::terms::Terms;
 use desk::{Allow, Desk};
 use hl_base::{Link, MemDisk, Memory, Steps};
-use live_journal::load_book;
+use live_journal::load_book_by;
 use query::Maker;
 use std::alloc::Global;
 use std::sync::Wait;
 use std::sync::ledger::Ledger;
+use std::thread::Threads;
 use store_making::{JournalRefusal, of_text};
 use web_desk::ConnEnd;
 
 /// The room of each disk, and the limit of the store, in bytes.
 const ROOM: u64 = 67_108_864;
 
-/// Judges the limits of a text, at most 16,777,216 bytes and then 200,000 items, and then its faults. It has no year before it.
-pub fn judge_text<L: Ledger>(
+/// Judges the limits of a text, at most 16,777,216 bytes and then 200,000 items, and then its faults. It has no year before it, and
+/// may be read by several threads, which have ended when that is told.
+pub fn judge_text<R: Threads + Sync, L: Ledger>(
+    rt: &R,
     alloc: Global,
     text: &[u8],
     steps: &mut Steps<L>,
@@ -33,7 +36,7 @@ pub fn judge_text<L: Ledger>(
     ensures good { OnOk result (fault_of None text.now ≡ None) }
     ensures cause { IfErr result (λ e. IsOfText e (fault_of None text.now)) }
 {
-    match load_book(alloc, text, None, steps) {
+    match load_book_by(rt, alloc, text, None, steps) {
         Ok(book) => {
             // The program ends after it has told of the text, so a large book isn't taken apart first.
             std::mem::forget(book);
@@ -77,7 +80,7 @@ fn machine_of<L: Ledger>(
 /// Answers the messages that come over a link, up to the end of the connection, from a journal in memory that begins as a text.
 /// The text has no year before it. It is judged first: where it has more than 16,777,216 bytes or 200,000 items, or a fault,
 /// that is told, and nothing is read of the link or sent over it.
-pub fn talk_from<W: Wait, K: Link, M: Maker, L: Ledger>(
+pub fn talk_from<W: Threads + Wait + Sync, K: Link, M: Maker, L: Ledger>(
     rt: &W,
     alloc: Global,
     text: &[u8],
@@ -91,7 +94,7 @@ pub fn talk_from<W: Wait, K: Link, M: Maker, L: Ledger>(
         (wire K.Link link.old link.new) result }
     ensures untouched { OnErr result ((link.new ≡ link.old) × (maker.new ≡ maker.old)) }
 {
-    if let Err(refusal) = judge_text(alloc, text, steps) {
+    if let Err(refusal) = judge_text(rt, alloc, text, steps) {
         return Err(refusal);
     }
     match machine_of(alloc, text, terms.allow, steps) {
