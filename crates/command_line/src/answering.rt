@@ -10,7 +10,6 @@ ghost use Rattle.command_line.specs.Scenes.{SourceIsSound, scene, soundness};
 ghost use Rattle.command_line.specs.Sources.{default_year, has_limit, judge_within, most_bytes};
 
 use crate::outside::Outside;
-use crate::room::make_room;
 use crate::source::{MOST_BYTES, read_text};
 use book_commands::{Today, Work, answer_text};
 use command_words::{Origin, TextTask};
@@ -20,6 +19,7 @@ use query::Maker;
 use refusals::{Refusal, past_limit};
 use std::alloc::Global;
 use std::sync::ledger::Ledger;
+use std::thread::Threads;
 
 /// The year of dates that have none: that of the day, and none in a store.
 fn year_for(origin: &Origin, day: Day) -> Option<u16>
@@ -61,7 +61,8 @@ fn past_bytes(alloc: Global, count: u64) -> Refusal
 }
 
 /// What is answered to a text within its limit.
-fn answer_within<M: Maker, L: Ledger>(
+fn answer_within<M: Maker, R: Threads + Sync, L: Ledger>(
+    rt: &R,
     alloc: Global,
     task: &TextTask,
     text: &[u8],
@@ -82,12 +83,12 @@ fn answer_within<M: Maker, L: Ledger>(
         day,
         year: year_for(&task.origin, day),
     };
-    make_room(alloc, text.len());
-    answer_text(alloc, &task.work, text, today, maker, steps)
+    answer_text(rt, alloc, &task.work, text, today, maker, steps)
 }
 
 /// What is answered to a text that was read, before anything is written.
-fn answer_read<M: Maker, L: Ledger>(
+fn answer_read<M: Maker, R: Threads + Sync, L: Ledger>(
+    rt: &R,
     alloc: Global,
     task: &TextTask,
     text: &[u8],
@@ -106,11 +107,12 @@ fn answer_read<M: Maker, L: Ledger>(
     if is_past_limit(&task.work, text) {
         return Err(past_bytes(alloc, text.len() as u64));
     }
-    answer_within(alloc, task, text, day, maker, steps)
+    answer_within(rt, alloc, task, text, day, maker, steps)
 }
 
 /// What is answered to a text, before anything is written.
-pub(crate) fn answer<J: Source, O: Sink, E: Sink, S: Shelf, M: Maker, L: Ledger>(
+pub(crate) fn answer<J: Source, O: Sink, E: Sink, S: Shelf, M: Maker, R: Threads + Sync, L: Ledger>(
+    rt: &R,
     alloc: Global,
     task: &TextTask,
     day: Day,
@@ -128,5 +130,13 @@ pub(crate) fn answer<J: Source, O: Sink, E: Sink, S: Shelf, M: Maker, L: Ledger>
     ensures err { outside.new.err ≡ outside.old.err }
 {
     let text = read_text(alloc, &task.origin, outside)?;
-    answer_read(alloc, task, text.as_slice(), day, &mut outside.maker, steps)
+    answer_read(
+        rt,
+        alloc,
+        task,
+        text.as_slice(),
+        day,
+        &mut outside.maker,
+        steps,
+    )
 }

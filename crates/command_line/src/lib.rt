@@ -7,7 +7,6 @@ mod frames;
 mod help;
 mod outside;
 mod program;
-mod room;
 mod sample;
 mod source;
 mod store_tasks;

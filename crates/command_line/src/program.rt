@@ -30,6 +30,7 @@ use refusals::Refusal;
 use std::alloc::Global;
 use std::sync::Wait;
 use std::sync::ledger::Ledger;
+use std::thread::Threads;
 
 /// An exit status.
 #[derive(Clone, Copy, Debug, PartialEq, Eq)]
@@ -90,7 +91,8 @@ fn finish<O: Sink, E: Sink>(out: &mut O, err: &mut E, output: &[u8]) -> Status
 }
 
 /// Runs what is asked of a text: reads it, and writes the output or the line that says why there is none.
-fn run_text<J: Source, O: Sink, E: Sink, S: Shelf, M: Maker, L: Ledger>(
+fn run_text<J: Source, O: Sink, E: Sink, S: Shelf, M: Maker, R: Threads + Sync, L: Ledger>(
+    rt: &R,
     alloc: Global,
     task: &TextTask,
     day: Day,
@@ -107,7 +109,7 @@ fn run_text<J: Source, O: Sink, E: Sink, S: Shelf, M: Maker, L: Ledger>(
         (scene J.Source O.Sink E.Sink S.Shelf M.Maker outside.old)
         (soundness J.Source O.Sink E.Sink S.Shelf outside.old) }
 {
-    match answer(alloc, task, day, outside, steps) {
+    match answer(rt, alloc, task, day, outside, steps) {
         Ok(output) => finish(
             &mut outside.streams.output,
             &mut outside.err,
@@ -142,7 +144,7 @@ fn run_stored<J: Source, O: Sink, E: Sink, S: Shelf, M: Maker, L: Ledger>(
 }
 
 /// Runs one connection over the input and the output, and tells how it ended, or why there was none.
-fn run_talk<J: Source, O: Sink, E: Sink, S: Shelf, M: Maker, W: Wait, L: Ledger>(
+fn run_talk<J: Source, O: Sink, E: Sink, S: Shelf, M: Maker, W: Threads + Wait + Sync, L: Ledger>(
     rt: &W,
     alloc: Global,
     what: Talking,
@@ -163,7 +165,8 @@ fn run_talk<J: Source, O: Sink, E: Sink, S: Shelf, M: Maker, W: Wait, L: Ledger>
 }
 
 /// Tells a sample, or why there is none.
-fn run_sample<J: Source, O: Sink, E: Sink, S: Shelf, M: Maker, L: Ledger>(
+fn run_sample<J: Source, O: Sink, E: Sink, S: Shelf, M: Maker, R: Threads + Sync, L: Ledger>(
+    rt: &R,
     alloc: Global,
     count: u64,
     outside: &mut Outside<J, O, E, S, M>,
@@ -175,7 +178,7 @@ fn run_sample<J: Source, O: Sink, E: Sink, S: Shelf, M: Maker, L: Ledger>(
     ensures sampled { RunsSample (scene J.Source O.Sink E.Sink S.Shelf M.Maker)
         (soundness J.Source O.Sink E.Sink S.Shelf) count result.0 outside.old outside.new }
 {
-    match answer_sample(alloc, count, steps) {
+    match answer_sample(rt, alloc, count, steps) {
         Ok(output) => finish(
             &mut outside.streams.output,
             &mut outside.err,
@@ -186,7 +189,8 @@ fn run_sample<J: Source, O: Sink, E: Sink, S: Shelf, M: Maker, L: Ledger>(
 }
 
 /// Runs what is asked for that is no connection: it waits for nobody.
-fn run_task<J: Source, O: Sink, E: Sink, S: Shelf, M: Maker, L: Ledger>(
+fn run_task<J: Source, O: Sink, E: Sink, S: Shelf, M: Maker, R: Threads + Sync, L: Ledger>(
+    rt: &R,
     alloc: Global,
     task: Task,
     day: Day,
@@ -210,10 +214,10 @@ fn run_task<J: Source, O: Sink, E: Sink, S: Shelf, M: Maker, L: Ledger>(
         (soundness J.Source O.Sink E.Sink S.Shelf) S.Shelf S.Disk.Disk M.Maker day result.0 outside.old outside.new task }
 {
     match task {
-        Task::Over(given) => run_text(alloc, &given, day, outside, steps),
+        Task::Over(given) => run_text(rt, alloc, &given, day, outside, steps),
         Task::Stored(what) => run_stored(alloc, what, day, outside, steps),
         Task::Talk(_) => unreachable!(),
-        Task::Sample(count) => run_sample(alloc, count, outside, steps),
+        Task::Sample(count) => run_sample(rt, alloc, count, outside, steps),
         Task::Help => finish(
             &mut outside.streams.output,
             &mut outside.err,
@@ -228,7 +232,15 @@ fn run_task<J: Source, O: Sink, E: Sink, S: Shelf, M: Maker, L: Ledger>(
 }
 
 /// Runs what is asked for: only a connection may wait.
-fn run_any_task<J: Source, O: Sink, E: Sink, S: Shelf, M: Maker, W: Wait, L: Ledger>(
+fn run_any_task<
+    J: Source,
+    O: Sink,
+    E: Sink,
+    S: Shelf,
+    M: Maker,
+    W: Threads + Wait + Sync,
+    L: Ledger,
+>(
     rt: &W,
     alloc: Global,
     task: Task,
@@ -253,7 +265,7 @@ fn run_any_task<J: Source, O: Sink, E: Sink, S: Shelf, M: Maker, W: Wait, L: Led
 {
     match task {
         Task::Talk(what) => run_talk(rt, alloc, what, day, outside, steps),
-        other => run_task(alloc, other, day, outside, steps),
+        other => run_task(rt, alloc, other, day, outside, steps),
     }
 }
 
@@ -274,8 +286,10 @@ pub fn asks_talk(words: &[Text]) -> bool
     }
 }
 
-/// Runs the program over words whose first isn't `talk`, as `run_waiting` does over any: without a handle it waits for nobody.
-pub fn run<J: Source, O: Sink, E: Sink, S: Shelf, M: Maker, L: Ledger>(
+/// Runs the program over words whose first isn't `talk`, as `run_waiting` does over any: it waits for nobody. Threads that read a
+/// text are its own, and have ended when it returns.
+pub fn run<J: Source, O: Sink, E: Sink, S: Shelf, M: Maker, R: Threads + Sync, L: Ledger>(
+    rt: &R,
     alloc: Global,
     words: &[Text],
     day: Day,
@@ -298,13 +312,13 @@ pub fn run<J: Source, O: Sink, E: Sink, S: Shelf, M: Maker, L: Ledger>(
         (soundness J.Source O.Sink E.Sink S.Shelf) S.Shelf S.Disk.Disk M.Maker day result.0 outside.old outside.new (task_of day.0 words.now) }
 {
     match read_words(alloc, words, day) {
-        Ok(task) => run_task(alloc, task, day, outside, steps),
+        Ok(task) => run_task(rt, alloc, task, day, outside, steps),
         Err(fault) => refuse(&mut outside.err, &refuse_words(alloc, words, &fault)),
     }
 }
 
 /// Runs what words ask for that may be those of a connection.
-fn run_words<J: Source, O: Sink, E: Sink, S: Shelf, M: Maker, W: Wait, L: Ledger>(
+fn run_words<J: Source, O: Sink, E: Sink, S: Shelf, M: Maker, W: Threads + Wait + Sync, L: Ledger>(
     rt: &W,
     alloc: Global,
     words: &[Text],
@@ -341,8 +355,16 @@ fn run_words<J: Source, O: Sink, E: Sink, S: Shelf, M: Maker, W: Wait, L: Ledger
 /// read. `talk` answers the requests of one connection over the input and the output, to a journal in memory that begins as the
 /// text of a file or empty, or to a store; what a request is answered sets no status, but how the connection ends does. Its words
 /// alone may wait: for the lock under which the journal lies, of which nobody else has a pass. All other words are run by `run`,
-/// which has no handle to wait by. No file is changed but those of a store: one that is read keeps its image.
-pub fn run_waiting<J: Source, O: Sink, E: Sink, S: Shelf, M: Maker, W: Wait, L: Ledger>(
+/// which waits for nobody. No file is changed but those of a store: one that is read keeps its image.
+pub fn run_waiting<
+    J: Source,
+    O: Sink,
+    E: Sink,
+    S: Shelf,
+    M: Maker,
+    W: Threads + Wait + Sync,
+    L: Ledger,
+>(
     rt: &W,
     alloc: Global,
     words: &[Text],
@@ -367,6 +389,6 @@ pub fn run_waiting<J: Source, O: Sink, E: Sink, S: Shelf, M: Maker, W: Wait, L: 
     if asks_talk(words) {
         run_words(rt, alloc, words, day, outside, steps)
     } else {
-        run(alloc, words, day, outside, steps)
+        run(rt, alloc, words, day, outside, steps)
     }
 }

@@ -4,13 +4,13 @@ ghost use Rattle.sample_text.specs.Sample as sample;
 ghost use Rattle.command_line.specs.Samples as spec;
 ghost use Rattle.command_line.specs.StoreTasks.{IsOfStored};
 
-use crate::room::make_room;
 use crate::store_tasks::refuse_journal;
 use hl_base::{Bytes, Memory, Steps, Text};
 use refusals::Refusal;
 use sample_text::{sample_line, sample_text};
 use std::alloc::Global;
 use std::sync::ledger::Ledger;
+use std::thread::Threads;
 use talk_commands::judge_text;
 
 /// What is said of a sample whose text has so many bytes, and loads.
@@ -26,7 +26,8 @@ fn sample_said(alloc: Global, count: u64, bytes: u64) -> Result<Bytes, Refusal>
 }
 
 /// What is said of a sample of this text.
-fn judge_sample<L: Ledger>(
+fn judge_sample<R: Threads + Sync, L: Ledger>(
+    rt: &R,
     alloc: Global,
     count: u64,
     text: &[u8],
@@ -37,15 +38,15 @@ fn judge_sample<L: Ledger>(
     ensures told { spec.ToldSample (spec.sample_answer count) result }
     ensures kind { IfErr result IsOfStored }
 {
-    make_room(alloc, text.len());
-    match judge_text(alloc, text, steps) {
+    match judge_text(rt, alloc, text, steps) {
         Ok(()) => sample_said(alloc, count, text.len() as u64),
         Err(refusal) => Err(refuse_journal(alloc, &Text::new(alloc), &refusal)),
     }
 }
 
 /// What is said of a sample of so many entries, after its text was loaded.
-pub(crate) fn answer_sample<L: Ledger>(
+pub(crate) fn answer_sample<R: Threads + Sync, L: Ledger>(
+    rt: &R,
     alloc: Global,
     count: u64,
     steps: &mut Steps<L>,
@@ -55,7 +56,7 @@ pub(crate) fn answer_sample<L: Ledger>(
     ensures kind { IfErr result IsOfStored }
 {
     match sample_text(alloc, count) {
-        Ok(text) => judge_sample(alloc, count, text.as_slice(), steps),
+        Ok(text) => judge_sample(rt, alloc, count, text.as_slice(), steps),
         Err(Memory) => Err(Refusal::Memory),
     }
 }

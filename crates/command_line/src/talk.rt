@@ -17,11 +17,12 @@ use refusals::Refusal;
 use std::alloc::Global;
 use std::sync::Wait;
 use std::sync::ledger::Ledger;
+use std::thread::Threads;
 use talk_commands::{StoreTalk, Terms, talk_from, talk_store};
 use web_desk::{ConnEnd, Way};
 
 /// One connection to a journal in memory that begins as a text.
-fn talk_text<J: Source, O: Sink, E: Sink, S: Shelf, M: Maker, W: Wait, L: Ledger>(
+fn talk_text<J: Source, O: Sink, E: Sink, S: Shelf, M: Maker, W: Threads + Wait + Sync, L: Ledger>(
     rt: &W,
     alloc: Global,
     text: &[u8],
@@ -49,7 +50,7 @@ fn talk_text<J: Source, O: Sink, E: Sink, S: Shelf, M: Maker, W: Wait, L: Ledger
 }
 
 /// One connection to a journal in memory that begins as the text of a file.
-fn talk_file<J: Source, O: Sink, E: Sink, S: Shelf, M: Maker, W: Wait, L: Ledger>(
+fn talk_file<J: Source, O: Sink, E: Sink, S: Shelf, M: Maker, W: Threads + Wait + Sync, L: Ledger>(
     rt: &W,
     alloc: Global,
     name: Text,
@@ -97,7 +98,15 @@ fn talk_over<J: Source, O: Sink, E: Sink, S: Shelf, M: Maker, W: Wait, L: Ledger
 }
 
 /// One connection over the input and the output, on a day: how it ended, or why there was none.
-pub(crate) fn talk<J: Source, O: Sink, E: Sink, S: Shelf, M: Maker, W: Wait, L: Ledger>(
+pub(crate) fn talk<
+    J: Source,
+    O: Sink,
+    E: Sink,
+    S: Shelf,
+    M: Maker,
+    W: Threads + Wait + Sync,
+    L: Ledger,
+>(
     rt: &W,
     alloc: Global,
     what: Talking,

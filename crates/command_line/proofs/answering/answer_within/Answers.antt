@@ -5,7 +5,7 @@ use Rattle.command_line.proofs.Limits.{within_by}
 use Rattle.command_line.proofs.answering.answer_within.Goals as goal
 
 pub answer_text-requires-clause-size : goal.answer_text-requires-clause-size
-answer_text-requires-clause-size g c = within_by c.args.task.now.work c.args.text.now c.requires.within
+answer_text-requires-clause-size g c κs within = within_by c.args.task.now.work c.args.text.now c.requires.within
 
 pub returns-clause-found : goal.returns-clause-found
 returns-clause-found g c =
