@@ -128,7 +128,16 @@ fn run_serve<
 }
 
 /// Runs what other words ask for; the house isn't asked.
-fn run_other<J: Source, O: Sink, E: Sink, S: Shelf, M: Maker, H: House, W: Wait, L: Ledger>(
+fn run_other<
+    J: Source,
+    O: Sink,
+    E: Sink,
+    S: Shelf,
+    M: Maker,
+    H: House,
+    W: Threads + Wait + Sync,
+    L: Ledger,
+>(
     rt: &W,
     alloc: Global,
     words: &[Text],
