@@ -12,6 +12,7 @@ use std::alloc::Global;
 use std::marker::Brand;
 use std::sync::Wait;
 use std::sync::ledger::{Blank, Ledger};
+use std::thread::Threads;
 
 /// The words, the input, and the numbers of the reads and writes that are to fail.
 #[derive(Clone, Copy)]
@@ -80,7 +81,7 @@ fn maker_of(alloc: Global, beside: &Beside) -> Result<ListMaker, Memory> {
 }
 
 /// Runs the program on the case, beside a file.
-pub fn answer_beside<W: Wait>(
+pub fn answer_beside<W: Threads + Wait + Sync>(
     rt: &W,
     alloc: Global,
     case: &Case,
@@ -91,7 +92,7 @@ pub fn answer_beside<W: Wait>(
 }
 
 /// Runs the program on the case, where a read gives at most so many bytes.
-pub fn answer_in_cuts<W: Wait>(
+pub fn answer_in_cuts<W: Threads + Wait + Sync>(
     rt: &W,
     alloc: Global,
     case: &Case,
@@ -112,7 +113,7 @@ fn words_of(alloc: Global, case: &Case) -> Result<Vec<Text>, Memory> {
     Ok(words)
 }
 
-fn counted<L: Ledger, J: Source + Drop, W: Wait>(
+fn counted<L: Ledger, J: Source + Drop, W: Threads + Wait + Sync>(
     rt: &W,
     alloc: Global,
     blank: Blank,
@@ -138,7 +139,7 @@ fn counted<L: Ledger, J: Source + Drop, W: Wait>(
     let status = if asks_talk(words) {
         run_waiting(rt, alloc, words, day, &mut outside, &mut steps)
     } else {
-        run(alloc, words, day, &mut outside, &mut steps)
+        run(rt, alloc, words, day, &mut outside, &mut steps)
     };
     Ok(Seen {
         status: status.0,
