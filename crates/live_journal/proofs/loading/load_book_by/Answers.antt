@@ -6,13 +6,13 @@ use Rattle.live_journal.proofs.Telling.{booked, booked_good, unbooked_tells, unc
 use Rattle.live_journal.proofs.loading.load_book_by.Goals as goal
 
 pub read_by-requires-clause-pieces : goal.read_by-requires-clause-pieces
-read_by-requires-clause-pieces g c = c.as_slice.ensures ∙ c.in_ok-pieces.ensures.cut.cut
+read_by-requires-clause-pieces g c κs within = c.as_slice.ensures ∙ c.in_ok-pieces.ensures.cut.cut
 
 pub read_by-requires-clause-within : goal.read_by-requires-clause-within
-read_by-requires-clause-within g c = subst (AreWithin c.args.text.now) (sym c.as_slice.ensures) c.in_ok-pieces.ensures.cut.readable
+read_by-requires-clause-within g c κs within = subst (AreWithin c.args.text.now) (sym c.as_slice.ensures) c.in_ok-pieces.ensures.cut.readable
 
 pub read_by-requires-clause-whole : goal.read_by-requires-clause-whole
-read_by-requires-clause-whole g c = ap bytes_in c.as_slice.ensures ∙ c.in_ok-pieces.ensures.cut.whole
+read_by-requires-clause-whole g c κs within = ap bytes_in c.as_slice.ensures ∙ c.in_ok-pieces.ensures.cut.whole
 
 pub returns-in_err-pieces-clause-fault : goal.returns-in_err-pieces-clause-fault
 returns-in_err-pieces-clause-fault g c =
