@@ -1,5 +1,6 @@
 -- Pieces that are no directives, prices or rules leave the context as it is, so each is read in the first one's.
-use Rattle.std.proofs.Common.{◌≡◌, ℕ, Bool, true, false, ◌||◌, List, [], ◌∷◌, ◌++◌, Option, Result, Ok, Err, if◌then◌else◌, length, nat_lt, refl, sym, ap, ◌∙◌, ◌+◌, append-nil, true≢false}
+use Rattle.std.proofs.Common.{◌≡◌, ℕ, Bool, true, false, ◌||◌, List, [], ◌∷◌, ◌++◌, Option, Result, Ok, Err, if◌then◌else◌, length, nat_lt, refl, sym, ap, ◌∙◌, ◌+◌, append_assoc, append-nil, true≢false}
+use Rattle.std.specs.Prelude.{IfSome}
 use Rattle.std.specs.Str.{is_utf8}
 use Rattle.std.proofs.lemmas.Grind.{flat_map-append}
 use Rattle.hl_base.specs.Items.{kind_of}
@@ -14,7 +15,9 @@ use Rattle.book.specs.declared.fault.Cause.TheVariants as cause
 use Rattle.book.specs.declared.item.Item.{Item}
 use Rattle.book.specs.declared.item.Item.TheVariants as item
 use Rattle.book.specs.declared.item.Placed.{Placed}
-use Rattle.entry_reader.specs.Causes.{◌>>=◌, fault_at}
+use Rattle.entry_reader.specs.declared.fault.ReadFault.{ReadFault}
+use Rattle.entry_reader.specs.declared.fault.ReadFault.TheVariants as faults
+use Rattle.entry_reader.specs.Causes.{◌>>=◌, cause_in, fault_at}
 use Rattle.entry_reader.specs.Comments.{comments_in}
 use Rattle.entry_reader.specs.Contexts.{Context, context_from, context_of, directive_in, directives_in}
 use Rattle.entry_reader.specs.Entries.{entry_of, entry_with, txn_from}
@@ -22,7 +25,8 @@ use Rattle.entry_reader.specs.Heads.{head_of}
 use Rattle.entry_reader.specs.Lines.{contents_of}
 use Rattle.entry_reader.specs.Postings.{postings_of}
 use Rattle.journal_reader.specs.Items.{broken_line, entry_limit, reading, reading_from, said_by}
-use Rattle.parallel_reading.specs.Runs.{bytes_of, has_head, is_head, is_head_kind, read_alike}
+use Rattle.parallel_reading.proofs.Runs.{Told, both_nothing, first_kept, with_first}
+use Rattle.parallel_reading.specs.Runs.{both, bytes_of, has_head, is_head, is_head_kind, items_at, read_alike}
 
 -- ---- what an entry says is no directive
 
@@ -98,5 +102,60 @@ alike year before text (p ∷ ps) plain =
     (λ i e. alike year (before ++ i ∷ []) text ps parts.1
     ∙ ap (λ (c : Context). read_alike c text ps) (same_context year before i (read_none (context_of year before) p.line (bytes_of text p) i parts.0 e)))
 
-pub alike_in : (year : Option ℕ) (context : Context) (text : List ℕ) (pieces : List Piece) → has_head text pieces ≡ false → context ≡ context_of year [] → read_alike context text pieces ≡ reading_from year [] text pieces
-alike_in year context text pieces plain e = ap (λ (c : Context). read_alike c text pieces) e ∙ sym (alike year [] text pieces plain)
+-- ---- pieces, and others behind them
+
+one_front : (read : Result Item Fault) (whole part : Item → Told) (behind : List Placed → Told) → ((i : Item) → whole i ≡ (part i >>= behind)) → (read >>= whole) ≡ ((read >>= part) >>= behind)
+one_front (Ok i) whole part behind each = each i
+one_front (Err fault) whole part behind each = refl
+
+front_more : (p : Piece) (i : Item) (before : List Item) (read : Told) (rest : List Item → Told)
+    → with_first (placed_as p i) (read >>= λ front. both (Ok front) (rest ((before ++ i ∷ []) ++ items_at front))) ≡ (with_first (placed_as p i) read >>= λ front. both (Ok front) (rest (before ++ items_at front)))
+front_more p i before (Ok front) rest =
+    first_kept (placed_as p i) (Ok front) (rest ((before ++ i ∷ []) ++ items_at front)) ∙ ap (λ (b : List Item). both (Ok (placed_as p i ∷ front)) (rest b)) (append_assoc before (i ∷ []) (items_at front))
+front_more p i before (Err fault) rest = refl
+
+read_front : (year : Option ℕ) (before : List Item) (text : List ℕ) (ps qs : List Piece)
+    → reading_from year before text (ps ++ qs) ≡ (reading_from year before text ps >>= λ front. both (Ok front) (reading_from year (before ++ items_at front) text qs))
+unfolding reading_from
+read_front year before text [] qs =
+    both_nothing (reading_from year before text qs) ∙ ap (λ (b : List Item). both (Ok []) (reading_from year b text qs)) (sym (append-nil before))
+read_front year before text (p ∷ ps) qs =
+    one_front (reading (context_of year before) p.line (bytes_of text p)) (λ i. with_first (placed_as p i) (reading_from year (before ++ i ∷ []) text (ps ++ qs)))
+    (λ i. with_first (placed_as p i) (reading_from year (before ++ i ∷ []) text ps)) (λ front. both (Ok front) (reading_from year (before ++ items_at front) text qs))
+    (λ i. ap (with_first (placed_as p i)) (read_front year (before ++ i ∷ []) text ps qs)
+    ∙ front_more p i before (reading_from year (before ++ i ∷ []) text ps) (λ b. reading_from year b text qs))
+
+-- what all pieces say, once those of the front were read
+cut_read : (year : Option ℕ) (text : List ℕ) (pieces front back : List Piece) (read : Told) → front ++ back ≡ pieces → reading_from year [] text front ≡ read
+    → reading_from year [] text pieces ≡ (read >>= λ items. both (Ok items) (reading_from year (items_at items) text back))
+cut_read year text pieces front back read whole is =
+    ap (reading_from year [] text) (sym whole) ∙ read_front year [] text front back ∙ ap (λ (r : Told). r >>= λ items. both (Ok items) (reading_from year (items_at items) text back)) is
+
+pub front_stops_all : (fault : ReadFault) (year : Option ℕ) (text : List ℕ) (pieces front back : List Piece) → front ++ back ≡ pieces → IfSome (cause_in fault) (λ f. reading_from year [] text front ≡ Err f)
+    → IfSome (cause_in fault) (λ f. reading_from year [] text pieces ≡ Err f)
+front_stops_all faults.Memory year text pieces front back whole h = tt
+front_stops_all (faults.Read fault) year text pieces front back whole h = cut_read year text pieces front back (Err fault) whole h
+
+-- the same, where the front's items have become a vector's
+behind_read : (year : Option ℕ) (text : List ℕ) (pieces front back : List Piece) (items owned : List Placed) (read : Told) → front ++ back ≡ pieces → reading_from year [] text front ≡ Ok items → owned ≡ items
+    → both (Ok owned) (reading_from year (items_at owned) text back) ≡ read → reading_from year [] text pieces ≡ read
+behind_read year text pieces front back items owned read whole h same k =
+    cut_read year text pieces front back (Ok items) whole h ∙ ap (λ (l : List Placed). both (Ok l) (reading_from year (items_at l) text back)) (sym same) ∙ k
+
+pub back_stops_all : (fault : ReadFault) (year : Option ℕ) (text : List ℕ) (pieces front back : List Piece) (items owned : List Placed) → front ++ back ≡ pieces → reading_from year [] text front ≡ Ok items → owned ≡ items
+    → IfSome (cause_in fault) (λ f. both (Ok owned) (reading_from year (items_at owned) text back) ≡ Err f) → IfSome (cause_in fault) (λ f. reading_from year [] text pieces ≡ Err f)
+back_stops_all faults.Memory year text pieces front back items owned whole h same k = tt
+back_stops_all (faults.Read fault) year text pieces front back items owned whole h same k = behind_read year text pieces front back items owned (Err fault) whole h same k
+
+pub all_told : (year : Option ℕ) (text : List ℕ) (pieces front back : List Piece) (items owned all list : List Placed) → front ++ back ≡ pieces → reading_from year [] text front ≡ Ok items → owned ≡ items
+    → both (Ok owned) (reading_from year (items_at owned) text back) ≡ Ok all → list ≡ all → reading_from year [] text pieces ≡ Ok list
+all_told year text pieces front back items owned all list whole h same k e =
+    behind_read year text pieces front back items owned (Ok all) whole h same k ∙ ap (λ (l : List Placed). Ok l) (sym e)
+
+-- pieces behind items, in the context behind these
+pub behind_in : (year : Option ℕ) (context : Context) (text : List ℕ) (pieces : List Piece) (items kept shown : List Placed) → has_head text pieces ≡ false → kept ≡ items → shown ≡ kept
+    → context ≡ context_of year (items_at shown) → both (Ok items) (reading_from year (items_at items) text pieces) ≡ both (Ok kept) (read_alike context text pieces)
+behind_in year context text pieces items kept shown plain same seen made =
+    let context_is : context_of year (items_at items) ≡ context = ap (λ (l : List Placed). context_of year (items_at l)) (sym (seen ∙ same)) ∙ sym made in
+    ap (both (Ok items)) (alike year (items_at items) text pieces plain ∙ ap (λ (c : Context). read_alike c text pieces) context_is)
+    ∙ ap (λ (l : List Placed). both (Ok l) (read_alike context text pieces)) (sym same)

@@ -1,11 +1,12 @@
 -- Runs of pieces, one behind another.
-use Rattle.std.proofs.Common.{◌≡◌, ℕ, zero, suc, ◌+◌, ◌/◌, ◌^◌, ◌<◌, ◌≤◌, Bool, true, false, ◌||◌, List, [], ◌∷◌, ◌++◌, Result, Ok, Err, Vec, Global, length, get_or, take, drop, refl, sym, ap, subst, ◌∙◌, append_assoc, append-nil, take-append-drop, arith}
+use Rattle.std.proofs.Common.{◌≡◌, ℕ, zero, suc, ◌+◌, ◌-◌, ◌/◌, ◌^◌, ◌<◌, ◌≤◌, Bool, false, ◌||◌, List, [], ◌∷◌, ◌++◌, Result, Ok, Err, Vec, Global, length, get_or, take, drop, refl, sym, ap, subst, ◌∙◌, append_assoc, append-nil, take-append-drop, arith}
 use Rattle.std.specs.Prelude.{IfSome}
 use Rattle.std.specs.List.{AllByRecursion}
-use Rattle.std.proofs.lemmas.List.{at_drop_all, drop_more, get_or_default}
+use Rattle.std.proofs.lemmas.List.{map_more, at_drop_all, drop_more, get_or_default}
+use Rattle.std.proofs.lemmas.List.Sums.{sum_by-append}
 use Rattle.hl_base.specs.Gives.{Gives}
 use Rattle.hl_base.specs.declared.items.Piece.{Piece}
-use Rattle.hl_base.specs.Pieces.{IsWithin}
+use Rattle.hl_base.specs.Pieces.{IsWithin, bytes_in}
 use Rattle.book.specs.declared.fault.Fault.{Fault}
 use Rattle.book.specs.declared.item.Item.{Item}
 use Rattle.book.specs.declared.item.Placed.{Placed}
@@ -15,7 +16,7 @@ use Rattle.entry_reader.specs.Causes.{◌>>=◌, cause_in}
 use Rattle.entry_reader.specs.Contexts.{Context}
 use Rattle.journal_reader.specs.Items.{reading}
 use Rattle.journal_reader.specs.Whole.{AreWithin}
-use Rattle.parallel_reading.specs.Runs.{both, bytes_of, first_half, has_head, is_head, read_alike, second_half}
+use Rattle.parallel_reading.specs.Runs.{both, bytes_of, first_half, has_head, is_head, items_at, read_alike, second_half}
 
 abbrev pub Told : Type 0
 Told = Result (List Placed) Fault
@@ -60,12 +61,6 @@ unfolding read_alike
 all_read context text pieces i front items total le e so_far =
     sym so_far ∙ ap (items_before front) (at_drop_all (read_alike context text) pieces i le) ∙ ap (λ (x : List Placed). Ok x) (append-nil front ∙ sym e)
 
-pub none_read : (context : Context) (text : List ℕ) (pieces : List Piece) → items_before [] (read_alike context text pieces) ≡ read_alike context text pieces
-none_read context text pieces = same (read_alike context text pieces) where
-  same : (r : Told) → items_before [] r ≡ r
-  same (Ok items) = refl
-  same (Err f) = refl
-
 -- the same, at the place that a loop has reached
 pub more_at : (context : Context) (text bytes : List ℕ) (pieces : List Piece) (i : ℕ) (d : Piece) (front found : List Placed) (it : Item) (total : Told) → i < length pieces
     → bytes ≡ bytes_of text (get_or pieces i d) → reading context (get_or pieces i d).line bytes ≡ Ok it
@@ -89,31 +84,25 @@ stops_at fault context text bytes pieces i d front total lt h read so_far =
 head_at : (text : List ℕ) (pieces : List Piece) (i : ℕ) (d : Piece) → i < length pieces → has_head text (drop i pieces) ≡ (is_head (bytes_of text (get_or pieces i d)) || has_head text (drop (i + 1) pieces))
 head_at text pieces i d lt = ap (has_head text) (drop_more pieces i d lt)
 
-pub head_found : (text bytes : List ℕ) (pieces : List Piece) (i : ℕ) (d : Piece) → i < length pieces → bytes ≡ bytes_of text (get_or pieces i d) → is_head bytes ≡ true
-    → has_head text (drop i pieces) ≡ has_head text pieces → has_head text pieces ≡ true
-head_found text bytes pieces i d lt h is so_far =
-    let here : is_head (bytes_of text (get_or pieces i d)) ≡ true = ap is_head (sym h) ∙ is in
-    sym so_far ∙ head_at text pieces i d lt ∙ ap (λ (b : Bool). b || has_head text (drop (i + 1) pieces)) here
+-- the piece before those that are no heads
+pub head_before : (text : List ℕ) (pieces : List Piece) (next at : ℕ) (d : Piece) (head : Bool) → next + 1 ≡ at → next < length pieces → head ≡ is_head (bytes_of text (get_or pieces next d)) → head ≡ false
+    → has_head text (drop at pieces) ≡ false → has_head text (drop next pieces) ≡ false
+head_before text pieces next at d head e lt h is so_far =
+    head_at text pieces next d lt ∙ ap (λ (b : Bool). b || has_head text (drop (next + 1) pieces)) (sym h ∙ is) ∙ ap (λ (n : ℕ). has_head text (drop n pieces)) e ∙ so_far
 
-pub head_further : (text bytes : List ℕ) (pieces : List Piece) (i : ℕ) (d : Piece) → i < length pieces → bytes ≡ bytes_of text (get_or pieces i d) → is_head bytes ≡ false
-    → has_head text (drop i pieces) ≡ has_head text pieces → has_head text (drop (i + 1) pieces) ≡ has_head text pieces
-head_further text bytes pieces i d lt h is so_far =
-    let here : is_head (bytes_of text (get_or pieces i d)) ≡ false = ap is_head (sym h) ∙ is in
-    sym (ap (λ (b : Bool). b || has_head text (drop (i + 1) pieces)) here) ∙ sym (head_at text pieces i d lt) ∙ so_far
-
-pub no_heads : (text : List ℕ) (pieces : List Piece) (i : ℕ) → length pieces ≤ i → has_head text (drop i pieces) ≡ has_head text pieces → has_head text pieces ≡ false
-no_heads text pieces i le so_far = sym so_far ∙ at_drop_all (has_head text) pieces i le
+pub no_pieces : (text : List ℕ) (pieces : List Piece) → has_head text (drop (length pieces - 0) pieces) ≡ false
+no_pieces text pieces = at_drop_all (has_head text) pieces (length pieces - 0) (omega arith)
 
 -- ---- two runs
 
-both_nothing : (read : Told) → read ≡ both (Ok []) read
+pub both_nothing : (read : Told) → read ≡ both (Ok []) read
 both_nothing (Ok items) = refl
 both_nothing (Err f) = refl
 
-abbrev with_first : Placed → Told → Told
+abbrev pub with_first : Placed → Told → Told
 with_first p read = read >>= λ more. Ok (p ∷ more)
 
-first_kept : (p : Placed) (front back : Told) → with_first p (both front back) ≡ both (with_first p front) back
+pub first_kept : (p : Placed) (front back : Told) → with_first p (both front back) ≡ both (with_first p front) back
 first_kept p (Ok items) (Ok more) = refl
 first_kept p (Ok items) (Err f) = refl
 first_kept p (Err f) back = refl
@@ -134,25 +123,36 @@ pub cut_run : (context : Context) (text : List ℕ) (n : ℕ) (ps : List Piece) 
 cut_run context text n ps = sym (two_runs context text (take n ps) (drop n ps)) ∙ ap (read_alike context text) (take-append-drop n ps)
 
 -- Runs are joined from the front on.
-pub both_both : (a b c d : Told) → both (both (both a b) c) d ≡ both (both a b) (both c d)
-both_both a b c d = regroup_runs (both a b) c d where
-  regroup_runs : (x y z : Told) → both (both x y) z ≡ both x (both y z)
-  regroup_runs (Ok x) (Ok y) (Ok z) = ap (λ (l : List Placed). Ok l) (append_assoc x y z)
-  regroup_runs (Ok x) (Ok y) (Err f) = refl
-  regroup_runs (Ok x) (Err f) z = refl
-  regroup_runs (Err f) y z = refl
+regroup_runs : (x y z : Told) → both (both x y) z ≡ both x (both y z)
+regroup_runs (Ok x) (Ok y) (Ok z) = ap (λ (l : List Placed). Ok l) (append_assoc x y z)
+regroup_runs (Ok x) (Ok y) (Err f) = refl
+regroup_runs (Ok x) (Err f) z = refl
+regroup_runs (Err f) y z = refl
+
+behind : (x a b c d : Told) → both (both (both (both x a) b) c) d ≡ both x (both (both (both a b) c) d)
+behind x a b c d =
+    ap (λ (r : Told). both (both r c) d) (regroup_runs x a b) ∙ ap (λ (r : Told). both r d) (regroup_runs x (both a b) c) ∙ regroup_runs x (both (both a b) c) d
 
 -- the quarters of a run
-pub four_runs : (context : Context) (text : List ℕ) (pieces : List Piece)
+four_runs : (context : Context) (text : List ℕ) (pieces : List Piece)
     → both (both (both (read_alike context text (first_half (first_half pieces))) (read_alike context text (second_half (first_half pieces)))) (read_alike context text (first_half (second_half pieces))))
     (read_alike context text (second_half (second_half pieces))) ≡ read_alike context text pieces
 four_runs context text pieces =
     let left = first_half pieces in
     let right = second_half pieces in
-    both_both (read_alike context text (first_half left)) (read_alike context text (second_half left)) (read_alike context text (first_half right)) (read_alike context text (second_half right))
+    regroup_runs (both (read_alike context text (first_half left)) (read_alike context text (second_half left))) (read_alike context text (first_half right)) (read_alike context text (second_half right))
     ∙ ap (λ (r : Told). both r (both (read_alike context text (first_half right)) (read_alike context text (second_half right)))) (cut_run context text (length left / 2) left)
     ∙ ap (λ (r : Told). both (read_alike context text left) r) (cut_run context text (length right / 2) right)
     ∙ cut_run context text (length pieces / 2) pieces
+
+-- the quarters of a run behind other items
+pub five_runs : (x : Told) (context : Context) (text : List ℕ) (pieces : List Piece)
+    → both (both (both (both x (read_alike context text (first_half (first_half pieces)))) (read_alike context text (second_half (first_half pieces)))) (read_alike context text (first_half (second_half pieces))))
+    (read_alike context text (second_half (second_half pieces))) ≡ both x (read_alike context text pieces)
+five_runs x context text pieces =
+    behind x (read_alike context text (first_half (first_half pieces))) (read_alike context text (second_half (first_half pieces))) (read_alike context text (first_half (second_half pieces)))
+    (read_alike context text (second_half (second_half pieces)))
+    ∙ ap (both x) (four_runs context text pieces)
 
 -- ---- pieces that lie in the text
 
@@ -168,7 +168,7 @@ back_within text (suc n) (p ∷ ps) h = back_within text n ps h.1
 
 -- ---- what a run that was read tells
 
-abbrev Run : Type 0
+abbrev pub Run : Type 0
 Run = Result (Vec Placed Global) ReadFault
 
 pub run_stops : (run : Run) (fault : ReadFault) (told : Told) → run ≡ Err fault → Gives (λ (v : Vec Placed Global). v.items) cause_in run told → IfSome (cause_in fault) (λ f. told ≡ Err f)
@@ -195,10 +195,35 @@ pub within : (text : List ℕ) (pieces : List Piece) → length text + 1 < 2 ^ 6
 within text [] short h = tt
 within text (p ∷ ps) short h = ((h.0.bytes, omega (arith, h.0.lines)), within text ps short h.1)
 
+-- ---- the bytes of two runs
+
+bytes_both : (front back : List Piece) → bytes_in (front ++ back) ≡ bytes_in front + bytes_in back
+bytes_both front back = sum_by-append (λ (p : Piece). p.len) front back
+
+pub bytes_after : (pieces front back : List Piece) (old middle new : ℕ) → front ++ back ≡ pieces → middle ≡ old + bytes_in front → new ≡ middle + bytes_in back → new ≡ old + bytes_in pieces
+bytes_after pieces front back old middle new whole h k =
+    let both = bytes_both front back in
+    let all : bytes_in (front ++ back) ≡ bytes_in pieces = ap bytes_in whole in
+    omega (arith, both, all, h, k)
+
+pub bytes_within : (pieces front back : List Piece) (old middle : ℕ) → front ++ back ≡ pieces → middle ≤ old + bytes_in front → middle ≤ old + bytes_in pieces
+bytes_within pieces front back old middle whole h =
+    let both = bytes_both front back in
+    let all : bytes_in (front ++ back) ≡ bytes_in pieces = ap bytes_in whole in
+    omega (arith, both, all, h)
+
+pub bytes_same : (n m : ℕ) → n ≡ m → n ≤ m
+bytes_same n m e = omega (arith, e)
+
+-- ---- a loop over items
+
+item_next : (items : List Placed) (i : ℕ) (d : Placed) → i < length items → items_at (take (i + 1) items) ≡ items_at (take i items) ++ (get_or items i d).item ∷ []
+item_next items i d lt = map_more (λ (p : Placed). p.item) items i d lt
+
+pub item_after : (items : List Placed) (i : ℕ) (x : Placed) → i < length items → x ≡ get_or items i x → items_at (take i items) ++ x.item ∷ [] ≡ items_at (take (i + 1) items)
+item_after items i x lt is = ap (λ (p : Placed). items_at (take i items) ++ p.item ∷ []) is ∙ sym (item_next items i x lt)
+
 -- ---- what one definition tells, another one does
 
-pub told_so : (one other : Told) (items all : List Placed) → one ≡ other → one ≡ Ok items → all ≡ items → other ≡ Ok all
-told_so one other items all e h k = sym e ∙ h ∙ ap (λ (l : List Placed). Ok l) (sym k)
-
-pub stops_so : (fault : ReadFault) (one other : Told) → one ≡ other → IfSome (cause_in fault) (λ f. one ≡ Err f) → IfSome (cause_in fault) (λ f. other ≡ Err f)
-stops_so fault one other e h = subst (λ (r : Told). IfSome (cause_in fault) (λ f. r ≡ Err f)) e h
+pub gives_so : (run : Run) (one other : Told) → one ≡ other → Gives (λ (v : Vec Placed Global). v.items) cause_in run other → Gives (λ (v : Vec Placed Global). v.items) cause_in run one
+gives_so run one other e h = subst (λ (t : Told). Gives (λ (v : Vec Placed Global). v.items) cause_in run t) (sym e) h

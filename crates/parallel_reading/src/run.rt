@@ -1,5 +1,5 @@
 //! Reads runs of pieces in one context.
-ghost use Rattle.std.specs.Prelude.{◌≡◌, List, Result, length};
+ghost use Rattle.std.specs.Prelude.{List, Result};
 ghost use Rattle.hl_base.specs.Gives.{Gives};
 ghost use Rattle.book.specs.declared.fault.Fault.{Fault};
 ghost use Rattle.book.specs.declared.item.Placed as placed;
@@ -17,12 +17,12 @@ use std::alloc::Global;
 /// What a run of pieces says, in order, or the fault of the first that doesn't read.
 pub type Run = Result<Vec<Placed>, ReadFault>;
 
-/// Reads a run of pieces, each in this context, into a vector with room for so many items.
-pub fn read_run(alloc: Global, text: &[u8], pieces: &[Piece], context: &Context, room: usize) -> Run
+/// Reads a run of pieces, each in this context.
+pub fn read_run(alloc: Global, text: &[u8], pieces: &[Piece], context: &Context) -> Run
     requires { AreWithin text.now pieces.now }
     ensures { Gives (λ v. v.items) cause_in result (read_alike context.now text.now pieces.now) }
 {
-    let mut items = Vec::with_capacity(alloc, room)?;
+    let mut items = Vec::with_capacity(alloc, pieces.len())?;
     for piece in pieces {
         let bytes = bytes_of(text, piece);
         let item = read_uncounted(alloc, bytes, context, piece.line)?;

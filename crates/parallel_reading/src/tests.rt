@@ -88,6 +88,16 @@ fn tells_a_fault_of_the_last_run(rt: HostRuntime) -> Result<(), Fail> {
 }
 
 #[test]
+fn a_year_before_many(rt: HostRuntime) -> Result<(), Fail> {
+    let mut text = String::new(rt.alloc());
+    push_entries(&mut text, 100, "Y2023\n")?;
+    push_entries(&mut text, 5_000, "1/6 y\n")?;
+    let found = read_whole::<HostRuntime, Brand>(&rt, rt.alloc(), Blank::new(3), text.as_bytes())?;
+    assert!(rt; found.0 == 5_102 && found.1 == 738_526);
+    Ok(())
+}
+
+#[test]
 fn a_year_in_the_middle(rt: HostRuntime) -> Result<(), Fail> {
     let mut text = String::new(rt.alloc());
     push_entries(&mut text, 2_500, "Y2023\n")?;

@@ -1,18 +1,19 @@
 //! Reads the items of a text by several threads.
 ghost use denote.Param.Send.{IsSync};
-ghost use Rattle.std.specs.Prelude.{◌≡◌, ◌+◌, ◌≤◌, [], true, false, OnOk};
+ghost use Rattle.std.specs.Prelude.{◌≡◌, ◌+◌, ◌≤◌, [], false, IfOk, Ok, OnOk};
 ghost use Rattle.hl_base.specs.Gives.{Gives};
 ghost use Rattle.hl_base.specs.Pieces.{bytes_in};
 ghost use Rattle.entry_reader.specs.Causes.{cause_in};
+ghost use Rattle.entry_reader.specs.Contexts.{context_of};
 ghost use Rattle.journal_reader.specs.Items as spec;
 ghost use Rattle.journal_reader.specs.Whole.{AreWithin};
-ghost use Rattle.parallel_reading.specs.Runs.{first_half, has_head, read_alike, second_half};
+ghost use Rattle.parallel_reading.specs.Runs.{both, first_half, has_head, items_at, read_alike, second_half};
 
-use crate::head::has_head;
+use crate::head::cut_behind_heads;
 use crate::run::{Run, joined, read_run};
-use book::Items;
+use book::{Items, Placed};
 use entry_reader::{Context, ReadFault};
-use hl_base::{List, Piece, Steps};
+use hl_base::{List, Memory, Piece, Steps};
 use std::alloc::Global;
 use std::sync::ledger::Ledger;
 use std::thread::{Threads, available_parallelism, join};
@@ -31,15 +32,13 @@ fn halves<'a>(text: &[u8], pieces: &'a [Piece]) -> (&'a [Piece], &'a [Piece])
     pieces.split_at(pieces.len() / 2)
 }
 
-/// What the two halves of a run say, by two threads. The first half has a vector with room for so many items, the second one
-/// for its own.
+/// What the two halves of a run say, by two threads.
 fn read_halves<R: Threads>(
     rt: &R,
     alloc: Global,
     text: &[u8],
     pieces: &[Piece],
     context: &Context,
-    room: usize,
 ) -> (Run, Run)
     requires { AreWithin text.now pieces.now }
     ensures first { Gives (λ v. v.items) cause_in result.0 (read_alike context.now text.now (first_half pieces.now)) }
@@ -51,16 +50,15 @@ fn read_halves<R: Threads>(
         || -> Run
             requires { AreWithin text.now front.now }
             ensures { Gives (λ v. v.items) cause_in result (read_alike context.entry.now text.entry.now front.entry.now) }
-        { read_run(alloc, text, front, context, room) },
+        { read_run(alloc, text, front, context) },
         || -> Run
             requires { AreWithin text.now back.now }
             ensures { Gives (λ v. v.items) cause_in result (read_alike context.entry.now text.entry.now back.entry.now) }
-        { read_run(alloc, text, back, context, back.len()) },
+        { read_run(alloc, text, back, context) },
     )
 }
 
-/// What the quarters of a run say, by four threads. The first one has a vector with room for all items, the others for those
-/// of their own.
+/// What the quarters of a run say, by four threads.
 fn read_quarters<R: Threads + Sync>(
     rt: &R,
     alloc: Global,
@@ -74,7 +72,6 @@ fn read_quarters<R: Threads + Sync>(
     ensures third { Gives (λ v. v.items) cause_in result.1.0 (read_alike context.now text.now (first_half (second_half pieces.now))) }
     ensures fourth { Gives (λ v. v.items) cause_in result.1.1 (read_alike context.now text.now (second_half (second_half pieces.now))) }
 {
-    let room = pieces.len();
     let (front, back) = halves(text, pieces);
     join(
         rt,
@@ -82,31 +79,63 @@ fn read_quarters<R: Threads + Sync>(
             requires { IsSync R.row × AreWithin text.now front.now }
             ensures first { Gives (λ v. v.items) cause_in result.0 (read_alike context.entry.now text.entry.now (first_half front.entry.now)) }
             ensures second { Gives (λ v. v.items) cause_in result.1 (read_alike context.entry.now text.entry.now (second_half front.entry.now)) }
-        { read_halves(rt, alloc, text, front, context, room) },
+        { read_halves(rt, alloc, text, front, context) },
         || -> (Run, Run)
             requires { IsSync R.row × AreWithin text.now back.now }
             ensures third { Gives (λ v. v.items) cause_in result.0 (read_alike context.entry.now text.entry.now (first_half back.entry.now)) }
             ensures fourth { Gives (λ v. v.items) cause_in result.1 (read_alike context.entry.now text.entry.now (second_half back.entry.now)) }
-        { read_halves(rt, alloc, text, back, context, back.len() / 2) },
+        { read_halves(rt, alloc, text, back, context) },
     )
 }
 
-/// What pieces of a text say, each in this context, by four threads. One vector has room for all items from the beginning,
-/// and the others are let go as soon as their items stand in it.
+/// Some items, and behind them what pieces of a text say, each in this context, by four threads. A quarter's vector is let go
+/// as soon as its items stand behind the others.
 fn read_by_four<R: Threads + Sync>(
     rt: &R,
     alloc: Global,
     text: &[u8],
     pieces: &[Piece],
     context: &Context,
+    items: Vec<Placed>,
 ) -> Run
     requires { AreWithin text.now pieces.now }
-    ensures { Gives (λ v. v.items) cause_in result (read_alike context.now text.now pieces.now) }
+    ensures { Gives (λ v. v.items) cause_in result (both (Ok items.items) (read_alike context.now text.now pieces.now)) }
 {
     let ((first, second), (third, fourth)) = read_quarters(rt, alloc, text, pieces, context);
-    let half = joined(first, second);
+    let quarter = joined(Ok(items), first);
+    let half = joined(quarter, second);
     let most = joined(half, third);
     joined(most, fourth)
+}
+
+/// The context behind some items.
+fn context_behind(alloc: Global, items: &[Placed], year: Option<u16>) -> Result<Context, Memory>
+    ensures { IfOk result (λ context. context ≡ context_of year (items_at items.now)) }
+{
+    let mut context = Context::start(alloc, year)?;
+    for placed in items {
+        context.after(alloc, &placed.item)?;
+    }
+    Ok(context)
+}
+
+/// Some items, and behind them what the pieces behind theirs say, of which none is a directive, a price or a rule: so each is
+/// read in the context of the first. The items' vector gets room for all at once.
+fn read_behind<R: Threads + Sync>(
+    rt: &R,
+    alloc: Global,
+    text: &[u8],
+    pieces: &[Piece],
+    year: Option<u16>,
+    mut items: Vec<Placed>,
+) -> Run
+    requires within { AreWithin text.now pieces.now }
+    requires alike { has_head text.now pieces.now ≡ false }
+    ensures { Gives (λ v. v.items) cause_in result (both (Ok items.items) (spec.reading_from year (items_at items.items) text.now pieces.now)) }
+{
+    items.reserve_exact(pieces.len())?;
+    let context = context_behind(alloc, items.as_slice(), year)?;
+    read_by_four(rt, alloc, text, pieces, &context, items)
 }
 
 /// Counts the bytes of some pieces.
@@ -118,26 +147,6 @@ fn count_bytes<L: Ledger>(pieces: &[Piece], steps: &mut Steps<L>)
     }
 }
 
-/// What pieces of a text say of which none is a directive, a price or a rule, by four threads.
-fn read_at_once<R: Threads + Sync, L: Ledger>(
-    rt: &R,
-    alloc: Global,
-    text: &[u8],
-    pieces: &[Piece],
-    year: Option<u16>,
-    steps: &mut Steps<L>,
-) -> Result<Items, ReadFault>
-    requires within { AreWithin text.now pieces.now }
-    requires alike { has_head text.now pieces.now ≡ false }
-    ensures value { Gives (λ items. items) cause_in result (spec.reading_from year [] text.now pieces.now) }
-    ensures steps { steps.new ≡ record steps.old { bytes_read = steps.old.bytes_read + bytes_in pieces.now } }
-{
-    count_bytes(pieces, steps);
-    let context = Context::start(alloc, year)?;
-    let items = read_by_four(rt, alloc, text, pieces, &context)?;
-    Ok(List::from_vec(items))
-}
-
 /// Whether there is more than one processor, as far as the system tells.
 fn has_processors<R: Threads>(rt: &R) -> bool {
     match available_parallelism(rt) {
@@ -146,18 +155,15 @@ fn has_processors<R: Threads>(rt: &R) -> bool {
     }
 }
 
-/// Whether several threads may read the pieces: they are many, and none of them is a directive, a price or a rule.
-fn may_share(text: &[u8], pieces: &[Piece]) -> bool
-    requires { AreWithin text.now pieces.now }
-    ensures { result ≡ true → has_head text.now pieces.now ≡ false }
-{
-    pieces.len() >= MANY_PIECES && !has_head(text, pieces)
+/// Whether threads are made for so many pieces.
+fn are_shared<R: Threads>(rt: &R, count: usize) -> bool {
+    count >= MANY_PIECES && has_processors(rt)
 }
 
 /// The items of a text that is cut into these pieces, in order, with a year for the dates that are written without one, as
 /// `journal_reader::read_items` reads them; or the fault of the first that doesn't read. Where there are several processors
-/// and many pieces, of which none is a directive, a price or a rule, four threads read them at once: then no piece says how
-/// another is read. It waits for no one but these threads, which read and nothing else.
+/// and many pieces behind the last directive, price or rule, four threads read these at once: none of them says how another is
+/// read. It waits for no one but these threads, which read and do nothing else.
 pub fn read_items<R: Threads + Sync, L: Ledger>(
     rt: &R,
     alloc: Global,
@@ -172,8 +178,12 @@ pub fn read_items<R: Threads + Sync, L: Ledger>(
     ensures bound { steps.new.bytes_read ≤ steps.old.bytes_read + bytes_in pieces.now }
     ensures others { steps.new ≡ record steps.old { bytes_read = steps.new.bytes_read } }
 {
-    if may_share(text, pieces) && has_processors(rt) {
-        return read_at_once(rt, alloc, text, pieces, year, steps);
+    let (front, back) = cut_behind_heads(text, pieces);
+    if !are_shared(rt, back.len()) {
+        return journal_reader::read_items(alloc, text, pieces, year, steps);
     }
-    journal_reader::read_items(alloc, text, pieces, year, steps)
+    let before = journal_reader::read_items(alloc, text, front, year, steps)?;
+    count_bytes(back, steps);
+    let items = read_behind(rt, alloc, text, back, year, before.into_vec())?;
+    Ok(List::from_vec(items))
 }
