@@ -25,7 +25,7 @@ concat_take zero ls = omega arith
 concat_take (suc n) [] = omega arith
 concat_take (suc n) (l ∷ ls) = omega (arith, concat_take n ls, length-append l (concat (take n ls)), length-append l (concat ls))
 
-abbrev Ends : ℕ → Piece → Type 0
+abbrev pub Ends : ℕ → Piece → Type 0
 Ends most p = p.at + p.len ≤ most
 
 all_same : (a b : ℕ) (ps : List Piece) → a ≡ b → AllByRecursion (Ends a) ps → AllByRecursion (Ends b) ps
@@ -41,7 +41,7 @@ within_cut zero at line (l ∷ ls) =
       all_same (at + length l + length (concat ls)) (at + length (concat (l ∷ ls))) (cut_from n (at + length l) (line + 1) ls) (omega (arith, length-append l (concat ls))) (within_cut n (at + length l) (line + 1) ls),
     )
 
-within_text : (text : List ℕ) → AllByRecursion (Ends (length text)) (items_of text)
+pub within_text : (text : List ℕ) → AllByRecursion (Ends (length text)) (items_of text)
 within_text text = all_same (0 + length (concat (lines_of text))) (length text) (items_of text) (same (concat (lines_of text)) (concat_lines text)) (within_cut 0 0 1 (lines_of text))
   where
     same : (xs : List ℕ) → xs ≡ text → 0 + length xs ≡ length text
@@ -92,28 +92,28 @@ all_within text =
     least : (xs : List ℕ) → xs ≡ text → 1 + length xs ≤ length text + 1
     least xs e = omega (arith, ap length e)
 
-front_bytes : (text more : List ℕ) (p : Piece) → Ends (length text) p → take p.len (drop p.at (text ++ more)) ≡ take p.len (drop p.at text)
+pub front_bytes : (text more : List ℕ) (p : Piece) → Ends (length text) p → take p.len (drop p.at (text ++ more)) ≡ take p.len (drop p.at text)
 front_bytes text more p h =
     ap (take p.len) (drop-append-le p.at text more (omega arith)) ∙ take-append-le p.len (drop p.at text) more (omega (arith, length-drop p.at text))
 
 -- ---- reading one after another
 
-record Bound {A B : Type 0} (r : Result A Fault) (f : A → Result B Fault) (y : B) : Type 0 where
-  value : A
-  first : r ≡ Ok value
-  second : f value ≡ Ok y
+pub record Bound {A B : Type 0} (r : Result A Fault) (f : A → Result B Fault) (y : B) : Type 0 where
+  pub value : A
+  pub first : r ≡ Ok value
+  pub second : f value ≡ Ok y
 
-bound : {A B : Type 0} (r : Result A Fault) (f : A → Result B Fault) (y : B) → (r >>= f) ≡ Ok y → Bound r f y
+pub bound : {A B : Type 0} (r : Result A Fault) (f : A → Result B Fault) (y : B) → (r >>= f) ≡ Ok y → Bound r f y
 bound (Ok x) f y h = record { value = x; first = refl; second = h }
 bound (Err fault) f y h = absurd (let never : ⊥ = cc in never)
 
-abbrev placed_as : Piece → Item → Placed
+abbrev pub placed_as : Piece → Item → Placed
 placed_as p i = record { piece = p; item = i }
 
 abbrev Read : Type 0
 Read = Result (List Placed) Fault
 
-ok_same : (xs ys : List Placed) → (let r : Read = Ok xs in r) ≡ Ok ys → xs ≡ ys
+pub ok_same : (xs ys : List Placed) → (let r : Read = Ok xs in r) ≡ Ok ys → xs ≡ ys
 ok_same xs ys h = cc
 
 -- one piece, and then the others

@@ -7,8 +7,11 @@ pub mod Joining
 pub mod Lists
 pub mod Answering
 pub mod Bounding
+pub mod Misreading
 pub mod Noting
+pub mod Plainly
 pub mod Reading
+pub mod Refusing
 pub mod Styling
 pub mod Unmarked
 pub mod Walking

@@ -1,7 +1,5 @@
 -- What is put behind a text adds to all that is made of it.
-use Rattle.std.proofs.Common.{◌≡◌, ℕ, ◌+◌, ◌≤◌, true, ◌&&◌, List, [], ◌++◌, length, map, Option, Some, None, Result, Ok, Err, sym, ap, subst, ◌∙◌, length-append}
-use Rattle.std.specs.Prelude.{IfOk, IfSome}
-use Rattle.hl_base.specs.declared.fault.Memory.{Memory}
+use Rattle.std.proofs.Common.{◌≡◌, ℕ, ◌+◌, ◌≤◌, true, ◌&&◌, List, [], ◌++◌, length, map, Option, Some, Ok, sym, ap, subst, ◌∙◌, length-append}
 use Rattle.std.proofs.lemmas.Grind.{flat_map-append}
 use Rattle.std.proofs.lemmas.List.{map-append}
 use Rattle.std.proofs.lemmas.Option.{same_Some}
@@ -20,7 +18,7 @@ use Rattle.balancing.specs.Solves.{Solves, are_unmarked}
 use Rattle.balancing.proofs.Solving.{load_solves, solves_loads}
 use Rattle.journal_reader.specs.Items.{items_in, reading_from}
 use Rattle.entry_balance.proofs.Named.{left_true, right_true}
-use Rattle.plain_edits.specs.Added.{Adds, AddsAlways, IsKnown, facts_after}
+use Rattle.plain_edits.specs.Added.{Adds, IsKnown, facts_after}
 use Rattle.plain_edits.specs.Behind.{added_behind, addition_of, begins_empty, ends_line, goes_behind, is_closed_by, last_piece, made_behind, plain_of, shifted, ◌>>=◌}
 use Rattle.plain_edits.specs.Facts.{Facts, and_txns, decimals_in, facts_in, items_at, last_asked, moved_in}
 use Rattle.plain_edits.specs.declared.addition.Addition.{Addition}
@@ -170,9 +168,3 @@ adds_of f text bytes a h few year items txns known =
     let least : p.sum.places ≤ 36 = subst (λ (x : Addition). x.moved.places ≤ 36) p.is few in
     subst (Adds year text bytes items txns f) (sym p.is)
     (adds_all year text bytes items txns f known p.made p.sum p.ends p.closed p.empty p.makes p.moves least)
-
--- the same of what a function answered
-pub adds_optional : (f : Facts) (text bytes : List ℕ) (r : Result (Option Addition) Memory) → IfOk r (λ o. o ≡ plain_of f text bytes) → IfOk r (λ o. IfSome o (λ a. a.moved.places ≤ 36)) → IfOk r (λ o. IfSome o (AddsAlways text bytes f))
-adds_optional f text bytes (Ok (Some a)) h few = adds_of f text bytes a (sym h) few
-adds_optional f text bytes (Ok None) h few = tt
-adds_optional f text bytes (Err e) h few = tt

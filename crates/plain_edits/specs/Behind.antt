@@ -8,6 +8,7 @@ use Rattle.hl_base.specs.declared.items.Kind.TheVariants as kinds
 use Rattle.hl_base.specs.declared.items.Piece.{Piece}
 use Rattle.hl_num.specs.Decimal.{Decimal}
 use Rattle.book.specs.Style.{amount_style, cost_styles}
+use Rattle.book.specs.declared.fault.Fault.{Fault}
 use Rattle.book.specs.declared.item.Item.{Item}
 use Rattle.book.specs.declared.item.Item.TheVariants as item
 use Rattle.book.specs.declared.item.Placed.{Placed}
@@ -98,9 +99,13 @@ solved_by f (item.Txn t) = solved_of f t >>= λ s. Some (s ∷ [])
 solved_by f item.Gap = Some []
 solved_by f _ = None
 
--- what a piece behind the text says
+-- what a piece behind the text says, or the fault that it has there
+abbrev pub reading_behind : Facts → List ℕ → Piece → Result Item Fault
+reading_behind f bytes p = reading f.context (f.lines + p.line) (take p.len (drop p.at bytes))
+
+-- what it says, where it has none
 abbrev pub said_behind : Facts → List ℕ → Piece → Option Item
-said_behind f bytes p = told (reading f.context (f.lines + p.line) (take p.len (drop p.at bytes)))
+said_behind f bytes p = told (reading_behind f bytes p)
 
 -- the items that pieces behind a text of so many bytes say, and their transactions as they are balanced
 abbrev pub made_behind : Facts → ℕ → List ℕ → List Piece → Option (List Placed × List Txn)

@@ -3,10 +3,13 @@ use Rattle.std.specs.Prelude.{◌≡◌, ℕ, ◌+◌, ◌<◌, ◌≤◌, ◌^�
 use Rattle.std.specs.List.{AllByRecursion}
 use Rattle.hl_base.specs.declared.items.Piece.{Piece}
 use Rattle.book.specs.Entries.{held}
+use Rattle.book.specs.declared.fault.Fault.{Fault}
 use Rattle.book.specs.declared.item.Placed.{Placed}
 use Rattle.book.specs.declared.transaction.Txn.{Txn}
 use Rattle.plain_edits.specs.Facts.{Facts}
 use Rattle.plain_edits.specs.declared.ending.TextEnd.{TextEnd}
+use Rattle.plain_edits.specs.declared.fault.NotAdded.{NotAdded}
+use Rattle.plain_edits.specs.declared.fault.NotAdded.TheVariants as left
 use Rattle.plain_edits.specs.declared.fault.NotPlain.{NotPlain}
 use Rattle.plain_edits.specs.declared.fault.NotPlain.TheVariants as unfit
 
@@ -19,6 +22,17 @@ Untold unfit.Memory told = Unit {0}
 abbrev pub Tells : {X Y : Type 0} → (X → Y) → Result X NotPlain → Option Y → Type 0
 Tells view (Ok x) told = told ≡ Some (view x)
 Tells view (Err e) told = Untold e told
+
+-- an error tells that the bytes don't read, or that the whole has to be loaded; or want of memory
+abbrev pub UntoldOf : {Y : Type 0} → NotAdded → Option Y → Option Fault → Type 0
+UntoldOf left.Whole told fault = (told ≡ None) × (fault ≡ None)
+UntoldOf (left.Misread seen) told fault = fault ≡ Some seen
+UntoldOf left.Memory told fault = Unit {0}
+
+-- The function answered what the definition gives, its value seen by view, of bytes that read; or why it didn't.
+abbrev pub TellsOf : {X Y : Type 0} → (X → Y) → Result X NotAdded → Option Y → Option Fault → Type 0
+TellsOf view (Ok x) told fault = (told ≡ Some (view x)) × (fault ≡ None)
+TellsOf view (Err e) told fault = UntoldOf e told fault
 
 -- all that is known of a text, by what is kept of its end
 abbrev pub facts_of : TextEnd → Facts

@@ -2,16 +2,20 @@
 ghost use Rattle.std.specs.Prelude.{◌≡◌, ◌+◌, ◌<◌, ◌≤◌, ◌^◌, IfOk, length, map, take, drop};
 ghost use Rattle.hl_base.specs.Items.{items_of};
 ghost use Rattle.hl_base.specs.Pieces.{bytes_in};
+ghost use Rattle.hl_base.specs.Gives.{Gives};
+ghost use Rattle.entry_reader.specs.Causes.{cause_in};
 ghost use Rattle.plain_edits.specs.Behind as spec;
 ghost use Rattle.plain_edits.specs.Facts as known;
-ghost use Rattle.plain_edits.specs.Words.{AreInside, Tells, facts_of};
+ghost use Rattle.plain_edits.specs.Misread.{misread_in, misread_of};
+ghost use Rattle.plain_edits.specs.Words.{AreInside, Tells, TellsOf, facts_of};
 
 use crate::addition::Addition;
 use crate::ending::{TextEnd, count_lines};
-use crate::fault::NotPlain;
+use crate::fault::{NotAdded, NotPlain};
 use crate::fine::push_solved;
 use crate::moving::and_txns;
 use book::{Item, Items, Placed, Txn};
+use entry_reader::ReadFault;
 use hl_base::{Kind, List, Memory, Piece, Steps, cut_items};
 use hl_num::Dec;
 use journal_reader::read_item;
@@ -107,25 +111,25 @@ fn bytes_of<'a>(bytes: &'a [u8], piece: &Piece) -> &'a [u8]
     &bytes[at..at + piece.len as usize]
 }
 
-/// What a piece of what is put behind the text says.
+/// What a piece of what is put behind the text says, or the fault that it has there.
 fn said_behind<L: Ledger>(
     alloc: Global,
     end: &TextEnd,
     bytes: &[u8],
     piece: &Piece,
     steps: &mut Steps<L>,
-) -> Result<Item, NotPlain>
+) -> Result<Item, ReadFault>
     requires bytes { piece.now.at + piece.now.len ≤ length bytes.now }
     requires lines { end.now.lines + piece.now.line + piece.now.len < 2 ^ 64 }
-    ensures value { Tells (λ item. item) result (spec.said_behind (facts_of end.now) bytes.now piece.now) }
+    ensures value { Gives (λ item. item) cause_in result (spec.reading_behind (facts_of end.now) bytes.now piece.now) }
     ensures steps { steps.new ≡ record steps.old { bytes_read = steps.old.bytes_read + piece.now.len } }
 {
     let line = end.lines + piece.line;
-    let item = read_item(alloc, bytes_of(bytes, piece), &end.context, line, steps)?;
-    Ok(item)
+    read_item(alloc, bytes_of(bytes, piece), &end.context, line, steps)
 }
 
-/// What pieces behind a text of so many bytes say, with their transactions as they are balanced.
+/// What pieces behind a text of so many bytes say, with their transactions as they are balanced; or the fault of the first
+/// that doesn't read.
 fn made_behind<L: Ledger>(
     alloc: Global,
     end: &TextEnd,
@@ -133,9 +137,10 @@ fn made_behind<L: Ledger>(
     bytes: &[u8],
     pieces: &[Piece],
     steps: &mut Steps<L>,
-) -> Result<Made, NotPlain>
+) -> Result<Made, NotAdded>
     requires { AreInside at end.now.lines bytes.now pieces.now }
-    ensures value { Tells (λ made. (made.items, made.txns)) result (spec.made_behind (facts_of end.now) at bytes.now pieces.now) }
+    ensures value { TellsOf (λ made. (made.items, made.txns)) result (spec.made_behind (facts_of end.now) at bytes.now pieces.now)
+        (misread_in (facts_of end.now) bytes.now pieces.now) }
     ensures bound { steps.new.bytes_read ≤ steps.old.bytes_read + bytes_in pieces.now }
     ensures others { steps.new ≡ record steps.old { bytes_read = steps.new.bytes_read } }
 {
@@ -198,10 +203,10 @@ fn added_at<L: Ledger>(
     at: u64,
     bytes: &[u8],
     steps: &mut Steps<L>,
-) -> Result<Addition, NotPlain>
+) -> Result<Addition, NotAdded>
     requires few { at + length bytes.now ≤ 16777216 }
     requires lines { end.now.lines ≤ at }
-    ensures value { Tells (λ a. a) result (spec.added_behind (facts_of end.now) at bytes.now) }
+    ensures value { TellsOf (λ a. a) result (spec.added_behind (facts_of end.now) at bytes.now) (misread_in (facts_of end.now) bytes.now (items_of bytes.now)) }
     ensures few_places { IfOk result (λ a. a.moved.places ≤ 36) }
     ensures read { steps.new.bytes_read ≤ steps.old.bytes_read + length bytes.now }
     ensures others { steps.new ≡ record steps.old { bytes_read = steps.new.bytes_read } }
@@ -221,11 +226,11 @@ pub(crate) fn added_behind<L: Ledger>(
     pieces: &[Piece],
     bytes: &[u8],
     steps: &mut Steps<L>,
-) -> Result<Addition, NotPlain>
+) -> Result<Addition, NotAdded>
     requires cut { pieces.now ≡ items_of text.now }
     requires few { length text.now + length bytes.now ≤ 16777216 }
     requires lines { end.now.lines ≤ length text.now }
-    ensures value { Tells (λ a. a) result (spec.plain_of (facts_of end.now) text.now bytes.now) }
+    ensures value { TellsOf (λ a. a) result (spec.plain_of (facts_of end.now) text.now bytes.now) (misread_of (facts_of end.now) text.now bytes.now) }
     ensures few_places { IfOk result (λ a. a.moved.places ≤ 36) }
     ensures read { steps.new.bytes_read ≤ steps.old.bytes_read + length bytes.now }
     ensures others { steps.new ≡ record steps.old { bytes_read = steps.new.bytes_read } }
@@ -233,6 +238,6 @@ pub(crate) fn added_behind<L: Ledger>(
     if goes_behind(text, pieces, bytes) {
         added_at(alloc, end, text.len() as u64, bytes, steps)
     } else {
-        Err(NotPlain::Whole)
+        Err(NotAdded::Whole)
     }
 }

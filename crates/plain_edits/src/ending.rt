@@ -1,17 +1,19 @@
 //! What is kept of a text's end.
-ghost use Rattle.std.specs.Prelude.{◌≡◌, ◌+◌, ◌≤◌, IfOk, IfSome, length};
+ghost use Rattle.std.specs.Prelude.{◌≡◌, ◌+◌, ◌≤◌, IfOk, length};
+ghost use Rattle.hl_base.specs.Gives.{Gives};
 ghost use Rattle.hl_base.specs.Items.{items_of};
 ghost use Rattle.hl_base.specs.Lines.{lines_of};
 ghost use Rattle.entry_reader.specs.Contexts.{context_of};
-ghost use Rattle.plain_edits.specs.Added.{AddsAlways, facts_after};
-ghost use Rattle.plain_edits.specs.Behind.{plain_of};
+ghost use Rattle.plain_edits.specs.Added.{facts_after};
 ghost use Rattle.plain_edits.specs.Facts.{facts_in, items_at};
+ghost use Rattle.plain_edits.specs.Misread.{Means, cause_in, put_behind};
 ghost use Rattle.plain_edits.specs.Words.{facts_of};
 
 use crate::addition::Addition;
 use crate::asking::last_asked;
 use crate::behind::added_behind;
 use crate::decimals::Decimals;
+use crate::fault::BehindFault;
 use crate::moving::and_txns;
 use crate::optional::told;
 use book::{Placed, Txn};
@@ -57,9 +59,10 @@ impl TextEnd {
     }
 
     /// What the bytes add that are put behind the text, of which this is the end and these are the pieces: what a load
-    /// of the whole makes of them, and a load of the text doesn't. Nothing where the whole has to be loaded: the text
+    /// of the whole makes of them, and a load of the text doesn't. Bytes that don't read, behind others that add so, are
+    /// refused with the fault of the whole. Nothing where the whole has to be loaded: the text
     /// doesn't end with an entry or a directive and its line's end, or the bytes don't begin with an empty line; or they
-    /// have anything but entries and gaps, or a fault; or an entry has an assertion or an assignment, or stands before
+    /// have anything but entries and gaps; or an entry isn't balanced, has an assertion or an assignment, or stands before
     /// one by its day; or an amount's symbol is new, or it has more decimals than any before it; or all numbers that the
     /// book moves are, in one sum, out of range. Only the bytes are read.
     pub fn behind<L: Ledger>(
@@ -69,13 +72,13 @@ impl TextEnd {
         pieces: &[Piece],
         bytes: &[u8],
         steps: &mut Steps<L>,
-    ) -> Result<Option<Addition>, Memory>
+    ) -> Result<Option<Addition>, BehindFault>
         requires cut { pieces.now ≡ items_of text.now }
         requires few { length text.now + length bytes.now ≤ 16777216 }
         requires lines { (facts_of self.now).lines ≤ length text.now }
-        ensures value { IfOk result (λ added. added ≡ plain_of (facts_of self.now) text.now bytes.now) }
-        // A load of the whole gives what a load of the text gives, and this.
-        ensures adds { IfOk result (λ added. IfSome added (AddsAlways text.now bytes.now (facts_of self.now))) }
+        ensures value { Gives (λ o. o) cause_in result (put_behind (facts_of self.now) text.now bytes.now) }
+        // A load of the whole gives what a load of the text gives, and this; or it has this fault.
+        ensures means { Means text.now bytes.now (facts_of self.now) result }
         ensures read { steps.new.bytes_read ≤ steps.old.bytes_read + length bytes.now }
         ensures others { steps.new ≡ record steps.old { bytes_read = steps.new.bytes_read } }
     {

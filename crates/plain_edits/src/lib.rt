@@ -17,6 +17,7 @@ mod room;
 pub use addition::Addition;
 pub use decimals::Decimals;
 pub use ending::TextEnd;
+pub use fault::BehindFault;
 pub use fine::copied_entry;
-pub use laws::plain_entries_add;
+pub use laws::{plain_entries_add, plain_entries_are_told};
 pub use room::{Room, put_items};

@@ -1,30 +1,35 @@
-//! What is answered where nothing is told of an entry but that the whole text has to be loaded.
-ghost use Rattle.std.specs.Prelude.{◌≡◌, ◌≤◌, IfOk, IfSome, None, Option};
-ghost use Rattle.plain_edits.specs.Words.{Tells, Untold};
+//! What is answered of bytes behind a text: what they add, or the fault of the whole; or that it has to be loaded.
+ghost use Rattle.std.specs.Prelude.{◌≤◌, IfOk, IfSome, Option};
+ghost use Rattle.hl_base.specs.Gives.{Gives};
+ghost use Rattle.book.specs.declared.fault.Fault as faults;
+ghost use Rattle.plain_edits.specs.Misread.{cause_in, or_misread};
+ghost use Rattle.plain_edits.specs.Words.{TellsOf, UntoldOf};
 ghost use Rattle.plain_edits.specs.declared.addition.Addition as added;
 
 use crate::addition::Addition;
-use crate::fault::NotPlain;
-use hl_base::Memory;
+use crate::fault::{BehindFault, NotAdded};
 
-/// What an error tells where nothing is told of it but that the whole has to be loaded.
-fn untold(fault: NotPlain) -> Result<Option<Addition>, Memory>
-    ensures value { IfOk result (λ o. (plain : Option added.Addition) → Untold fault plain → o ≡ plain) }
-    ensures none { IfOk result (λ o. o ≡ None) }
+/// What is answered where nothing is added.
+fn untold(why: NotAdded) -> Result<Option<Addition>, BehindFault>
+    ensures value { (plain : Option added.Addition) (fault : Option faults.Fault) → UntoldOf why plain fault
+        → Gives (λ o. o) cause_in result (or_misread fault plain) }
+    ensures few_places { IfOk result (λ o. IfSome o (λ a. a.moved.places ≤ 36)) }
 {
-    match fault {
-        NotPlain::Whole => Ok(None),
-        NotPlain::Memory => Err(Memory),
+    match why {
+        NotAdded::Whole => Ok(None),
+        NotAdded::Misread(fault) => Err(BehindFault::Load(fault)),
+        NotAdded::Memory => Err(BehindFault::Memory),
     }
 }
 
 /// What was answered, as what is added; nothing where the whole has to be loaded.
-pub(crate) fn told(answer: Result<Addition, NotPlain>) -> Result<Option<Addition>, Memory>
-    ensures value { IfOk result (λ o. (plain : Option added.Addition) → Tells (λ a. a) answer plain → o ≡ plain) }
-    ensures few_places { IfOk result (λ o. IfOk answer (λ a. a.moved.places ≤ 36) → IfSome o (λ a. a.moved.places ≤ 36)) }
+pub(crate) fn told(answer: Result<Addition, NotAdded>) -> Result<Option<Addition>, BehindFault>
+    ensures value { (plain : Option added.Addition) (fault : Option faults.Fault) → TellsOf (λ a. a) answer plain fault
+        → Gives (λ o. o) cause_in result (or_misread fault plain) }
+    ensures few_places { IfOk answer (λ a. a.moved.places ≤ 36) → IfOk result (λ o. IfSome o (λ a. a.moved.places ≤ 36)) }
 {
     match answer {
         Ok(addition) => Ok(Some(addition)),
-        Err(fault) => untold(fault),
+        Err(why) => untold(why),
     }
 }

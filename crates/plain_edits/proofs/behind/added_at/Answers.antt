@@ -1,12 +1,15 @@
 use Rattle.std.proofs.Common.{◌≤◌, ap, sym, subst, ◌∙◌, arith}
 use Rattle.std.proofs.lemmas.Result.{err_from_is_err_and}
+use Rattle.hl_base.specs.Items.{items_of}
 use Rattle.hl_base.specs.Pieces.{bytes_in}
 use Rattle.plain_edits.specs.Behind.{added_behind, made_behind}
 use Rattle.plain_edits.specs.Facts.{and_txns}
+use Rattle.plain_edits.specs.Misread.{misread_in}
 use Rattle.plain_edits.specs.Words.{AreInside, facts_of}
 use Rattle.plain_edits.specs.declared.addition.Addition.{Addition}
 use Rattle.plain_edits.proofs.Answering.{Made, all_added, unmade, unmoved}
-use Rattle.plain_edits.proofs.Walking.{inside, tells_err}
+use Rattle.plain_edits.proofs.Refusing.{passes_on, tells_plain}
+use Rattle.plain_edits.proofs.Walking.{inside}
 use Rattle.plain_edits.proofs.behind.added_at.Goals as goal
 
 pub made_behind-requires : goal.made_behind-requires
@@ -22,8 +25,8 @@ returns-in_err-made-clause-value g c =
     let bytes = c.args.bytes.now in
     let pieces = c.as_slice.ensures ∙ c.in_ok-pieces.ensures.cut in
     rw (p.1, p.2)
-    (tells_err c.in_err-made.field-0.0 (made_behind f at bytes c.as_slice.result.now) (added_behind f at bytes) c.in_err-made.ensures.value
-    (λ none. unmade f at bytes (ap (made_behind f at bytes) (sym pieces) ∙ none)))
+    (passes_on c.in_err-made.field-0.0 (made_behind f at bytes c.as_slice.result.now) (added_behind f at bytes) (misread_in f bytes c.as_slice.result.now) (misread_in f bytes (items_of bytes)) c.in_err-made.ensures.value
+    (λ none. unmade f at bytes (ap (made_behind f at bytes) (sym pieces) ∙ none)) (ap (misread_in f bytes) pieces))
 
 pub returns-in_err-made-clause-read : goal.returns-in_err-made-clause-read
 returns-in_err-made-clause-read g c = omega (arith, c.in_err-made.ensures.bound, ap bytes_in c.as_slice.ensures, c.in_ok-pieces.ensures.whole)
@@ -37,8 +40,11 @@ returns-in_err-moved-clause-value g c =
     let pieces = c.as_slice.ensures ∙ c.in_ok-pieces.ensures.cut in
     let made : Made = (c.in_ok-made.made.items, c.in_ok-made.made.txns) in
     rw (p.1, p.2)
-    (tells_err c.in_err-moved.field-0.0 (and_txns f.moved c.as_slice-2.result.now) (added_behind f at bytes) c.in_err-moved.ensures.value
-    (λ none. unmoved f at bytes made (ap (made_behind f at bytes) (sym pieces) ∙ c.in_ok-made.ensures.value) (ap (and_txns f.moved) (sym c.as_slice-2.ensures) ∙ none)))
+    (tells_plain c.in_err-moved.field-0.0 (and_txns f.moved c.as_slice-2.result.now) (added_behind f at bytes) (misread_in f bytes (items_of bytes)) c.in_err-moved.ensures.value
+    (λ none. (
+      unmoved f at bytes made (ap (made_behind f at bytes) (sym pieces) ∙ c.in_ok-made.ensures.value.0) (ap (and_txns f.moved) (sym c.as_slice-2.ensures) ∙ none),
+      ap (misread_in f bytes) (sym pieces) ∙ c.in_ok-made.ensures.value.1,
+    )))
 
 pub returns-in_err-moved-clause-read : goal.returns-in_err-moved-clause-read
 returns-in_err-moved-clause-read g c = omega (arith, c.in_ok-made.ensures.bound, ap bytes_in c.as_slice.ensures, c.in_ok-pieces.ensures.whole)
@@ -52,9 +58,11 @@ returns-clause-value g c =
     let at = c.args.at in
     let bytes = c.args.bytes.now in
     let pieces = c.as_slice.ensures ∙ c.in_ok-pieces.ensures.cut in
-    let made : Made = (c.in_ok-made.made.items, c.in_ok-made.made.txns) in
-    all_added f at bytes made c.in_ok-moved.moved c.in_ok-addition.addition (ap (made_behind f at bytes) (sym pieces) ∙ c.in_ok-made.ensures.value)
-    (ap (and_txns f.moved) (sym c.as_slice-2.ensures) ∙ c.in_ok-moved.ensures.value) c.in_ok-addition.ensures
+    let made : Made = (c.in_ok-made.made.items, c.in_ok-made.made.txns) in (
+      all_added f at bytes made c.in_ok-moved.moved c.in_ok-addition.addition (ap (made_behind f at bytes) (sym pieces) ∙ c.in_ok-made.ensures.value.0)
+          (ap (and_txns f.moved) (sym c.as_slice-2.ensures) ∙ c.in_ok-moved.ensures.value) c.in_ok-addition.ensures,
+      ap (misread_in f bytes) (sym pieces) ∙ c.in_ok-made.ensures.value.1,
+    )
 
 pub returns-clause-few_places : goal.returns-clause-few_places
 returns-clause-few_places g c = subst (λ (a : Addition). a.moved.places ≤ 36) (sym c.in_ok-addition.ensures) c.in_ok-moved.ensures.few_places
