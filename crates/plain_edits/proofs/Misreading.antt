@@ -16,11 +16,10 @@ use Rattle.book.specs.declared.transaction.Txn.{Txn}
 use Rattle.entry_balance.proofs.Named.{left_true, right_true}
 use Rattle.entry_reader.specs.Causes.{◌>>=◌}
 use Rattle.entry_reader.specs.Contexts.{context_of}
-use Rattle.journal_reader.specs.Items.{items_in, reading, reading_from}
-use Rattle.plain_edits.specs.Added.{IsKnown}
+use Rattle.journal_reader.specs.Items.{reading, reading_from}
 use Rattle.plain_edits.specs.Behind.{begins_empty, ends_line, goes_behind, is_closed_by, last_piece, plain_of, reading_behind, shifted, solved_by}
 use Rattle.plain_edits.specs.Facts.{Facts, items_at}
-use Rattle.plain_edits.specs.Misread.{Means, Misreads, MisreadsAlways, cause_in, misread_in, misread_of, or_later, or_misread, put_behind}
+use Rattle.plain_edits.specs.Misread.{Means, MisreadsAlways, cause_in, misread_in, misread_of, or_later, or_misread, put_behind}
 use Rattle.plain_edits.specs.declared.addition.Addition.{Addition}
 use Rattle.plain_edits.specs.declared.fault.BehindFault.{BehindFault}
 use Rattle.plain_edits.specs.declared.fault.BehindFault.TheVariants as behind

@@ -20,7 +20,7 @@ use Rattle.book.specs.declared.transaction.Posting.{Posting}
 use Rattle.book.specs.declared.transaction.Txn.{Txn}
 use Rattle.entry_balance.specs.Entry.{balanced, balanced_unless, settled}
 use Rattle.balancing.specs.Groups.{day_of}
-use Rattle.plain_edits.specs.Behind.{added_behind, addition_of, allows, are_fine, is_allowed, is_fine, is_late, knows, made_behind, plain_of, reading_behind, said_behind, shifted, solved_by, solved_of, told, ◌>>=◌}
+use Rattle.plain_edits.specs.Behind.{added_behind, addition_of, allows, is_allowed, is_fine, is_late, knows, made_behind, plain_of, reading_behind, said_behind, shifted, solved_by, solved_of, told, ◌>>=◌}
 use Rattle.plain_edits.specs.Facts.{Facts, and_txns}
 use Rattle.plain_edits.specs.Plain.{ArePlain, IsPlainEntry, IsPlainItem, IsPlainPosting, entries_behind, txns_read}
 use Rattle.plain_edits.specs.declared.addition.Addition.{Addition}
