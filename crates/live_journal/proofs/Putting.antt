@@ -1,11 +1,10 @@
 -- What is put behind a text makes all that is made of the new one.
 use Rattle.std.proofs.Common.{◌≡◌, ℕ, ◌+◌, ◌≤◌, ◌==◌, ◌&&◌, Bool, true, false, cond, List, [], ◌∷◌, ◌++◌, length, take, drop, Option, Some, None, Result, Ok, Err, refl, sym, ap, subst, ◌∙◌, arith, length-append}
-use Rattle.std.specs.Prelude.{IfOk, IfSome}
+use Rattle.std.specs.Prelude.{IfErr, IfOk, IfSome}
 use Rattle.std.specs.List.{AllByRecursion}
 use Rattle.std.proofs.lemmas.Bool.{eqb-true, false≢true}
 use Rattle.std.proofs.lemmas.Grind.{common_steps}
 use Rattle.hl_base.specs.declared.change.Splice.{Splice}
-use Rattle.hl_base.specs.declared.fault.Memory.{Memory}
 use Rattle.hl_base.specs.Items.{items_of}
 use Rattle.hl_base.specs.Lines.{lines_of, onto}
 use Rattle.hl_base.specs.Pieces.{IsWithin}
@@ -20,7 +19,9 @@ use Rattle.plain_edits.specs.Added.{Adds, AddsAlways, IsKnown, facts_after}
 use Rattle.plain_edits.specs.Facts.{Facts, facts_in}
 use Rattle.plain_edits.specs.Words.{facts_of}
 use Rattle.plain_edits.specs.declared.addition.Addition.{Addition}
+use Rattle.plain_edits.specs.Behind.{goes_behind}
 use Rattle.plain_edits.proofs.Joining.{all_within}
+use Rattle.plain_edits.proofs.Misreading.{count_behind}
 use Rattle.live_journal.specs.declared.behind.Behind.{Behind}
 use Rattle.live_journal.specs.declared.loading.Loaded.{Loaded}
 use Rattle.live_journal.specs.declared.behind.Made.{Made}
@@ -28,9 +29,10 @@ use Rattle.live_journal.specs.declared.behind.Made.TheVariants as ways
 use Rattle.live_journal.specs.declared.fault.EditFault.{EditFault}
 use Rattle.live_journal.specs.Edits.{spliced}
 use Rattle.live_journal.specs.Journals.{Journal}
-use Rattle.live_journal.specs.Keeping.{HasRoom, HasRoomFor, IsBehind, IsFitted, IsKept, IsMadeFrom, IsPutBehind, PutsBehind}
+use Rattle.live_journal.specs.Keeping.{HasRoom, HasRoomFor, IsBehind, IsKept, IsMadeFrom, IsPutBehind, PutsBehind}
 use Rattle.live_journal.specs.Loading.{IsLoaded, fault_of, most_bytes, most_items}
 use Rattle.live_journal.specs.Reading.{is_at_end}
+use Rattle.live_journal.specs.Refusals.{TellsRefusal}
 use Rattle.live_journal.proofs.Verdicts.{sound}
 
 -- ---- a text has no more lines than bytes
@@ -106,14 +108,14 @@ module _ (year : Option ℕ) (text bytes : List ℕ) (kept : Loaded) (b : Behind
   pub put_all : (l : Loaded) → IsKept year text l → IsPutBehind year (text ++ bytes) l b
   put_all l k = put_one l k
 
--- the same of what was answered
-pub fitted_puts : (year : Option ℕ) (text bytes : List ℕ) (kept : Loaded) (a : Addition) (r : Result (Option Behind) Memory) → IsKept year text kept → length (text ++ bytes) ≤ most_bytes
-    → AddsAlways text bytes (facts_of kept.end) a → IfOk r (λ o. IfSome o (IsFitted kept a)) → IfOk r (λ o. IfSome o (PutsBehind year text (text ++ bytes)))
-fitted_puts year text bytes kept a (Ok (Some b)) k few adds fitted =
-    let many : length kept.pieces + length b.addition.pieces ≤ most_items = subst (λ (x : Addition). length kept.pieces + length x.pieces ≤ most_items) (sym fitted.is) fitted.few in
-    put_all year text bytes kept b k (subst (AddsAlways text bytes (facts_of kept.end)) (sym fitted.is) adds year) few many fitted.room
-fitted_puts year text bytes kept a (Ok None) k few adds fitted = tt
-fitted_puts year text bytes kept a (Err e) k few adds fitted = tt
+-- the same of an addition with room for it
+pub fitted_puts : (year : Option ℕ) (text bytes : List ℕ) (kept : Loaded) (a : Addition) (b : Behind) → IsKept year text kept → length (text ++ bytes) ≤ most_bytes → length kept.pieces + length (items_of bytes) ≤ most_items
+    → goes_behind text bytes ≡ true → AddsAlways text bytes (facts_of kept.end) a → b.addition ≡ a → HasRoom kept b → PutsBehind year text (text ++ bytes) b
+fitted_puts year text bytes kept a b k few many goes adds is room =
+    let cut = (adds year kept.items kept.book.txns (known_is year text kept k)).cut in
+    let more : length kept.pieces + length b.addition.pieces ≤ most_items =
+    omega (arith, many, ap length cut, length-append (items_of text) a.pieces, count_behind text bytes goes, ap (λ (x : Addition). length x.pieces) is) in
+    put_all year text bytes kept b k (subst (AddsAlways text bytes (facts_of kept.end)) (sym is) adds year) few more room
 
 book_is : (book : Book) (txns : List Txn) → book.txns ≡ txns → book ≡ record { txns = txns }
 book_is book txns e = λ i. record { txns = e i }
@@ -135,11 +137,11 @@ kept_behind year new old after b put is =
 
 -- ---- what a change makes of a journal
 
-left_true : (a b : Bool) → (a && b) ≡ true → a ≡ true
+pub left_true : (a b : Bool) → (a && b) ≡ true → a ≡ true
 left_true true b h = refl
 left_true false b h = absurd (false≢true h)
 
-right_true : (a b : Bool) → (a && b) ≡ true → b ≡ true
+pub right_true : (a b : Bool) → (a && b) ≡ true → b ≡ true
 right_true true b h = h
 right_true false b h = absurd (false≢true h)
 
@@ -153,9 +155,12 @@ spliced_behind text splice h =
     let removed : splice.removed ≡ 0 = eqb-true splice.removed 0 (right_true (splice.at == length text) (splice.removed == 0) h) in
     (λ i. take (at i) text ++ splice.inserted ++ drop (at i + removed i) text) ∙ at_end text splice.inserted
 
--- what is put behind one text is put behind it, however the new text is told
-pub puts_so : (year : Option ℕ) (text new new' : List ℕ) (r : Result (Option Behind) Memory) → new ≡ new' → IfOk r (λ o. IfSome o (PutsBehind year text new)) → IfOk r (λ o. IfSome o (PutsBehind year text new'))
+-- what is put behind one text is put behind it, however the new text is told, and so is it refused
+pub puts_so : (year : Option ℕ) (text new new' : List ℕ) (r : Result (Option Behind) EditFault) → new ≡ new' → IfOk r (λ o. IfSome o (PutsBehind year text new)) → IfOk r (λ o. IfSome o (PutsBehind year text new'))
 puts_so year text new new' r e h = subst (λ (t : List ℕ). IfOk r (λ o. IfSome o (PutsBehind year text t))) e h
+
+pub refuses_so : (year : Option ℕ) (new new' : List ℕ) (r : Result (Option Behind) EditFault) → new ≡ new' → IfErr r (λ e. TellsRefusal e (fault_of year new)) → IfErr r (λ e. TellsRefusal e (fault_of year new'))
+refuses_so year new new' r e h = subst (λ (t : List ℕ). IfErr r (λ e. TellsRefusal e (fault_of year t))) e h
 
 pub made_behind : (j : Journal) (year : Option ℕ) (text new : List ℕ) (splice : Splice) (o : Option Behind) (b : Behind) → o ≡ Some b → year ≡ j.year → text ≡ j.text → new ≡ spliced j.text splice
     → IfSome o (PutsBehind year text (spliced text splice)) → PutsBehind j.year j.text new b

@@ -1,13 +1,12 @@
 -- What is kept of a text that is loaded, and what an edit makes of it.
 use Rattle.std.specs.Prelude.{◌≡◌, ℕ, ◌+◌, ◌≤◌, List, ◌++◌, Option, length}
-use Rattle.live_journal.specs.Loading.{IsLoaded, most_items}
+use Rattle.live_journal.specs.Loading.{IsLoaded}
 use Rattle.live_journal.specs.declared.behind.Behind.{Behind}
 use Rattle.live_journal.specs.declared.behind.Made.{Made}
 use Rattle.live_journal.specs.declared.behind.Made.TheVariants as ways
 use Rattle.live_journal.specs.declared.loading.Loaded.{Loaded}
 use Rattle.plain_edits.specs.Added.{facts_after}
 use Rattle.plain_edits.specs.Words.{facts_of}
-use Rattle.plain_edits.specs.declared.addition.Addition.{Addition}
 
 -- all that is made of a text, and what is kept of its end
 abbrev pub IsKept : Option ℕ → List ℕ → Loaded → Type 0
@@ -18,12 +17,6 @@ pub record HasRoom (l : Loaded) (b : Behind) : Type 0 where
   pub pieces : length l.pieces + length b.addition.pieces ≤ b.pieces
   pub items : length l.items + length b.addition.items ≤ b.items
   pub txns : length l.book.txns + length b.addition.txns ≤ b.txns
-
--- What is put behind is this addition, with room for it, and there may be so many items.
-pub record IsFitted (l : Loaded) (a : Addition) (b : Behind) : Type 0 where
-  pub is : b.addition ≡ a
-  pub room : HasRoom l b
-  pub few : length l.pieces + length a.pieces ≤ most_items
 
 -- What is kept with what was put behind it.
 pub record IsBehind (old : Loaded) (b : Behind) (new : Loaded) : Type 0 where

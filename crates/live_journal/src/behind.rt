@@ -3,7 +3,7 @@ ghost use Rattle.std.specs.Prelude.{◌≡◌, ◌+◌, ◌<◌, ◌≤◌, ◌+
 ghost use Rattle.std.specs.Prelude as lists;
 ghost use Rattle.plain_edits.specs.Words.{facts_of};
 ghost use Rattle.live_journal.specs.Edits as edits;
-ghost use Rattle.live_journal.specs.Keeping.{HasRoom, HasRoomFor, IsBehind, IsFitted, IsKept, IsMadeFrom, PutsBehind};
+ghost use Rattle.live_journal.specs.Keeping.{HasRoom, HasRoomFor, IsBehind, IsKept, IsMadeFrom, PutsBehind};
 ghost use Rattle.live_journal.specs.Loading.{fault_of, most_bytes, most_items};
 ghost use Rattle.live_journal.specs.Reading.{IsMissed, is_at_end, tried};
 ghost use Rattle.live_journal.specs.Refusals.{TellsRefusal};
@@ -11,7 +11,7 @@ ghost use Rattle.live_journal.specs.Refusals.{TellsRefusal};
 use crate::fault::EditFault;
 use crate::loading::{Loaded, MOST_BYTES, MOST_ITEMS, load_text};
 use book::{Placed, Txn};
-use hl_base::{List, Memory, Piece, Splice, Steps};
+use hl_base::{List, Memory, Piece, Splice, Steps, cut_items};
 use plain_edits::{Addition, Room, put_items};
 use std::alloc::Global;
 use std::sync::ledger::Ledger;
@@ -66,25 +66,8 @@ fn is_too_long(text: &[u8], bytes: &[u8]) -> bool
     bytes.len() as u64 > MOST_BYTES - text.len() as u64
 }
 
-/// What is added, with room for it behind what is there; nothing where that would be too many items.
-fn within_items(
-    alloc: Global,
-    loaded: &Loaded,
-    addition: Addition,
-) -> Result<Option<Behind>, Memory>
-    requires { length loaded.now.pieces ≤ 200000 }
-    ensures fitted { IfOk result (λ made. IfSome made (IsFitted loaded.now addition)) }
-    ensures missed { IfOk result (λ made. made ≡ None → 200000 < length loaded.now.pieces + length addition.pieces) }
-{
-    if are_too_many(&loaded.pieces, &addition.pieces) {
-        return Ok(None);
-    }
-    let behind = with_room(alloc, loaded, addition)?;
-    Ok(Some(behind))
-}
-
-/// What bytes add that are put behind a text which begins in a year; nothing where the whole has to be loaded. Only the
-/// bytes are read.
+/// What bytes add that are put behind a text which begins in a year, or the fault that the whole has where they don't read;
+/// nothing where the whole has to be loaded. Only the bytes are read.
 fn put_behind<L: Ledger>(
     alloc: Global,
     year: Option<u16>,
@@ -92,20 +75,28 @@ fn put_behind<L: Ledger>(
     text: &[u8],
     bytes: &[u8],
     steps: &mut Steps<L>,
-) -> Result<Option<Behind>, Memory>
+) -> Result<Option<Behind>, EditFault>
     requires { IsKept year text.now loaded.now }
     ensures puts { IfOk result (λ made. IfSome made (PutsBehind year text.now (text.now ++ bytes.now))) }
     ensures missed { IfOk result (λ made. made ≡ None → IsMissed (facts_of loaded.now.end) text.now bytes.now) }
+    ensures fault { IfErr result (λ e. TellsRefusal e (fault_of year (text.now ++ bytes.now))) }
     ensures read { steps.new.bytes_read ≤ steps.old.bytes_read + length bytes.now }
     ensures others { steps.new ≡ record steps.old { bytes_read = steps.new.bytes_read } }
 {
     if is_too_long(text, bytes) {
         return Ok(None);
     }
+    let more = cut_items(alloc, bytes)?;
+    if are_too_many(&loaded.pieces, &more) {
+        return Ok(None);
+    }
     let pieces = loaded.pieces.as_slice();
     let added = loaded.end.behind(alloc, text, pieces, bytes, steps)?;
     match added {
-        Some(addition) => within_items(alloc, loaded, addition),
+        Some(addition) => {
+            let put = with_room(alloc, loaded, addition)?;
+            Ok(Some(put))
+        }
         None => Ok(None),
     }
 }
@@ -117,7 +108,7 @@ fn is_at_end(text: &[u8], splice: &Splice) -> bool
     splice.at == text.len() as u64 && splice.removed == 0
 }
 
-/// What a change of a text adds that is put behind it; nothing where the whole has to be loaded.
+/// What a change of a text adds that is put behind it, or the fault of the whole; nothing where the whole has to be loaded.
 pub(crate) fn put_at_end<L: Ledger>(
     alloc: Global,
     year: Option<u16>,
@@ -125,10 +116,11 @@ pub(crate) fn put_at_end<L: Ledger>(
     text: &[u8],
     splice: &Splice,
     steps: &mut Steps<L>,
-) -> Result<Option<Behind>, Memory>
+) -> Result<Option<Behind>, EditFault>
     requires { IsKept year text.now loaded.now }
     ensures puts { IfOk result (λ made. IfSome made (PutsBehind year text.now (edits.spliced text.now splice.now))) }
     ensures missed { IfOk result (λ made. made ≡ None → is_at_end text.now splice.now ≡ true → IsMissed (facts_of loaded.now.end) text.now splice.now.inserted) }
+    ensures fault { IfErr result (λ e. TellsRefusal e (fault_of year (edits.spliced text.now splice.now))) }
     ensures read { steps.new.bytes_read ≤ steps.old.bytes_read + tried text.now splice.now }
     ensures others { steps.new ≡ record steps.old { bytes_read = steps.new.bytes_read } }
 {

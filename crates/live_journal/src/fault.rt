@@ -2,10 +2,11 @@
 ghost use Rattle.std.specs.Prelude.{◌≡◌};
 ghost use Rattle.live_journal.specs.declared.fault.EditFault.TheVariants as refused;
 ghost use Rattle.live_journal.specs.declared.fault.OpenFault.TheVariants as unopened;
-ghost use Rattle.live_journal.specs.Faults.{as_refusal};
+ghost use Rattle.live_journal.specs.Faults.{as_refusal, misread_refusal};
 
 use book::Fault;
 use hl_base::Memory;
+use plain_edits::BehindFault;
 use std::alloc::AllocError;
 
 /// Why a text makes no journal.
@@ -70,6 +71,17 @@ impl From<OpenFault> for EditFault {
             OpenFault::Load(fault) => EditFault::Load(fault),
             OpenFault::TooLarge { limit, size } => EditFault::TooLarge { limit, size },
             OpenFault::Memory => EditFault::Memory,
+        }
+    }
+}
+
+impl From<BehindFault> for EditFault {
+    ghost from_gives = { λ fault e. e ≡ misread_refusal fault };
+
+    fn from(fault: BehindFault) -> EditFault {
+        match fault {
+            BehindFault::Load(fault) => EditFault::Load(fault),
+            BehindFault::Memory => EditFault::Memory,
         }
     }
 }

@@ -1,5 +1,5 @@
 //! A journal that is kept open.
-ghost use Rattle.std.specs.Prelude.{◌≡◌, ◌+◌, ◌-◌, ◌*◌, ◌^◌, ◌<◌, ◌≤◌, ℕ, List, false, if◌then◌else◌, IfErr, IfOk, None, Ok, OnOk, length};
+ghost use Rattle.std.specs.Prelude.{◌≡◌, ◌+◌, ◌-◌, ◌*◌, ◌^◌, ◌<◌, ◌≤◌, ℕ, List, false, if◌then◌else◌, IfErr, IfOk, None, Ok, OnErr, OnOk, length};
 ghost use Rattle.std.specs.Str.{bytes_eq};
 ghost use Rattle.hl_base.specs.Gives.{Gives};
 ghost use Rattle.book.specs.Bounds.{TurnoverFits};
@@ -9,7 +9,7 @@ ghost use Rattle.book.specs.Styles.{style_in};
 ghost use Rattle.live_journal.specs.Edits as edits;
 ghost use Rattle.live_journal.specs.Keeping.{IsMadeFrom};
 ghost use Rattle.live_journal.specs.Loading.{book_of, fault_of, open_cause, opened, reading_in};
-ghost use Rattle.live_journal.specs.Reading.{most_read};
+ghost use Rattle.live_journal.specs.Reading.{most_read, refused_read};
 ghost use Rattle.live_journal.specs.Refusals.{TellsRefusal, cause_in, prepared, put_into};
 
 use crate::applied::{splice_of, spliced};
@@ -125,7 +125,7 @@ impl Live {
     }
 
     /// What a change of the text makes: what it adds, where it puts bytes behind the text that change nothing else; or
-    /// all that is made of the new text, loaded anew.
+    /// all that is made of the new text, loaded anew. Bytes behind the text that don't read are refused without a load.
     fn made<L: Ledger>(
         &self,
         splice: &Splice,
@@ -138,6 +138,7 @@ impl Live {
         ensures few { OnOk result (length new.now ≤ 16777216) }
         ensures fault { IfErr result (λ e. TellsRefusal e (fault_of self.now.year new.now)) }
         ensures read { OnOk result (steps.new.bytes_read ≤ steps.old.bytes_read + most_read self.now splice.now new.now) }
+        ensures refused { OnErr result (steps.new.bytes_read ≤ steps.old.bytes_read + refused_read self.now splice.now new.now) }
         ensures others { steps.new ≡ record steps.old { bytes_read = steps.new.bytes_read } }
     {
         let text = self.text.as_slice();
@@ -165,6 +166,9 @@ impl Live {
         ensures stays { self.new ≡ self.old }
         // An edit that puts bytes behind the text which change nothing else reads these bytes alone.
         ensures read { IfOk result (λ plan. steps.new.bytes_read ≤ steps.old.bytes_read + most_read self.old plan.splice plan.text) }
+        // So does one whose bytes don't read there, and that is refused.
+        ensures refused { OnErr result (steps.new.bytes_read ≤ steps.old.bytes_read
+            + refused_read self.old (edits.splice_of self.old.text edit.now) (edits.applied self.old.text edit.now)) }
         ensures others { steps.new ≡ record steps.old { bytes_read = steps.new.bytes_read } }
     {
         let text = self.text.as_slice();

@@ -4,7 +4,7 @@ use Rattle.plain_edits.specs.Words.{facts_of}
 use Rattle.live_journal.specs.Edits.{spliced}
 use Rattle.live_journal.specs.Reading.{is_at_end}
 use Rattle.live_journal.proofs.Counting.{missed_where, tried_at}
-use Rattle.live_journal.proofs.Putting.{puts_so, spliced_behind}
+use Rattle.live_journal.proofs.Putting.{puts_so, refuses_so, spliced_behind}
 use Rattle.live_journal.proofs.behind.put_at_end.Goals as goal
 
 pub returns-then-is_at_end-clause-puts : goal.returns-then-is_at_end-clause-puts
@@ -14,6 +14,14 @@ returns-then-is_at_end-clause-puts g c =
     puts_so c.args.year text (text ++ c.as_slice.result.now) (spliced text splice) c.put_behind.result
     (ap (λ (bytes : List ℕ). text ++ bytes) c.as_slice.ensures ∙ sym (spliced_behind text splice (sym c.is_at_end.ensures ∙ c.if-is_at_end.true)))
     c.put_behind.ensures.puts
+
+pub returns-then-is_at_end-clause-fault : goal.returns-then-is_at_end-clause-fault
+returns-then-is_at_end-clause-fault g c =
+    let text = c.args.text.now in
+    let splice = c.args.splice.now in
+    refuses_so c.args.year (text ++ c.as_slice.result.now) (spliced text splice) c.put_behind.result
+    (ap (λ (bytes : List ℕ). text ++ bytes) c.as_slice.ensures ∙ sym (spliced_behind text splice (sym c.is_at_end.ensures ∙ c.if-is_at_end.true)))
+    c.put_behind.ensures.fault
 
 pub returns-then-is_at_end-clause-missed : goal.returns-then-is_at_end-clause-missed
 returns-then-is_at_end-clause-missed g c =

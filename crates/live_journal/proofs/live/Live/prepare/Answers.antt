@@ -7,6 +7,7 @@ use Rattle.live_journal.specs.Loading.{fault_of}
 use Rattle.live_journal.specs.Journals.{Journal}
 use Rattle.live_journal.specs.Refusals.{TellsRefusal, no_such_item, not_transactions}
 use Rattle.live_journal.proofs.Changes.{spliced_as}
+use Rattle.live_journal.proofs.Counting.{refused_as}
 use Rattle.live_journal.proofs.Verdicts.{accepted, by_base, by_entry, by_item, by_text, planned_as}
 use Rattle.live_journal.proofs.live.Live.prepare.Goals as goal
 
@@ -71,3 +72,15 @@ returns-clause-few g c = subst (λ (t : List ℕ). length t ≤ 16777216) c.as_s
 
 pub returns-clause-read : goal.returns-clause-read
 returns-clause-read g c = rw (← c.as_slice-2.ensures) c.in_ok-made.ensures.read
+
+pub returns-in_err-made-clause-refused : goal.returns-in_err-made-clause-refused
+returns-in_err-made-clause-refused g c =
+    let p = err_from_is_err_and c.from_residual-in_err-made.result c.from_residual-in_err-made.ensures.1 in
+    let j = c.args.self.now in
+    let edit = c.args.edit.now in
+    let view : c.self.inside.text ≡ j.text = ap (λ (x : Journal). x.text) c.self.view_is in
+    let splice : c.in_ok-splice.splice ≡ splice_of j.text edit = c.in_ok-splice.ensures.value ∙ ap (λ (t : List ℕ). splice_of t edit) (c.as_slice-text.ensures ∙ view) in
+    let text : c.as_slice-2.result.now ≡ applied j.text edit =
+    c.as_slice-2.ensures ∙ c.in_ok-new.ensures ∙ spliced_as c.as_slice-text.result.now c.self.inside.text c.in_ok-splice.splice edit c.as_slice-text.ensures c.in_ok-splice.ensures.value
+    ∙ ap (λ (t : List ℕ). applied t edit) view in
+    rw p.1 (refused_as j c.in_ok-splice.splice (splice_of j.text edit) c.as_slice-2.result.now (applied j.text edit) _ _ splice text c.in_err-made.ensures.refused)
