@@ -8,6 +8,7 @@ mod Keeping
 mod Named
 mod Opened
 pub mod Quiet
+mod ReadingLaws
 mod Refused
 mod Reported
 mod Rooms

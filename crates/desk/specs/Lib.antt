@@ -5,6 +5,7 @@ pub mod Histories
 pub mod Imports
 pub mod Keeping
 pub mod Openings
+pub mod Reading
 pub mod Reports
 pub mod Stands
 pub mod States

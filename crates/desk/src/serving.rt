@@ -35,6 +35,7 @@ impl<D: Disk> Desk<D> {
     ghost use Rattle.desk.specs.Keeping.{are_writable};
     ghost use Rattle.hl_time.specs.Calendar.{IsDay};
     ghost use Rattle.desk.specs.States.{Replies};
+    ghost use Rattle.desk.specs.Reading.{CountsSteps, is_unasked};
     ghost use Rattle.desk.specs.Reports.{TellsRule};
     ghost use Rattle.desk.specs.Steps.{Completes, TellsReply, counted};
 
@@ -72,6 +73,10 @@ impl<D: Disk> Desk<D> {
         ensures complete { Completes (state.answer_to (state_of self.old) day.0 request.now)
             (faults_of self.old) (faults_of self.new)
             (M.refusals maker.old) (M.refusals maker.new) result }
+
+        // Of text an edit that the journal accepts reads no more than its plan may, and a report reads nothing.
+        ensures steps { CountsSteps self.old.live (state.deed_in (state_of self.old) request.now) result
+            steps.old steps.new }
     {
         let reply = self.answer(alloc, request, day, maker, steps);
         self.count(&reply);
@@ -108,6 +113,8 @@ impl<D: Disk> Desk<D> {
         ensures served { Serves (state.answer_to (state_of self.old) day.0 request.now)
             (state.deed_in (state_of self.old) request.now) self.old result self.new }
         ensures counts { counts_of self.new ≡ counts_of self.old }
+        ensures steps { CountsSteps self.old.live (state.deed_in (state_of self.old) request.now) result
+            steps.old steps.new }
     {
         match request {
             Request::Report { words } => self.report(alloc, words.as_slice(), day, maker, steps),
@@ -151,6 +158,7 @@ impl<D: Disk> Desk<D> {
         ensures rule { TellsRule (Request.Report words.now) self.now.live.text day.0
             (M.refusals maker.old) (M.refusals maker.new) (M.last_refused maker.new) result }
         ensures reply { Replies self.now.live.revision day.0 self.now.live.text words.now result }
+        ensures steps { steps.new ≡ steps.old }
     {
         let made = report_text(alloc, &self.live, words, day, maker, steps);
         report_reply(self.live.revision(), made)
@@ -187,6 +195,9 @@ impl<D: Disk> Desk<D> {
             (state.deed_of_file (state_of self.old) name.now (entries_told rules.now csv.now))
             self.old result self.new }
         ensures counts { counts_of self.new ≡ counts_of self.old }
+        ensures steps { CountsSteps self.old.live
+            (state.deed_of_file (state_of self.old) name.now (entries_told rules.now csv.now)) result
+            steps.old steps.new }
     {
         if !covers(self.allow, Allow::Add) {
             let have = self.allow;
@@ -214,6 +225,8 @@ impl<D: Disk> Desk<D> {
             Serves (state.deed_answer s (new_deed s.text s.latest name.now txns))
             (new_deed s.text s.latest name.now txns) self.old result self.new }
         ensures counts { counts_of self.new ≡ counts_of self.old }
+        ensures steps { CountsSteps self.old.live
+            (new_deed self.old.live.text self.old.latest name.now txns) result steps.old steps.new }
     {
         if txns.len() as u64 >= 1 << 32 {
             return Reply::Memory;
@@ -234,6 +247,7 @@ impl<D: Disk> Desk<D> {
         ensures served { Serves (state.deed_answer (state_of self.old) deed) deed
             self.old result self.new }
         ensures counts { counts_of self.new ≡ counts_of self.old }
+        ensures steps { CountsSteps self.old.live deed result steps.old steps.new }
     {
         match deed {
             Some(deed) => self.judge(alloc, Allow::Add, &deed, steps),
@@ -256,6 +270,8 @@ impl<D: Disk> Desk<D> {
             → Serves (state.edit_answer (state_of self.old) need (state.plain e))
             (Some (state.plain e)) self.old result self.new }
         ensures counts { counts_of self.new ≡ counts_of self.old }
+        ensures steps { (e : LiveEdit) → IfOk edit (λ given. given ≡ e)
+            → CountsSteps self.old.live (Some (state.plain e)) result steps.old steps.new }
     {
         match edit {
             Ok(edit) => {
@@ -277,6 +293,7 @@ impl<D: Disk> Desk<D> {
         ensures served { Serves (state.edit_answer (state_of self.old) need deed.now)
             (Some deed.now) self.old result self.new }
         ensures counts { counts_of self.new ≡ counts_of self.old }
+        ensures steps { CountsSteps self.old.live (Some deed.now) result steps.old steps.new }
     {
         if !covers(self.allow, need) {
             let have = self.allow;
@@ -296,6 +313,7 @@ impl<D: Disk> Desk<D> {
             Serves (state.or_done s deed.now (first_of (state.cases_left s deed.now)))
             (Some deed.now) self.old result self.new }
         ensures counts { counts_of self.new ≡ counts_of self.old }
+        ensures asked { is_unasked result ≡ false }
     {
         let _limit = self.store.limit();
         let revision = self.live.revision();
@@ -367,6 +385,7 @@ impl<D: Disk> Desk<D> {
         ensures served { Serves (state.or_done (state_of self.old) deed.now None)
             (Some deed.now) self.old result self.new }
         ensures counts { counts_of self.new ≡ counts_of self.old }
+        ensures asked { is_unasked result ≡ false }
     {
         let _ = deed;
         let _limit = self.store.limit();

@@ -1,11 +1,16 @@
-use Rattle.std.proofs.Common.{refl, sym, ◌∙◌}
+use Rattle.std.proofs.Common.{List, Result, refl, sym, subst, ◌∙◌}
+use Rattle.book.specs.declared.transaction.Txn.{Txn}
+use Rattle.desk.specs.declared.csv_fault.CsvFault.{CsvFault}
 use Rattle.desk.specs.declared.request.Allow.TheVariants as allow
 use Rattle.desk.specs.declared.request.Request.TheVariants as request
 use Rattle.desk.specs.declared.reply.Reply.TheVariants as reply
 use Rattle.desk.specs.Desks.{state_of}
-use Rattle.desk.specs.Imports.{new_deed}
+use Rattle.desk.specs.Imports.{entries_of, new_deed}
+use Rattle.desk.specs.Reading.{CountsSteps}
+use Rattle.desk.specs.States.{deed_of_file}
 use Rattle.desk.proofs.Imported.{forbidden_import, put_in, tells_unmade, unmade}
 use Rattle.desk.proofs.Quiet.{deed_quiet, quiet, tells_quietly}
+use Rattle.desk.proofs.ReadingLaws.{idle}
 use Rattle.desk.proofs.Served.{forbids, permits}
 use Rattle.desk.proofs.desk.Desk.import.Goals as goal
 
@@ -41,3 +46,16 @@ returns-in-Err-clause-served g c =
     let old = c.args.self.now in
     let f = permits old.allow allow.Add (sym c.covers.ensures ∙ c.if-not-covers.false) in
     unmade c.args.name.now c.args.rules.now c.args.csv.now old _ c.in-Err.reply f c.in-Err.ensures.file.0
+
+pub returns-then-not-covers-clause-steps : goal.returns-then-not-covers-clause-steps
+returns-then-not-covers-clause-steps g c = idle _ _ _ _
+
+pub returns-in-Ok-clause-steps : goal.returns-in-Ok-clause-steps
+returns-in-Ok-clause-steps g c =
+    let old = c.args.self.now in
+    let F : Result (List Txn) CsvFault → Type 0 =
+    λ entries. CountsSteps old.live (deed_of_file (state_of old) c.args.name.now entries) c.import_entries.result c.args.steps.now c.import_entries.new.steps in
+    subst F (sym c.in-Ok.ensures.file.0) c.import_entries.ensures.steps
+
+pub returns-in-Err-clause-steps : goal.returns-in-Err-clause-steps
+returns-in-Err-clause-steps g c = idle _ _ _ _

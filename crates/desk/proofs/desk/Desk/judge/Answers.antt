@@ -4,6 +4,7 @@ use Rattle.live_journal.specs.Refusals.{refusal_of}
 use Rattle.desk.specs.Desks.{Serves, state_of}
 use Rattle.desk.specs.States.{Answer, as_reply, edit_answer}
 use Rattle.desk.specs.declared.reply.Reply.TheVariants as reply
+use Rattle.desk.proofs.ReadingLaws.{idle, planned_steps, refused_steps}
 use Rattle.desk.proofs.Served.{accepted_by, forbids, journal_is, permits, plan_is, refused_by, replied, forbidden_answer}
 use Rattle.desk.proofs.Still.{recounted}
 use Rattle.desk.proofs.desk.Desk.judge.Goals as goal
@@ -33,3 +34,16 @@ returns-in-Err-clause-served g c =
     let d = c.args.deed.now in
     let f = permits old.allow need (sym c.covers.ensures ∙ c.if-not-covers.false) in
     rw c.refusal.ensures (recounted (edit_answer (state_of old) need d) (Some d) old (as_reply c.in-Err.fault) old _ refl c.prepare.ensures.stays refl refl (refused_by old need d c.in-Err.fault f old.no_year c.in-Err.ensures.value))
+
+pub returns-then-not-covers-clause-steps : goal.returns-then-not-covers-clause-steps
+returns-then-not-covers-clause-steps g c = idle _ _ _ _
+
+pub returns-in-Ok-clause-steps : goal.returns-in-Ok-clause-steps
+returns-in-Ok-clause-steps g c =
+    let old = c.args.self.now in
+    let d = c.args.deed.now in
+    let plan = plan_is old.live d.edit c.in-Ok.plan c.in-Ok.ensures.value in
+    planned_steps old.live d c.in-Ok.plan _ _ _ plan.1 c.put_plan.ensures.asked c.in-Ok.ensures.read c.prepare.ensures.others
+
+pub returns-in-Err-clause-steps : goal.returns-in-Err-clause-steps
+returns-in-Err-clause-steps g c = refused_steps _ _ c.in-Err.fault _ _ _ c.refusal.ensures c.prepare.ensures.others

@@ -4,6 +4,7 @@ use Rattle.live_journal.specs.Journals.{Planned}
 use Rattle.live_journal.specs.Loading.{first_of}
 use Rattle.desk.specs.Desks.{state_of}
 use Rattle.desk.specs.States.{change_of, full_cases, record_size, states_with}
+use Rattle.desk.proofs.ReadingLaws.{full_asked}
 use Rattle.desk.proofs.Rooms.{capped, told_full}
 use Rattle.desk.proofs.Served.{full_by, full_undone, kept_by, out_of_memory, unchanged_by}
 use Rattle.desk.proofs.desk.Desk.put_plan.Goals as goal
@@ -59,3 +60,7 @@ keep_plan-requires-clause-change g c =
 pub keep_plan-requires-clause-room : goal.keep_plan-requires-clause-room
 keep_plan-requires-clause-room g c =
     ap (λ (n : ℕ). first_of (full_cases (state_of c.args.self.now) c.args.deed.now.mark c.in-Ok-states_with.states n)) (sym c.record_size-size.ensures) ∙ sym c.in-None.ensures
+
+pub returns-in-Some-clause-asked : goal.returns-in-Some-clause-asked
+returns-in-Some-clause-asked g c =
+    full_asked (state_of c.args.self.now) c.args.deed.now.mark c.in-Ok-states_with.states c.record_size-size.result c.in-Some.reply (sym c.in-Some.ensures)
