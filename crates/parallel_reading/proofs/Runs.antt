@@ -1,5 +1,5 @@
 -- Runs of pieces, one behind another.
-use Rattle.std.proofs.Common.{◌≡◌, ℕ, zero, suc, ◌+◌, ◌-◌, ◌/◌, ◌^◌, ◌<◌, ◌≤◌, Bool, false, ◌||◌, List, [], ◌∷◌, ◌++◌, Result, Ok, Err, Vec, Global, length, get_or, take, drop, refl, sym, ap, subst, ◌∙◌, append_assoc, append-nil, take-append-drop, arith}
+use Rattle.std.proofs.Common.{◌≡◌, ℕ, zero, suc, ◌+◌, ◌-◌, ◌*◌, ◌/◌, ◌^◌, ◌<◌, ◌≤◌, Bool, false, ◌||◌, List, [], ◌∷◌, ◌++◌, Result, Ok, Err, Vec, Global, length, get_or, take, drop, refl, sym, ap, subst, ◌∙◌, append_assoc, append-nil, take-append-drop, arith}
 use Rattle.std.specs.Prelude.{IfSome}
 use Rattle.std.specs.List.{AllByRecursion}
 use Rattle.std.proofs.lemmas.List.{map_more, at_drop_all, drop_more, get_or_default}
@@ -16,7 +16,7 @@ use Rattle.entry_reader.specs.Causes.{◌>>=◌, cause_in}
 use Rattle.entry_reader.specs.Contexts.{Context}
 use Rattle.journal_reader.specs.Items.{reading}
 use Rattle.journal_reader.specs.Whole.{AreWithin}
-use Rattle.parallel_reading.specs.Runs.{both, bytes_of, first_half, has_head, is_head, items_at, read_alike, second_half}
+use Rattle.parallel_reading.specs.Runs.{both, bytes_of, first_part, has_head, is_head, items_at, read_alike, second_part}
 
 abbrev pub Told : Type 0
 Told = Result (List Placed) Fault
@@ -133,25 +133,25 @@ behind : (x a b c d : Told) → both (both (both (both x a) b) c) d ≡ both x (
 behind x a b c d =
     ap (λ (r : Told). both (both r c) d) (regroup_runs x a b) ∙ ap (λ (r : Told). both r d) (regroup_runs x (both a b) c) ∙ regroup_runs x (both (both a b) c) d
 
--- the quarters of a run
+-- the four parts of a run
 four_runs : (context : Context) (text : List ℕ) (pieces : List Piece)
-    → both (both (both (read_alike context text (first_half (first_half pieces))) (read_alike context text (second_half (first_half pieces)))) (read_alike context text (first_half (second_half pieces))))
-    (read_alike context text (second_half (second_half pieces))) ≡ read_alike context text pieces
+    → both (both (both (read_alike context text (first_part (first_part pieces))) (read_alike context text (second_part (first_part pieces)))) (read_alike context text (first_part (second_part pieces))))
+    (read_alike context text (second_part (second_part pieces))) ≡ read_alike context text pieces
 four_runs context text pieces =
-    let left = first_half pieces in
-    let right = second_half pieces in
-    regroup_runs (both (read_alike context text (first_half left)) (read_alike context text (second_half left))) (read_alike context text (first_half right)) (read_alike context text (second_half right))
-    ∙ ap (λ (r : Told). both r (both (read_alike context text (first_half right)) (read_alike context text (second_half right)))) (cut_run context text (length left / 2) left)
-    ∙ ap (λ (r : Told). both (read_alike context text left) r) (cut_run context text (length right / 2) right)
-    ∙ cut_run context text (length pieces / 2) pieces
+    let left = first_part pieces in
+    let right = second_part pieces in
+    regroup_runs (both (read_alike context text (first_part left)) (read_alike context text (second_part left))) (read_alike context text (first_part right)) (read_alike context text (second_part right))
+    ∙ ap (λ (r : Told). both r (both (read_alike context text (first_part right)) (read_alike context text (second_part right)))) (cut_run context text (length left / 5 * 3) left)
+    ∙ ap (λ (r : Told). both (read_alike context text left) r) (cut_run context text (length right / 5 * 3) right)
+    ∙ cut_run context text (length pieces / 5 * 3) pieces
 
--- the quarters of a run behind other items
+-- the four parts of a run behind other items
 pub five_runs : (x : Told) (context : Context) (text : List ℕ) (pieces : List Piece)
-    → both (both (both (both x (read_alike context text (first_half (first_half pieces)))) (read_alike context text (second_half (first_half pieces)))) (read_alike context text (first_half (second_half pieces))))
-    (read_alike context text (second_half (second_half pieces))) ≡ both x (read_alike context text pieces)
+    → both (both (both (both x (read_alike context text (first_part (first_part pieces)))) (read_alike context text (second_part (first_part pieces)))) (read_alike context text (first_part (second_part pieces))))
+    (read_alike context text (second_part (second_part pieces))) ≡ both x (read_alike context text pieces)
 five_runs x context text pieces =
-    behind x (read_alike context text (first_half (first_half pieces))) (read_alike context text (second_half (first_half pieces))) (read_alike context text (first_half (second_half pieces)))
-    (read_alike context text (second_half (second_half pieces)))
+    behind x (read_alike context text (first_part (first_part pieces))) (read_alike context text (second_part (first_part pieces))) (read_alike context text (first_part (second_part pieces)))
+    (read_alike context text (second_part (second_part pieces)))
     ∙ ap (both x) (four_runs context text pieces)
 
 -- ---- pieces that lie in the text

@@ -1,5 +1,5 @@
 -- Pieces that are all read in one context.
-use Rattle.std.specs.Prelude.{ℕ, Bool, true, false, ◌||◌, List, [], ◌∷◌, ◌++◌, ◌/◌, Result, Ok, length, take, drop, map}
+use Rattle.std.specs.Prelude.{ℕ, Bool, true, false, ◌||◌, List, [], ◌∷◌, ◌++◌, ◌*◌, ◌/◌, Result, Ok, length, take, drop, map}
 use Rattle.hl_base.specs.Lines.{first_line}
 use Rattle.hl_base.specs.Items.{kind_of}
 use Rattle.hl_base.specs.declared.items.Kind.{Kind}
@@ -49,9 +49,9 @@ both front back = do
   more ← back
   Ok (items ++ more)
 
--- the pieces of a run's first half, and those of its second
-abbrev pub first_half : List Piece → List Piece
-first_half pieces = take (length pieces / 2) pieces
+-- the pieces of the first three fifths of a run, and the others
+abbrev pub first_part : List Piece → List Piece
+first_part pieces = take (length pieces / 5 * 3) pieces
 
-abbrev pub second_half : List Piece → List Piece
-second_half pieces = drop (length pieces / 2) pieces
+abbrev pub second_part : List Piece → List Piece
+second_part pieces = drop (length pieces / 5 * 3) pieces

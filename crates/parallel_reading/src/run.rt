@@ -34,8 +34,8 @@ pub fn read_run(alloc: Global, text: &[u8], pieces: &[Piece], context: &Context)
     Ok(items)
 }
 
-/// The items of a run and behind them those of a second one, of which the vector is let go; or the fault of the first that
-/// has one.
+/// The items of a run and behind them those of a second one; or the fault of the first that has one. The second vector is let
+/// go, or the first where it is empty.
 pub fn joined(front: Run, back: Run) -> Run
     ensures { (first second : Result (List placed.Placed) Fault)
         → Gives (λ v. v.items) cause_in front first
@@ -43,6 +43,9 @@ pub fn joined(front: Run, back: Run) -> Run
         → Gives (λ v. v.items) cause_in result (both first second) }
 {
     let mut items = front?;
+    if items.is_empty() {
+        return back;
+    }
     let mut more = back?;
     items.append(&mut more)?;
     Ok(items)

@@ -7,7 +7,7 @@ ghost use Rattle.entry_reader.specs.Causes.{cause_in};
 ghost use Rattle.entry_reader.specs.Contexts.{context_of};
 ghost use Rattle.journal_reader.specs.Items as spec;
 ghost use Rattle.journal_reader.specs.Whole.{AreWithin};
-ghost use Rattle.parallel_reading.specs.Runs.{both, first_half, has_head, items_at, read_alike, second_half};
+ghost use Rattle.parallel_reading.specs.Runs.{both, first_part, has_head, items_at, read_alike, second_part};
 
 use crate::head::cut_behind_heads;
 use crate::run::{Run, joined, read_run};
@@ -21,19 +21,20 @@ use std::thread::{Threads, available_parallelism, join};
 /// The fewest pieces for which threads are made: fewer are read before the threads would have begun.
 const MANY_PIECES: usize = 4_096;
 
-/// The two halves of a run.
+/// The first three fifths of a run, and the others. The thread that asks reads the first part of the first: it is at work at
+/// once and over the heap that is there, so it has the most, and the one that is made last the least.
 #[tactic(auto, using(crate::proofs::Runs::front_within, crate::proofs::Runs::back_within))]
-fn halves<'a>(text: &[u8], pieces: &'a [Piece]) -> (&'a [Piece], &'a [Piece])
+fn parts<'a>(text: &[u8], pieces: &'a [Piece]) -> (&'a [Piece], &'a [Piece])
     requires { AreWithin text.now pieces.now }
-    ensures first { result.0.now ≡ first_half pieces.now }
-    ensures second { result.1.now ≡ second_half pieces.now }
+    ensures first { result.0.now ≡ first_part pieces.now }
+    ensures second { result.1.now ≡ second_part pieces.now }
     ensures within { AreWithin text.now result.0.now × AreWithin text.now result.1.now }
 {
-    pieces.split_at(pieces.len() / 2)
+    pieces.split_at(pieces.len() / 5 * 3)
 }
 
-/// What the two halves of a run say, by two threads.
-fn read_halves<R: Threads>(
+/// What the two parts of a run say, by two threads.
+fn read_parts<R: Threads>(
     rt: &R,
     alloc: Global,
     text: &[u8],
@@ -41,10 +42,10 @@ fn read_halves<R: Threads>(
     context: &Context,
 ) -> (Run, Run)
     requires { AreWithin text.now pieces.now }
-    ensures first { Gives (λ v. v.items) cause_in result.0 (read_alike context.now text.now (first_half pieces.now)) }
-    ensures second { Gives (λ v. v.items) cause_in result.1 (read_alike context.now text.now (second_half pieces.now)) }
+    ensures first { Gives (λ v. v.items) cause_in result.0 (read_alike context.now text.now (first_part pieces.now)) }
+    ensures second { Gives (λ v. v.items) cause_in result.1 (read_alike context.now text.now (second_part pieces.now)) }
 {
-    let (front, back) = halves(text, pieces);
+    let (front, back) = parts(text, pieces);
     join(
         rt,
         || -> Run
@@ -58,8 +59,8 @@ fn read_halves<R: Threads>(
     )
 }
 
-/// What the quarters of a run say, by four threads.
-fn read_quarters<R: Threads + Sync>(
+/// What the parts of a run's parts say, by four threads.
+fn read_four_parts<R: Threads + Sync>(
     rt: &R,
     alloc: Global,
     text: &[u8],
@@ -67,29 +68,29 @@ fn read_quarters<R: Threads + Sync>(
     context: &Context,
 ) -> ((Run, Run), (Run, Run))
     requires { AreWithin text.now pieces.now }
-    ensures first { Gives (λ v. v.items) cause_in result.0.0 (read_alike context.now text.now (first_half (first_half pieces.now))) }
-    ensures second { Gives (λ v. v.items) cause_in result.0.1 (read_alike context.now text.now (second_half (first_half pieces.now))) }
-    ensures third { Gives (λ v. v.items) cause_in result.1.0 (read_alike context.now text.now (first_half (second_half pieces.now))) }
-    ensures fourth { Gives (λ v. v.items) cause_in result.1.1 (read_alike context.now text.now (second_half (second_half pieces.now))) }
+    ensures first { Gives (λ v. v.items) cause_in result.0.0 (read_alike context.now text.now (first_part (first_part pieces.now))) }
+    ensures second { Gives (λ v. v.items) cause_in result.0.1 (read_alike context.now text.now (second_part (first_part pieces.now))) }
+    ensures third { Gives (λ v. v.items) cause_in result.1.0 (read_alike context.now text.now (first_part (second_part pieces.now))) }
+    ensures fourth { Gives (λ v. v.items) cause_in result.1.1 (read_alike context.now text.now (second_part (second_part pieces.now))) }
 {
-    let (front, back) = halves(text, pieces);
+    let (front, back) = parts(text, pieces);
     join(
         rt,
         || -> (Run, Run)
             requires { IsSync R.row × AreWithin text.now front.now }
-            ensures first { Gives (λ v. v.items) cause_in result.0 (read_alike context.entry.now text.entry.now (first_half front.entry.now)) }
-            ensures second { Gives (λ v. v.items) cause_in result.1 (read_alike context.entry.now text.entry.now (second_half front.entry.now)) }
-        { read_halves(rt, alloc, text, front, context) },
+            ensures first { Gives (λ v. v.items) cause_in result.0 (read_alike context.entry.now text.entry.now (first_part front.entry.now)) }
+            ensures second { Gives (λ v. v.items) cause_in result.1 (read_alike context.entry.now text.entry.now (second_part front.entry.now)) }
+        { read_parts(rt, alloc, text, front, context) },
         || -> (Run, Run)
             requires { IsSync R.row × AreWithin text.now back.now }
-            ensures third { Gives (λ v. v.items) cause_in result.0 (read_alike context.entry.now text.entry.now (first_half back.entry.now)) }
-            ensures fourth { Gives (λ v. v.items) cause_in result.1 (read_alike context.entry.now text.entry.now (second_half back.entry.now)) }
-        { read_halves(rt, alloc, text, back, context) },
+            ensures third { Gives (λ v. v.items) cause_in result.0 (read_alike context.entry.now text.entry.now (first_part back.entry.now)) }
+            ensures fourth { Gives (λ v. v.items) cause_in result.1 (read_alike context.entry.now text.entry.now (second_part back.entry.now)) }
+        { read_parts(rt, alloc, text, back, context) },
     )
 }
 
-/// Some items, and behind them what pieces of a text say, each in this context, by four threads. A quarter's vector is let go
-/// as soon as its items stand behind the others.
+/// Some items, and behind them what pieces of a text say, each in this context, by four threads. A part's vector is let go as
+/// soon as its items stand behind the others.
 fn read_by_four<R: Threads + Sync>(
     rt: &R,
     alloc: Global,
@@ -101,9 +102,9 @@ fn read_by_four<R: Threads + Sync>(
     requires { AreWithin text.now pieces.now }
     ensures { Gives (λ v. v.items) cause_in result (both (Ok items.items) (read_alike context.now text.now pieces.now)) }
 {
-    let ((first, second), (third, fourth)) = read_quarters(rt, alloc, text, pieces, context);
-    let quarter = joined(Ok(items), first);
-    let half = joined(quarter, second);
+    let ((first, second), (third, fourth)) = read_four_parts(rt, alloc, text, pieces, context);
+    let begun = joined(Ok(items), first);
+    let half = joined(begun, second);
     let most = joined(half, third);
     joined(most, fourth)
 }

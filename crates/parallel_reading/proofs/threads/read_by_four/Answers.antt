@@ -1,5 +1,5 @@
 use Rattle.std.proofs.Common.{Ok, refl, sym}
-use Rattle.parallel_reading.specs.Runs.{both, first_half, read_alike, second_half}
+use Rattle.parallel_reading.specs.Runs.{both, first_part, read_alike, second_part}
 use Rattle.parallel_reading.proofs.Runs.{Told, five_runs}
 use Rattle.parallel_reading.proofs.threads.read_by_four.Goals as goal
 
@@ -9,12 +9,12 @@ returns g c =
     let text = c.args.text.now in
     let pieces = c.args.pieces.now in
     let before : Told = Ok c.args.items.items in
-    let one : Told = read_alike context text (first_half (first_half pieces)) in
-    let two : Told = read_alike context text (second_half (first_half pieces)) in
-    let three : Told = read_alike context text (first_half (second_half pieces)) in
-    let four : Told = read_alike context text (second_half (second_half pieces)) in
-    let quarters = c.read_quarters-first.ensures in
+    let one : Told = read_alike context text (first_part (first_part pieces)) in
+    let two : Told = read_alike context text (second_part (first_part pieces)) in
+    let three : Told = read_alike context text (first_part (second_part pieces)) in
+    let four : Told = read_alike context text (second_part (second_part pieces)) in
+    let parts = c.read_four_parts-first.ensures in
     rw (sym (five_runs before context text pieces))
     (c.joined.ensures (both (both (both before one) two) three) four
     (c.joined-most.ensures (both (both before one) two) three
-    (c.joined-half.ensures (both before one) two (c.joined-quarter.ensures before one refl quarters.first) quarters.second) quarters.third) quarters.fourth)
+    (c.joined-half.ensures (both before one) two (c.joined-begun.ensures before one refl parts.first) parts.second) parts.third) parts.fourth)
