@@ -1,0 +1,4 @@
+pub mod Added
+pub mod Asking
+pub mod Behind
+pub mod Rows

@@ -1,0 +1,16 @@
+//! Entries with assertions that are put behind a book: they are judged by sums of an index, and by no load.
+#![tactic(auto)]
+
+mod asking;
+pub mod before;
+pub mod judge;
+mod laws;
+mod rows;
+#[cfg(test)]
+mod tests;
+
+pub use asking::are_asserted;
+pub use before::Before;
+pub use judge::judge_behind;
+pub use laws::{an_entry_behind, sums_behind};
+pub use rows::rows_of;

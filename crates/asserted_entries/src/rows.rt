@@ -1,0 +1,62 @@
+//! The rows that the postings of transactions are in an index.
+ghost use Rattle.std.specs.Prelude.{◌≡◌, ◌∷◌, ◌++◌, [], IfOk, OnOk};
+ghost use Rattle.asserted_entries.specs.Rows as spec;
+
+use book::{Amount, Posting, Txn};
+use hl_base::{Memory, Text};
+use live_index::Row;
+use std::alloc::Global;
+
+/// The rows of some transactions: one for each posting that has an amount, on the posting's own day or else on that of
+/// its transaction. An index into which they are put tells the book that has these transactions more.
+pub fn rows_of(alloc: Global, txns: &[Txn]) -> Result<Vec<Row>, Memory>
+    ensures { IfOk result (λ rows. rows.items ≡ spec.rows_of txns.now) }
+{
+    let mut rows = Vec::new(alloc);
+    for txn in txns {
+        push_txn(alloc, &mut rows, txn)?;
+    }
+    Ok(rows)
+}
+
+fn push_txn(alloc: Global, rows: &mut Vec<Row>, txn: &Txn) -> Result<(), Memory>
+    ensures { OnOk result (rows.new.items ≡ rows.old.items ++ spec.rows_of_txn txn.now) }
+{
+    for posting in txn.postings.as_slice() {
+        push_posting(alloc, rows, txn, posting)?;
+    }
+    Ok(())
+}
+
+fn push_posting(
+    alloc: Global,
+    rows: &mut Vec<Row>,
+    txn: &Txn,
+    posting: &Posting,
+) -> Result<(), Memory>
+    ensures { OnOk result (rows.new.items ≡ rows.old.items ++ spec.rows_of_posting txn.now posting.now) }
+{
+    match &posting.amount {
+        Some(amount) => push_amount(alloc, rows, txn, posting, amount),
+        None => Ok(()),
+    }
+}
+
+fn push_amount(
+    alloc: Global,
+    rows: &mut Vec<Row>,
+    txn: &Txn,
+    posting: &Posting,
+    amount: &Amount,
+) -> Result<(), Memory>
+    ensures { OnOk result (rows.new.items ≡ rows.old.items ++ spec.row_of txn.now posting.now amount.now ∷ []) }
+{
+    let row = Row {
+        account: Text::copied(alloc, posting.account.as_str())?,
+        symbol: Text::copied(alloc, amount.symbol.as_str())?,
+        day: posting.day_in(txn),
+        value: amount.value,
+    };
+    rows.push(row)?;
+    Ok(())
+}
