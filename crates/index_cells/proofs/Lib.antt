@@ -1,0 +1,13 @@
+pub mod Asking
+pub mod Celling
+pub mod Ending
+pub mod Keeping
+pub mod Naming
+pub mod Nonzero
+pub mod Overs
+pub mod Plainly
+pub mod Posting
+pub mod Rowing
+pub mod Showing
+pub mod Summing
+pub mod Taking

@@ -1,0 +1,10 @@
+pub mod Asks
+pub mod Days
+pub mod Held
+pub mod Keys
+pub mod Named
+pub mod Over
+pub mod Posted
+pub mod Pushed
+pub mod Rowed
+pub mod Tells

@@ -1,0 +1,43 @@
+//! What is kept of takings that are put in at once.
+ghost use Rattle.std.specs.Prelude.{◌≡◌, IfOk};
+ghost use Rattle.live_index.specs.Rows.{TurnoverFits};
+ghost use Rattle.report_cells.specs.Bounds as bounds;
+ghost use Rattle.index_cells.specs.Tells.{Tells};
+
+use crate::amounts::{amounts_of, marks_of};
+use crate::kept::Kept;
+use crate::names::{accounts_of, symbols_of};
+use hl_base::Memory;
+use live_index::{Index, Row};
+use report_cells::Taking;
+use std::alloc::Global;
+
+/// What is kept of takings, no symbol of which is out of range.
+pub fn keep(alloc: Global, takings: &[Taking]) -> Result<Kept, Memory>
+    requires { bounds.TurnoverFits takings.now }
+    ensures { IfOk result (λ kept. Tells takings.now kept) }
+{
+    let accounts = accounts_of(alloc, takings)?;
+    let symbols = symbols_of(alloc, takings)?;
+    let amounts = amounts_of(alloc, takings)?;
+    let sums = index_of(alloc, &amounts)?;
+    let marks = marks_of(alloc, takings)?;
+    let counts = index_of(alloc, &marks)?;
+    Ok(Kept {
+        sums,
+        counts,
+        accounts,
+        symbols,
+    })
+}
+
+/// An index of some rows.
+fn index_of(alloc: Global, rows: &[Row]) -> Result<Index, Memory>
+    requires { TurnoverFits rows.now }
+    ensures { IfOk result (λ index. index ≡ rows.now) }
+{
+    let mut index = Index::new(alloc)?;
+    let prepared = index.prepare(rows)?;
+    index.put(prepared);
+    Ok(index)
+}

@@ -1,0 +1,148 @@
+//! The rows of the accounts that have postings.
+ghost use Rattle.std.specs.Prelude.{◌≡◌, ◌*◌, ◌^◌, ◌<◌, filter, length, IfOk, OnOk};
+ghost use Rattle.index_cells.specs.Asks.{AsksFor, nodes_of, nodes_of_cell, nodes_of_row};
+ghost use Rattle.index_cells.specs.Held.{HoldsRow, HoldsRows, HoldsSums, most_of, stands, summed_in};
+ghost use Rattle.index_cells.specs.Pushed.{HasPushed};
+ghost use Rattle.index_cells.specs.Tells.{IsReady};
+
+use crate::cell::cell_of;
+use crate::counted::counted;
+use crate::kept::Kept;
+use crate::over::sum_over;
+use book::Mixed;
+use hl_base::{List, Memory, Steps, Text};
+use hl_time::Span;
+use report_cells::{CellRow, Reach};
+use std::alloc::Global;
+use std::sync::ledger::Ledger;
+
+/// What rows are made by: the columns, which days each counts, and the days that count at all.
+#[derive(Clone, Copy)]
+pub(crate) struct Plan<'a> {
+    pub(crate) columns: &'a [Span],
+    pub(crate) reach: Reach,
+    pub(crate) days: Span,
+}
+
+/// A row for each account with a posting on one of the days.
+pub(crate) fn rows_of<L: Ledger>(
+    alloc: Global,
+    kept: &Kept,
+    plan: &Plan,
+    steps: &mut Steps<L>,
+) -> Result<List<CellRow>, Memory>
+    requires ready { IsReady kept.now }
+    requires early { plan.now.days.end < 2 ^ 22 }
+    ensures rows { IfOk result (λ rows. HoldsRows (summed_in kept.now plan.now.reach plan.now.days)
+        (most_of kept.now) plan.now.columns.now rows (filter (stands kept.now plan.now.days) kept.now.accounts)) }
+    ensures asked { AsksFor (nodes_of kept.now plan.now.columns.now) steps.old steps.new }
+{
+    let mut rows = Vec::new(alloc);
+    for account in kept.accounts.as_slice() {
+        push_row(alloc, kept, plan, account, &mut rows, steps)?;
+    }
+    Ok(List::from_vec(rows))
+}
+
+/// Adds the row of an account, if it has a posting on one of the days.
+fn push_row<L: Ledger>(
+    alloc: Global,
+    kept: &Kept,
+    plan: &Plan,
+    account: &Text,
+    rows: &mut Vec<CellRow>,
+    steps: &mut Steps<L>,
+) -> Result<(), Memory>
+    requires ready { IsReady kept.now }
+    requires early { plan.now.days.end < 2 ^ 22 }
+    ensures pushed { OnOk result (HasPushed kept.now plan.now account.now rows.old.items rows.new.items) }
+    ensures asked { AsksFor (nodes_of_row kept.now plan.now.columns.now) steps.old steps.new }
+{
+    let has_posting = stands(alloc, kept, account, plan.days, steps);
+    if !has_posting {
+        return Ok(());
+    }
+    let row = row_of(alloc, kept, plan, account, steps)?;
+    rows.push(row)?;
+    Ok(())
+}
+
+/// Whether an account has a posting on one of the days.
+fn stands<L: Ledger>(
+    alloc: Global,
+    kept: &Kept,
+    account: &Text,
+    days: Span,
+    steps: &mut Steps<L>,
+) -> bool
+    requires ready { IsReady kept.now }
+    requires early { days.end < 2 ^ 22 }
+    ensures value { result ≡ stands kept.now days account.now }
+    ensures asked { AsksFor 44 steps.old steps.new }
+{
+    let none = Text::new(alloc);
+    let count = sum_over(&kept.counts, account, &none, days, steps);
+    !count.is_zero()
+}
+
+/// The row of an account.
+fn row_of<L: Ledger>(
+    alloc: Global,
+    kept: &Kept,
+    plan: &Plan,
+    account: &Text,
+    steps: &mut Steps<L>,
+) -> Result<CellRow, Memory>
+    requires ready { IsReady kept.now }
+    requires early { plan.now.days.end < 2 ^ 22 }
+    ensures account { IfOk result (λ row. row.account ≡ account.now) }
+    ensures cells { IfOk result (λ row. HoldsRow (summed_in kept.now plan.now.reach plan.now.days account.now)
+        (most_of kept.now) row.cells plan.now.columns.now) }
+    ensures asked { AsksFor (nodes_of_cell kept.now * length plan.now.columns.now) steps.old steps.new }
+{
+    let cells = cells_of(alloc, kept, plan, account, plan.columns, steps)?;
+    let account = Text::copied(alloc, account.as_str())?;
+    Ok(CellRow { account, cells })
+}
+
+/// The cells of an account, one for each of some columns.
+fn cells_of<L: Ledger>(
+    alloc: Global,
+    kept: &Kept,
+    plan: &Plan,
+    account: &Text,
+    columns: &[Span],
+    steps: &mut Steps<L>,
+) -> Result<List<Mixed>, Memory>
+    requires ready { IsReady kept.now }
+    requires early { plan.now.days.end < 2 ^ 22 }
+    ensures cells { IfOk result (λ cells. HoldsRow (summed_in kept.now plan.now.reach plan.now.days account.now)
+        (most_of kept.now) cells columns.now) }
+    ensures asked { AsksFor (nodes_of_cell kept.now * length columns.now) steps.old steps.new }
+{
+    let mut cells = Vec::new(alloc);
+    for column in columns {
+        let cell = column_cell(alloc, kept, plan, account, column, steps)?;
+        cells.push(cell)?;
+    }
+    Ok(List::from_vec(cells))
+}
+
+/// The cell of an account in a column.
+fn column_cell<L: Ledger>(
+    alloc: Global,
+    kept: &Kept,
+    plan: &Plan,
+    account: &Text,
+    column: &Span,
+    steps: &mut Steps<L>,
+) -> Result<Mixed, Memory>
+    requires ready { IsReady kept.now }
+    requires early { plan.now.days.end < 2 ^ 22 }
+    ensures sums { IfOk result (λ cell. HoldsSums cell
+        (summed_in kept.now plan.now.reach plan.now.days account.now column.now) (most_of kept.now)) }
+    ensures asked { AsksFor (nodes_of_cell kept.now) steps.old steps.new }
+{
+    let days = counted(plan.reach, plan.days, *column);
+    cell_of(alloc, kept, account, days, steps)
+}
