@@ -24,7 +24,8 @@ AddsTo book entry solved =
     → HaveFew (book ++ solved ∷ []) → turnover_fits (moved (postings_of (book ++ solved ∷ []))) ≡ true
     → Solves (written ++ entry ∷ []) (book ++ solved ∷ [])
 
--- What a fault of the entry means: under the same conditions no text that has the book has one with the entry behind
+-- What a fault of the entry means: as long as the book asks on no later day and no amount has more than 36 decimals, no
+-- text that has the book has one with the entry behind
 -- it. Want of memory means nothing.
 abbrev pub AddsNothing : List Txn → Txn → CheckFault → Type 0
 AddsNothing book entry check.Memory = Unit {0}

@@ -1,4 +1,5 @@
-//! Entries with assertions that are put behind a book: they are judged by sums of an index, and by no load.
+//! Entries with assertions that are put behind a book: whether they join it is judged by sums of an index, and by no load. Nothing
+//! stands on this crate yet: the list of a book's symbols, which the sums ask for, is made by nobody so far.
 #![tactic(auto)]
 
 mod asking;

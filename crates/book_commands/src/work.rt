@@ -109,7 +109,7 @@ fn text_on(alloc: Global, text: &[u8]) -> Result<Bytes, Refusal>
 /// What is asked of a text, on a day: what is to be written, or why there is nothing. A text of which more is asked than
 /// itself has at most 16,777,216 bytes. A journal has at most 200,000 items, and is read and loaded before anything else of it is judged. Where a report asks for
 /// entries that rules make, or for a budget, the text is read once more, since its book takes the items. Threads of its own may
-/// read a long journal: they have ended when it answers, and the answer is that of one.
+/// read a long journal: they are joined within the call, and the answer is that of one.
 pub fn answer_text<R: Threads + Sync, M: Maker, L: Ledger>(
     rt: &R,
     alloc: Global,

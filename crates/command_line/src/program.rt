@@ -287,7 +287,7 @@ pub fn asks_talk(words: &[Text]) -> bool
 }
 
 /// Runs the program over words whose first isn't `talk`, as `run_waiting` does over any: it waits for nobody. Threads that read a
-/// text are its own, and have ended when it returns.
+/// text are its own, and are joined within the call.
 pub fn run<J: Source, O: Sink, E: Sink, S: Shelf, M: Maker, R: Threads + Sync, L: Ledger>(
     rt: &R,
     alloc: Global,

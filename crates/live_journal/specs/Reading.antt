@@ -39,12 +39,13 @@ tried text splice = if is_at_end text splice then length splice.inserted else 0
 unfoldable pub most_read : Journal → Splice → List ℕ → ℕ
 most_read j splice new = if is_plain j splice then length splice.inserted else 2 * length new
 
--- the bytes don't read behind the text
+-- the bytes don't read behind the text, and only gaps and plain entries stand before the piece that doesn't
 abbrev pub are_misread : Option Facts → List ℕ → List ℕ → Bool
 are_misread None text bytes = false
 are_misread (Some facts) text bytes = is_some (misread_of facts text bytes)
 
--- A change puts bytes behind the text of a journal that don't read there, and the new text is within its limits.
+-- A change puts bytes behind the text of a journal that don't read there, with gaps and plain entries alone before the piece
+-- that doesn't, and the new text is within its limits.
 abbrev pub is_misread : Journal → Splice → List ℕ → Bool
 is_misread j splice new =
     is_at_end j.text splice

@@ -125,7 +125,8 @@ impl Live {
     }
 
     /// What a change of the text makes: what it adds, where it puts bytes behind the text that change nothing else; or
-    /// all that is made of the new text, loaded anew. Bytes behind the text that don't read are refused without a load.
+    /// all that is made of the new text, loaded anew. Bytes behind the text that don't read are
+    /// refused without a load, where only gaps and plain entries stand before them.
     fn made<L: Ledger>(
         &self,
         splice: &Splice,
@@ -166,7 +167,7 @@ impl Live {
         ensures stays { self.new ≡ self.old }
         // An edit that puts bytes behind the text which change nothing else reads these bytes alone.
         ensures read { IfOk result (λ plan. steps.new.bytes_read ≤ steps.old.bytes_read + most_read self.old plan.splice plan.text) }
-        // So does one whose bytes don't read there, and that is refused.
+        // So does one that is refused since its bytes don't read there, behind gaps and plain entries alone.
         ensures refused { OnErr result (steps.new.bytes_read ≤ steps.old.bytes_read
             + refused_read self.old (edits.splice_of self.old.text edit.now) (edits.applied self.old.text edit.now)) }
         ensures others { steps.new ≡ record steps.old { bytes_read = steps.new.bytes_read } }

@@ -21,9 +21,9 @@ pub record IsPlainPosting (f : Facts) (t : Txn) (p : Posting) : Type 0 where
   pub no_balance : p.wanted ≡ None
   -- its day isn't before the last one on which the book has an assertion or an assignment
   pub late : f.asked ≤ day_of t p
-  -- its amount, if it is written, is of a symbol that postings have, one of them with as many decimals
+  -- its amount, if it is written, is of a symbol that postings have, one of them with at least as many decimals
   pub amount : IfSome p.amount (λ a. IsSomeAnd (f.decimals a.symbol) (λ most. a.value.places ≤ most))
-  -- and so is the symbol of its cost
+  -- postings have the symbol of its cost
   pub cost : IfSome p.cost (λ c. is_some (f.decimals (cost_amount c).symbol) ≡ true)
 
 -- A plain entry: all its postings are plain, and it is balanced.

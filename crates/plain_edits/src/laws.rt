@@ -15,8 +15,10 @@ pub fn plain_entries_add()
         → (year : Option ℕ) (items : List Placed) (txns : List Txn) → IsKnown year text items txns facts → Adds year text bytes items txns facts a }
 {}
 
-/// What plain entries add is told: those that have no assertion and no assignment, are of days not before the last one
-/// of the book, have known symbols with no more decimals, and are balanced.
+/// What plain entries add is told, where the text ends with an entry or a directive and its line's end, and the bytes begin with
+/// an empty line and hold entries and gaps alone: those that have no assertion and no assignment, are of days not before the last
+/// one on which the book has one, have known symbols with no more decimals, and are balanced, while all that moves stays in
+/// range. Others may be told too.
 pub fn plain_entries_are_told()
     ensures { (facts : Facts) (text bytes : List ℕ) → ArePlain facts text bytes → is_some (plain_of facts text bytes) ≡ true }
 {}
