@@ -1,5 +1,6 @@
 pub mod Asking
 pub mod Celling
+pub mod Dating
 pub mod Ending
 pub mod Keeping
 pub mod Naming

@@ -4,6 +4,7 @@ pub mod Held
 pub mod Keys
 pub mod Named
 pub mod Over
+pub mod Planned
 pub mod Posted
 pub mod Pushed
 pub mod Rowed

@@ -23,7 +23,8 @@ pub(crate) fn cell_of<L: Ledger>(
 ) -> Result<Mixed, Memory>
     requires ready { IsReady kept.now }
     requires early { days.end < 2 ^ 22 }
-    ensures sums { IfOk result (λ cell. HoldsSums cell (summed kept.now account.now days) (most_of kept.now)) }
+    ensures sums { IfOk result (λ cell.
+        HoldsSums cell (summed kept.now account.now days) (most_of kept.now)) }
     ensures asked { AsksFor (nodes_of_cell kept.now) steps.old steps.new }
 {
     let mut sums = Mixed::new(alloc);

@@ -12,6 +12,8 @@ mod over;
 pub mod plain;
 pub mod posted;
 mod rows;
+#[cfg(test)]
+mod tests;
 mod totals;
 
 pub use balance::index_cells;

@@ -39,7 +39,8 @@ pub(crate) fn symbols_of(alloc: Global, takings: &[Taking]) -> Result<List<Text>
 
 /// Adds a taking that is named by the symbol of another, if that has an amount.
 fn push_symbol<'a>(others: &mut Vec<Taking<'a>>, taking: &Taking<'a>) -> Result<(), Memory>
-    ensures { OnOk result (others.new.items ≡ others.old.items ++ by_symbol taking.now.day taking.now.amount) }
+    ensures { OnOk result (others.new.items
+        ≡ others.old.items ++ by_symbol taking.now.day taking.now.amount) }
 {
     match &taking.amount {
         Some(share) => {

@@ -25,7 +25,7 @@ pub fn keep_book(alloc: Global, txns: &[Txn]) -> Result<Kept, Memory>
 }
 
 /// The postings of some transactions as they are written.
-fn posted_in<'a>(alloc: Global, txns: &'a [Txn]) -> Result<Vec<Taking<'a>>, Memory>
+pub(crate) fn posted_in<'a>(alloc: Global, txns: &'a [Txn]) -> Result<Vec<Taking<'a>>, Memory>
     ensures { IfOk result (λ takings. takings.items ≡ posted_in txns.now) }
 {
     let mut takings = Vec::new(alloc);

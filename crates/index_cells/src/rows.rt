@@ -1,7 +1,8 @@
 //! The rows of the accounts that have postings.
-ghost use Rattle.std.specs.Prelude.{◌≡◌, ◌*◌, ◌^◌, ◌<◌, filter, length, IfOk, OnOk};
+ghost use Rattle.std.specs.Prelude.{◌≡◌, ◌*◌, ◌^◌, ◌<◌, length, IfOk, OnOk};
 ghost use Rattle.index_cells.specs.Asks.{AsksFor, nodes_of, nodes_of_cell, nodes_of_row};
-ghost use Rattle.index_cells.specs.Held.{HoldsRow, HoldsRows, HoldsSums, most_of, stands, summed_in};
+ghost use Rattle.index_cells.specs.Held.{HoldsSums, most_of, stands, summed_in};
+ghost use Rattle.index_cells.specs.Planned.{HoldsCellsOf, HoldsRowsOf};
 ghost use Rattle.index_cells.specs.Pushed.{HasPushed};
 ghost use Rattle.index_cells.specs.Tells.{IsReady};
 
@@ -33,8 +34,7 @@ pub(crate) fn rows_of<L: Ledger>(
 ) -> Result<List<CellRow>, Memory>
     requires ready { IsReady kept.now }
     requires early { plan.now.days.end < 2 ^ 22 }
-    ensures rows { IfOk result (λ rows. HoldsRows (summed_in kept.now plan.now.reach plan.now.days)
-        (most_of kept.now) plan.now.columns.now rows (filter (stands kept.now plan.now.days) kept.now.accounts)) }
+    ensures rows { IfOk result (HoldsRowsOf kept.now plan.now) }
     ensures asked { AsksFor (nodes_of kept.now plan.now.columns.now) steps.old steps.new }
 {
     let mut rows = Vec::new(alloc);
@@ -55,7 +55,8 @@ fn push_row<L: Ledger>(
 ) -> Result<(), Memory>
     requires ready { IsReady kept.now }
     requires early { plan.now.days.end < 2 ^ 22 }
-    ensures pushed { OnOk result (HasPushed kept.now plan.now account.now rows.old.items rows.new.items) }
+    ensures pushed { OnOk result
+        (HasPushed kept.now plan.now account.now rows.old.items rows.new.items) }
     ensures asked { AsksFor (nodes_of_row kept.now plan.now.columns.now) steps.old steps.new }
 {
     let has_posting = stands(alloc, kept, account, plan.days, steps);
@@ -96,9 +97,10 @@ fn row_of<L: Ledger>(
     requires ready { IsReady kept.now }
     requires early { plan.now.days.end < 2 ^ 22 }
     ensures account { IfOk result (λ row. row.account ≡ account.now) }
-    ensures cells { IfOk result (λ row. HoldsRow (summed_in kept.now plan.now.reach plan.now.days account.now)
-        (most_of kept.now) row.cells plan.now.columns.now) }
-    ensures asked { AsksFor (nodes_of_cell kept.now * length plan.now.columns.now) steps.old steps.new }
+    ensures cells { IfOk result (λ row.
+        HoldsCellsOf kept.now plan.now account.now row.cells plan.now.columns.now) }
+    ensures asked { AsksFor (nodes_of_cell kept.now * length plan.now.columns.now)
+        steps.old steps.new }
 {
     let cells = cells_of(alloc, kept, plan, account, plan.columns, steps)?;
     let account = Text::copied(alloc, account.as_str())?;
@@ -116,8 +118,8 @@ fn cells_of<L: Ledger>(
 ) -> Result<List<Mixed>, Memory>
     requires ready { IsReady kept.now }
     requires early { plan.now.days.end < 2 ^ 22 }
-    ensures cells { IfOk result (λ cells. HoldsRow (summed_in kept.now plan.now.reach plan.now.days account.now)
-        (most_of kept.now) cells columns.now) }
+    ensures cells { IfOk result (λ cells.
+        HoldsCellsOf kept.now plan.now account.now cells columns.now) }
     ensures asked { AsksFor (nodes_of_cell kept.now * length columns.now) steps.old steps.new }
 {
     let mut cells = Vec::new(alloc);
