@@ -14,4 +14,6 @@ pub mod Booking
 pub mod Asked
 pub mod Ranging
 pub mod Refusing
+mod Fewer
+mod Gathered
 mod Worked

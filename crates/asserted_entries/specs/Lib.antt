@@ -1,4 +1,5 @@
 pub mod Added
 pub mod Asking
 pub mod Behind
+pub mod Gathering
 pub mod Rows
