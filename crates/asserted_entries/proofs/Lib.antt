@@ -16,4 +16,5 @@ pub mod Ranging
 pub mod Refusing
 mod Fewer
 mod Gathered
+mod Indexing
 mod Worked

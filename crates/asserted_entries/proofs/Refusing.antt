@@ -162,6 +162,10 @@ ok_no_err r v fault h k = let never : Ok v ≡ Err fault = sym h ∙ k in let no
 pub refuses : (ws ts other : List Txn) (w : Txn) (fault : Fault) → Solves ws ts → HaveFew (ts ++ settled w ∷ []) → are_asserted w.postings ≡ true → last_asked ts ≤ w.day.0 → checked (told_before ts (behind ts w.day)) (others_before ts (behind ts w.day)) w ≡ Err fault → Solves (ws ++ w ∷ []) other → ⊥
 refuses ws ts other w fault s few asserted asked h o = ok_no_err _ (settled w) fault (passes ws ts other w s o asserted asked few) h
 
+-- nor has it one whose amounts have few decimals, as each loaded book has
+pub refuses_few : (ws ts other : List Txn) (w : Txn) (fault : Fault) → Solves ws ts → HaveFew other → are_asserted w.postings ≡ true → last_asked ts ≤ w.day.0 → checked (told_before ts (behind ts w.day)) (others_before ts (behind ts w.day)) w ≡ Err fault → Solves (ws ++ w ∷ []) other → ⊥
+refuses_few ws ts other w fault s few asserted asked h o = refuses ws ts other w fault s (subst HaveFew (only_book ws ts other w s o asserted asked) few) asserted asked h o
+
 first_few : (book : List Txn) (t : Txn) → HaveFew (book ++ t ∷ []) → HaveFew book
 first_few book t few =
     let P : Posting → Type 0 = λ p. HasFew p.amount in
@@ -171,7 +175,7 @@ first_few book t few =
 pub adds_nothing : (book : List Txn) (w : Txn) (r : Result Txn CheckFault) → are_asserted w.postings ≡ true → IsChecked (told_before book (behind book w.day)) (others_before book (behind book w.day)) w r → IfErr r (λ e. AddsNothing book w e)
 adds_nothing book w (Ok v) asserted h = tt
 adds_nothing book w (Err check.Memory) asserted h = tt
-adds_nothing book w (Err (check.Journal fault)) asserted h = λ written other s asked few o. by h written other s asked few o
+adds_nothing book w (Err (check.Journal fault)) asserted h = λ written other s asked few o. by h written other s asked (subst HaveFew (only_book written book other w s o asserted asked) few) o
   where
     by : (checked (told_before book (behind book w.day)) (others_before book (behind book w.day)) w ≡ Err fault) ⊎ ((fault ≡ record { line = w.line; cause = cause.Range }) × AreBeyond (told_before book (behind book w.day)) (settled (made (told_before book (behind book w.day)) w)).postings) → (written other : List Txn) → Solves written book → last_asked book ≤ w.day.0 → HaveFew (book ++ settled w ∷ []) → Solves (written ++ w ∷ []) other → ⊥
     by (inl wrong) written other s asked few o = refuses written book other w fault s few asserted asked wrong o

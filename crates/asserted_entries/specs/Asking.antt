@@ -9,26 +9,30 @@ use Rattle.entry_balance.specs.Entry as amounts
 use Rattle.balancing.specs.Groups.{day_of}
 use Rattle.balancing.specs.Solves.{is_unmarked}
 
--- a posting doesn't count for what an assertion of an account asks for, or its amount is of the assertion's symbol
+-- a posting doesn't count for what an assertion of an account asks for, or its amount is of the
+-- assertion's symbol
 abbrev pub is_alike : List ℕ → Assertion → Posting → Bool
-is_alike account w q = not (is_of account w.below q.account) || amounts.is_of w.amount.symbol q.amount
+is_alike account w q =
+    not (is_of account w.below q.account) || amounts.is_of w.amount.symbol q.amount
 
 -- an assertion that wants its symbol only is met by no posting of another symbol among some
 abbrev pub is_unmixed : List Posting → List ℕ → Option Assertion → Bool
 is_unmixed ps account None = true
 is_unmixed ps account (Some w) = not w.only || list_all (is_alike account w) ps
 
--- A posting of an entry with these postings: it has an amount where it has an assertion, which isn't mixed with another
--- symbol in the entry; it has no day of its own, and nothing of it is marked as found.
+-- A posting of an entry with these postings: it has an amount where it has an assertion, which
+-- isn't mixed with another symbol in the entry; it has no day of its own, and nothing of it is
+-- marked as found.
 abbrev pub is_asserted : List Posting → Posting → Bool
 is_asserted ps p =
-    is_none p.day && ((is_none p.wanted || is_some p.amount) && (is_unmixed ps p.account p.wanted && is_unmarked p))
+    is_none p.day
+    && ((is_none p.wanted || is_some p.amount) && (is_unmixed ps p.account p.wanted && is_unmarked p))
 
 -- each posting of an entry is so
 abbrev pub are_asserted : List Posting → Bool
 are_asserted ps = list_all (is_asserted ps) ps
 
--- the day of a posting that asks for a balance, by an assertion or an assignment; 0 of any other one
+-- the day of a posting that asks for a balance, by an assertion or an assignment; 0 of others
 abbrev pub asked_on : Txn → Posting → ℕ
 asked_on t p = if is_some p.wanted then day_of t p else 0
 

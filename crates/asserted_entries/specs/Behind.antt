@@ -5,7 +5,7 @@ use Rattle.hl_time.specs.declared.day.Day.{Day}
 use Rattle.book.specs.declared.transaction.Txn.{Txn}
 use Rattle.book.specs.Postings.{postings_of}
 use Rattle.book.specs.Sums.{symbols_of, is_nonzero}
-use Rattle.book.specs.SumsBefore.{Place}
+use Rattle.book.specs.SumsBefore.{Place, sum_before}
 use Rattle.live_index.specs.declared.row.Row.{Row}
 use Rattle.asserted_entries.specs.Rows.{Tell}
 
@@ -20,11 +20,19 @@ pub record Known : Type 0 where
   pub symbols : List (List ℕ)
   pub day : Day
 
--- what is true of it: the rows tell the book, the symbols are those of its amounts, and the day is one that sums reach
+abbrev pub known : List Txn → List Row → List (List ℕ) → Day → Known
+known book rows symbols day = record { book = book; rows = rows; symbols = symbols; day = day }
+
+-- what is true of it: the rows tell the book, the symbols are those of its amounts, and the day is
+-- one that sums reach
 pub record IsKnown (k : Known) : Type 0 where
   pub told : Tell k.rows k.book
   pub symbols : k.symbols ≡ symbols_of (postings_of k.book)
   pub near : k.day.0 + 1 < 2 ^ 22
+
+-- the sum of an account in a symbol before the entry
+abbrev pub sum_behind : Known → List ℕ → Bool → List ℕ → ℤ
+sum_behind k account below symbol = sum_before k.book account symbol below (behind k.book k.day)
 
 -- another symbol than one, whose sum isn't zero
 abbrev pub is_beside : List ℕ → (List ℕ → ℤ) → List ℕ → Bool
@@ -33,4 +41,5 @@ is_beside symbol sum other = not (bytes_eq other symbol) && is_nonzero (sum othe
 -- the first such one of some symbols
 abbrev pub first_beside : List ℕ → (List ℕ → ℤ) → List (List ℕ) → Option (List ℕ)
 first_beside symbol sum [] = None
-first_beside symbol sum (other ∷ others) = if is_beside symbol sum other then Some other else first_beside symbol sum others
+first_beside symbol sum (other ∷ others) =
+    if is_beside symbol sum other then Some other else first_beside symbol sum others

@@ -10,7 +10,8 @@ use Rattle.live_index.specs.declared.row.Row.{Row}
 
 -- the amount of a posting, on the posting's own day or else on that of its transaction
 abbrev pub row_of : Txn → Posting → Amount → Row
-row_of t p a = record { account = p.account; symbol = a.symbol; day = unwrap_or p.day t.day; value = a.value }
+row_of t p a =
+    record { account = p.account; symbol = a.symbol; day = unwrap_or p.day t.day; value = a.value }
 
 -- a posting is one row, and none without an amount
 abbrev pub rows_of_posting : Txn → Posting → List Row
@@ -23,7 +24,9 @@ rows_of_txn t = flat_map (rows_of_posting t) t.postings
 abbrev pub rows_of : List Txn → List Row
 rows_of book = flat_map rows_of_txn book
 
--- Rows tell a book: before each day they have the sums that the book's own rows have, of every account and symbol.
+-- Rows tell a book: before each day they have the sums that the book's own rows have, of every
+-- account and symbol.
 abbrev pub Tell : List Row → List Txn → Type 0
 Tell rows book =
-    (account symbol : List ℕ) (below : Bool) (end : ℕ) → sum_before rows account symbol below end ≡ sum_before (rows_of book) account symbol below end
+    (account symbol : List ℕ) (below : Bool) (end : ℕ)
+    → sum_before rows account symbol below end ≡ sum_before (rows_of book) account symbol below end

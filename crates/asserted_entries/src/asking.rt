@@ -11,9 +11,10 @@ ghost use Rattle.asserted_entries.specs.Asking as spec;
 use book::{Amount, Assertion, Boxed, Posting};
 use hl_base::Text;
 
-/// Whether an entry with these postings can be judged behind a book. Each posting with an assertion has an amount, so
-/// that nothing is assigned; where an assertion wants its symbol only, each posting that counts for it has an amount of
-/// this symbol; no posting has a day of its own, and nothing is marked as found.
+/// Whether an entry with these postings can be judged behind a book. Each posting with an assertion
+/// has an amount, so that nothing is assigned; where an assertion wants its symbol only, each
+/// posting that counts for it has an amount of this symbol; no posting has a day of its own, and
+/// nothing is marked as found.
 pub fn are_asserted(postings: &[Posting]) -> bool
     ensures { result ≡ spec.are_asserted postings.now }
 {
@@ -43,7 +44,8 @@ fn is_unmarked(posting: &Posting) -> bool
     !posting.filled && !posting.costed
 }
 
-/// Whether no posting of another symbol counts for what an assertion asks for, where it wants its symbol only.
+/// Whether no posting of another symbol counts for what an assertion asks for, where it wants its
+/// symbol only.
 fn is_unmixed(postings: &[Posting], account: &Text, wanted: &Option<Boxed<Assertion>>) -> bool
     ensures { result ≡ spec.is_unmixed postings.now account.now wanted.now }
 {
@@ -67,7 +69,8 @@ fn are_alike(postings: &[Posting], account: &Text, wanted: &Assertion) -> bool
         .all(|posting| is_alike(account, wanted, posting))
 }
 
-/// Whether a posting doesn't count for what an assertion of an account asks for, or has an amount of its symbol.
+/// Whether a posting doesn't count for what an assertion of an account asks for, or has an amount
+/// of its symbol.
 fn is_alike(account: &Text, wanted: &Assertion, posting: &Posting) -> bool
     ensures { result ≡ spec.is_alike account.now wanted.now posting.now }
 {

@@ -4,8 +4,8 @@ ghost use Rattle.std.specs.Option.{option_map};
 ghost use Rattle.hl_num.specs.Decimal.{units_of};
 ghost use Rattle.std.specs.Str.{bytes_eq};
 ghost use Rattle.book.specs.Sums.{is_nonzero};
-ghost use Rattle.book.specs.SumsBefore.{sum_before, OnlyAsked};
-ghost use Rattle.asserted_entries.specs.Behind.{behind, first_beside};
+ghost use Rattle.book.specs.SumsBefore.{OnlyAsked};
+ghost use Rattle.asserted_entries.specs.Behind.{first_beside, sum_behind};
 
 use book::{Sums, Txn};
 use hl_base::{Steps, Text};
@@ -15,9 +15,9 @@ use live_index::{Index, upto};
 use std::marker::Model;
 use std::sync::ledger::Ledger;
 
-/// Sums of a book before an entry on a day behind all its transactions. Each comes from an index of the book's rows,
-/// of the days up to this one: whatever the book has on later days comes after the entry. Contracts see the book, the
-/// rows of the index, the book's symbols and the day.
+/// Sums of a book before an entry on a day behind all its transactions. Each comes from an index of
+/// the book's rows, of the days up to this one: whatever the book has on later days comes after the
+/// entry. Contracts see the book, the rows of the index, the book's symbols and the day.
 #[derive(Drop)]
 pub struct Before<'a> {
     index: &'a Index,
@@ -27,13 +27,13 @@ pub struct Before<'a> {
 }
 
 impl<'a> Model for Before<'a> {
-    ghost use Rattle.asserted_entries.specs.Behind.{Known, IsKnown};
+    ghost use Rattle.asserted_entries.specs.Behind.{Known, IsKnown, known};
 
     ghost Value = { Known };
 
-    ghost view = { λ b. record { book = b.book.now; rows = b.index.now; symbols = b.symbols.now; day = b.day } };
+    ghost view = { λ b. known b.book.now b.index.now b.symbols.now b.day };
 
-    ghost invariant = { λ b. IsKnown (record { book = b.book.now; rows = b.index.now; symbols = b.symbols.now; day = b.day }) };
+    ghost invariant = { λ b. IsKnown (known b.book.now b.index.now b.symbols.now b.day) };
 }
 
 impl<'a> Before<'a> {
@@ -41,17 +41,17 @@ impl<'a> Before<'a> {
     ghost use Rattle.hl_num.specs.Decimal.{units_of};
     ghost use Rattle.book.specs.Postings.{postings_of};
     ghost use Rattle.book.specs.Sums.{symbols_of};
-    ghost use Rattle.book.specs.SumsBefore.{sum_before, OnlyAsked};
-    ghost use Rattle.asserted_entries.specs.Behind.{behind, is_beside};
+    ghost use Rattle.book.specs.SumsBefore.{OnlyAsked};
+    ghost use Rattle.asserted_entries.specs.Behind.{is_beside, known, sum_behind};
     ghost use Rattle.asserted_entries.specs.Rows.{Tell};
 
-    /// The sums before an entry on a day behind a book, by an index that tells the book and by the symbols of its
-    /// amounts, in the order of their bytes and each once.
+    /// The sums before an entry on a day behind a book, by an index that tells the book, as that of
+    /// `index_of` does, and by the symbols of its amounts, which `symbols_of` answers.
     pub fn new(index: &'a Index, symbols: &'a [Text], book: &'a [Txn], day: Day) -> Before<'a>
         requires told { Tell index.now book.now }
         requires symbols { symbols.now ≡ symbols_of (postings_of book.now) }
         requires near { day.0 + 1 < 2 ^ 22 }
-        ensures { result ≡ record { book = book.now; rows = index.now; symbols = symbols.now; day = day } }
+        ensures { result ≡ known book.now index.now symbols.now day }
     {
         Before {
             index,
@@ -69,8 +69,7 @@ impl<'a> Before<'a> {
         below: bool,
         steps: &mut Steps<L>,
     ) -> Dec
-        ensures sum { units_of result
-            ≡ sum_before self.now.book account.now symbol.now below (behind self.now.book self.now.day) }
+        ensures sum { units_of result ≡ sum_behind self.now account.now below symbol.now }
         ensures steps { OnlyAsked steps.old steps.new }
         ensures few { steps.new.nodes ≤ steps.old.nodes + 22 }
     {
@@ -94,8 +93,8 @@ impl<'a> Before<'a> {
         below: bool,
         steps: &mut Steps<L>,
     ) -> bool
-        ensures beside { result ≡ is_beside symbol.now
-            (λ s. sum_before self.now.book account.now s below (behind self.now.book self.now.day)) other.now }
+        ensures beside { result
+            ≡ is_beside symbol.now (sum_behind self.now account.now below) other.now }
         ensures steps { OnlyAsked steps.old steps.new }
     {
         if is_same_text(other, symbol) {
@@ -143,8 +142,8 @@ fn first_beside<'b, L: Ledger>(
     below: bool,
     steps: &mut Steps<L>,
 ) -> Option<&'b Text>
-    ensures symbol { option_map (λ other. other.now) result ≡ first_beside symbol.now
-        (λ s. sum_before before.now.book account.now s below (behind before.now.book before.now.day)) symbols.now }
+    ensures symbol { option_map (λ other. other.now) result
+        ≡ first_beside symbol.now (sum_behind before.now account.now below) symbols.now }
     ensures steps { OnlyAsked steps.old steps.new }
 {
     for other in symbols {

@@ -14,12 +14,14 @@ use hl_base::Steps;
 use std::alloc::Global;
 use std::sync::ledger::Ledger;
 
-/// An entry with assertions alone that is put behind a book on the day of the sums before it: with all that balancing
-/// finds, or what is wrong with it, as `check_one` answers by these sums (`answer`). Where the book asks on no later
-/// day, no amount has more than 36 decimals and all that moves stays in range, the book of the text with an entry behind it that
-/// is answered is the old book and the answered entry (`adds`); and a text with an entry behind it that has a fault here has no
-/// book (`refuses`), though a load may tell another fault. The number that a failed assertion's fault has found may have fewer decimals than where the whole
-/// text is loaded. Counts one checked transaction.
+/// An entry with assertions alone that is put behind a book on the day of the sums before it: with
+/// all that balancing finds, or what is wrong with it, as `check_one` answers by these sums
+/// (`answer`). Where the book asks on no later day (`last_asked`), no amount has more than 36
+/// decimals (`have_few`) and all that moves stays in range, the book of the text with an entry
+/// behind it that is answered is the old book and the answered entry (`adds`). Where the book asks
+/// on no later day, a text with an entry behind it that has a fault here has no book (`refuses`),
+/// though a load may tell another fault. The number that a failed assertion's fault has found may
+/// have fewer decimals than where the whole text is loaded. Counts one checked transaction.
 pub fn judge_behind<L: Ledger>(
     alloc: Global,
     before: &Before,

@@ -20,5 +20,5 @@ pub use decimals::have_few;
 pub use judge::judge_behind;
 pub use last_day::last_asked;
 pub use laws::{an_entry_behind, sums_behind};
-pub use rows::rows_of;
+pub use rows::{index_of, rows_of};
 pub use symbols::symbols_of;

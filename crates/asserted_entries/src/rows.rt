@@ -1,14 +1,42 @@
 //! The rows that the postings of transactions are in an index.
 ghost use Rattle.std.specs.Prelude.{◌≡◌, ◌∷◌, ◌++◌, [], IfOk, OnOk};
+ghost use Rattle.book.specs.Bounds.{TurnoverFits};
+ghost use Rattle.book.specs.Postings.{postings_of};
+ghost use Rattle.live_index.specs.Rows as kept;
+ghost use Rattle.live_index.specs.Standing.{standing};
 ghost use Rattle.asserted_entries.specs.Rows as spec;
 
 use book::{Amount, Posting, Txn};
 use hl_base::{Memory, Text};
-use live_index::Row;
+use live_index::{Index, Row};
 use std::alloc::Global;
 
-/// The rows of some transactions: one for each posting that has an amount, on the posting's own day or else on that of
-/// its transaction. An index into which they are put tells the book that has these transactions more.
+/// An index of the rows of a book whose amounts are in range, as those of a loaded book are. It
+/// tells the book.
+pub fn index_of(alloc: Global, book: &[Txn]) -> Result<Index, Memory>
+    requires { TurnoverFits (postings_of book.now) }
+    ensures rows { IfOk result (λ index. index ≡ spec.rows_of book.now) }
+    ensures told { IfOk result (λ index. spec.Tell index book.now) }
+{
+    let rows = rows_of(alloc, book)?;
+    let index = index_with(alloc, &rows)?;
+    Ok(index)
+}
+
+/// An index of some rows.
+fn index_with(alloc: Global, rows: &[Row]) -> Result<Index, Memory>
+    requires { kept.TurnoverFits (standing rows.now) }
+    ensures { IfOk result (λ index. index ≡ rows.now) }
+{
+    let mut index = Index::new(alloc)?;
+    let prepared = index.prepare(rows)?;
+    index.put(prepared);
+    Ok(index)
+}
+
+/// The rows of some transactions: one for each posting that has an amount, on the posting's own
+/// day or else on that of its transaction. An index into which they are put tells the book that
+/// has these transactions more.
 pub fn rows_of(alloc: Global, txns: &[Txn]) -> Result<Vec<Row>, Memory>
     ensures { IfOk result (λ rows. rows.items ≡ spec.rows_of txns.now) }
 {
@@ -34,7 +62,8 @@ fn push_posting(
     txn: &Txn,
     posting: &Posting,
 ) -> Result<(), Memory>
-    ensures { OnOk result (rows.new.items ≡ rows.old.items ++ spec.rows_of_posting txn.now posting.now) }
+    ensures { OnOk result (rows.new.items
+        ≡ rows.old.items ++ spec.rows_of_posting txn.now posting.now) }
 {
     match &posting.amount {
         Some(amount) => push_amount(alloc, rows, txn, posting, amount),
@@ -49,7 +78,8 @@ fn push_amount(
     posting: &Posting,
     amount: &Amount,
 ) -> Result<(), Memory>
-    ensures { OnOk result (rows.new.items ≡ rows.old.items ++ spec.row_of txn.now posting.now amount.now ∷ []) }
+    ensures { OnOk result (rows.new.items
+        ≡ rows.old.items ++ spec.row_of txn.now posting.now amount.now ∷ []) }
 {
     let row = Row {
         account: Text::copied(alloc, posting.account.as_str())?,

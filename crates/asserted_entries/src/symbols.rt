@@ -13,8 +13,8 @@ use hl_base::{List, Memory, Text};
 use std::alloc::Global;
 use std::collections::BTreeSet;
 
-/// The symbols of the amounts of some transactions, in the order of their bytes and each once, as `Before` asks for
-/// them. Each posting is looked up once among the symbols that were found.
+/// The symbols of the amounts of some transactions, in the order of their bytes and each once, as
+/// `Before` asks for them. Each amount is looked up once among the symbols that were found.
 #[tactic(auto, using(crate::proofs::Gathered::from_none, crate::proofs::Gathered::txn_back, crate::proofs::Gathered::no_txns))]
 pub fn symbols_of(alloc: Global, txns: &[Txn]) -> Result<List<Text>, Memory>
     ensures { IfOk result (λ symbols. symbols ≡ sums.symbols_of (postings_of txns.now)) }
@@ -55,7 +55,8 @@ fn put_posting<'a>(found: &mut BTreeSet<SymbolKey<'a>>, posting: &'a Posting) ->
 }
 
 fn put_symbol<'a>(found: &mut BTreeSet<SymbolKey<'a>>, symbol: &'a Text) -> Result<(), Memory>
-    ensures { OnOk result (found.new.keys ≡ insert_key (slice_cmp nat_cmp) found.old.keys symbol.now) }
+    ensures { OnOk result (found.new.keys
+        ≡ insert_key (slice_cmp nat_cmp) found.old.keys symbol.now) }
 {
     found.insert(SymbolKey::new(symbol))?;
     Ok(())
