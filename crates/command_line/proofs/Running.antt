@@ -65,7 +65,7 @@ other_same (origins.Store name) s = (refl, refl)
 files_same : (origin : Origin) (s : Scene) → FilesStay origin s s
 files_same origins.Input s = λ name. refl
 files_same (origins.File name) s = λ other. refl
-files_same (origins.Store name) s = (λ other a b. refl, λ told. inr refl)
+files_same (origins.Store name) s = (λ other a b. refl, λ told. refl)
 
 memory_answers : (given : TextTask) (day : ℕ) (s : Scene) → AnswersText given day (Err refusal.Memory) s s
 memory_answers given day s = record {

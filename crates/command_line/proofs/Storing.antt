@@ -1,6 +1,5 @@
 -- The text of a store among the files of a shelf.
-use Rattle.std.proofs.Common.{◌≡◌, ◌⊎◌, inl, inr, ℕ, List, Result, Ok, Err, IfSome, IsTrue, refl, ap, sym, ◌∙◌, subst}
-use Rattle.hl_base.specs.Causes.{Rose}
+use Rattle.std.proofs.Common.{◌≡◌, inl, inr, ℕ, List, Result, Ok, Err, IfSome, IsTrue, refl, ap, sym, ◌∙◌, subst}
 use Rattle.hl_base.specs.declared.disk.Disk.{Ghosts as Disks}
 use Rattle.hl_base.specs.declared.shelf.Shelf.{Ghosts as Shelves}
 use Rattle.refusals.specs.Outcomes.{Outcome, refused}
@@ -126,18 +125,6 @@ disk_is name store.Memory x k e = absurd (other_fault x refusal.Memory refusal.D
 -- ---- by the call
 
 module _ {S D : Type 0} (s : Shelves S D) (g : Disks D) (name : List ℕ) (old new : S) where
-  -- its image stays
-  image_stays : (r : StoreRefusal) → ReadsStore s g name old new (Err r) → IsTrue ((s.tells old).files)
-      → Rose (s.disk_faults old) (s.disk_faults new) ⊎ (image_under (s.file new) name ≡ image_under (s.file old) name)
-  image_stays store.Absent reads told = inr (reads.stays told (λ e. cc))
-  image_stays (store.NotAStore at) reads told = inr (reads.stays told (λ e. cc))
-  image_stays (store.Newer version) reads told = inr (reads.stays told (λ e. cc))
-  image_stays (store.Exists len) reads told = inr (reads.stays told (λ e. cc))
-  image_stays (store.Full size limit) reads told = inr (reads.stays told (λ e. cc))
-  image_stays store.ReadFault reads told = inr (reads.stays told (λ e. cc))
-  image_stays store.DiskFault reads told = inl (reads.disk_fault refl)
-  image_stays store.Memory reads told = inr (reads.stays told (λ e. cc))
-
   pub loads_text : (text : List ℕ) → ReadsStore s g name old new (Ok text) → StoreText s name old new (Ok text)
   loads_text text reads = record {
     found = λ told. stored_found name text (text_of_store (image_under (s.file old) name)) (reads.text told);
@@ -145,7 +132,7 @@ module _ {S D : Type 0} (s : Shelves S D) (g : Disks D) (name : List ℕ) (old n
     rose = λ e. cc;
     disk_rose = λ e. cc;
     others = reads.others;
-    image = λ told. inr (reads.stays told (λ e. cc));
+    image = reads.kept;
     sound = λ k e. cc;
     goes_on = record { later = reads.later; tells = reads.tells; sound = λ k. (reads.sound k).1 };
   }
@@ -157,7 +144,7 @@ module _ {S D : Type 0} (s : Shelves S D) (g : Disks D) (name : List ℕ) (old n
     rose = λ e. reads.read_fault (read_is name r x k e);
     disk_rose = λ e. reads.disk_fault (disk_is name r x k e);
     others = reads.others;
-    image = λ told. image_stays r reads told;
+    image = reads.kept;
     sound = λ sound e. (reads.sound sound).0 (read_is name r x k e);
     goes_on = record { later = reads.later; tells = reads.tells; sound = λ sound. (reads.sound sound).1 };
   }

@@ -119,11 +119,11 @@ OtherStays origins.Input old new = ShelfStays old new
 OtherStays (origins.File name) old new = InputStays old new × (new.disk_faults ≡ old.disk_faults)
 OtherStays (origins.Store name) old new = InputStays old new
 
--- Each file stays as it was, but those of a store that is read: its image, or the want of one, stays, unless a disk fault is told.
+-- Each file stays as it was, but those of a store that is read: its image, or the want of one, stays.
 abbrev pub FilesStay : Origin → Scene → Scene → Type 0
 FilesStay (origins.Store name) old new =
     ((other : List ℕ) → other ≢ name → other ≢ second_name name → new.file other ≡ old.file other)
-    × (IsTrue old.files_told → Rose old.disk_faults new.disk_faults ⊎ (image_under new.file name ≡ image_under old.file name))
+    × (IsTrue old.files_told → image_under new.file name ≡ image_under old.file name)
 FilesStay origin old new = (other : List ℕ) → new.file other ≡ old.file other
 
 -- nothing was written, and nothing said to have been

@@ -20,8 +20,7 @@ RefusesStore r name store.DiskFault = r ≡ refusal.DiskFault
 RefusesStore r name store.Memory = r ≡ refusal.Memory
 RefusesStore r name told = Refuses r (status_of told) (line_of name told)
 
--- The text of a store was read, or why not: its image, or the want of one, stays, unless a disk fault is told, and so does each
--- file that isn't one of its two.
+-- The text of a store was read, or why not: its image, or the want of one, stays, and so does each file that isn't one of its two.
 pub record StoreText {S D : Type 0} (s : Shelves S D) (name : List ℕ) (old new : S) (result : Result (List ℕ) Refusal) : Type 0 where
   pub found : IsTrue ((s.tells old).files) → FindsText result (store_under (s.file old) name)
   pub kind : IfErr result IsOfStore
@@ -29,7 +28,6 @@ pub record StoreText {S D : Type 0} (s : Shelves S D) (name : List ℕ) (old new
       × ((s.last_failed new ≡ Some name) ⊎ (s.last_failed new ≡ Some (second_name name)))
   pub disk_rose : result ≡ Err refusal.DiskFault → Rose (s.disk_faults old) (s.disk_faults new)
   pub others : (other : List ℕ) → other ≢ name → other ≢ second_name name → s.file new other ≡ s.file old other
-  pub image : IsTrue ((s.tells old).files) → Rose (s.disk_faults old) (s.disk_faults new)
-      ⊎ (image_under (s.file new) name ≡ image_under (s.file old) name)
+  pub image : IsTrue ((s.tells old).files) → image_under (s.file new) name ≡ image_under (s.file old) name
   pub sound : s.IsSound old → result ≢ Err refusal.ReadFault
   pub goes_on : GoesOn s old new
