@@ -9,12 +9,12 @@ use std::marker::Brand;
 use std::sync::ledger::{Blank, Ledger};
 use std::test::Fail;
 
-/// The kinds of the entries in their order: each kind that is taken stands behind each. Two are refused.
-const ORDER: &[u8] = b"aaybacadaeafagahbxbcbdbebfbgbhccdcecfcgchddedfdgdheefegehffgfhgghha";
+/// The kinds of the entries in their order: each kind that is taken stands behind each. Three are refused.
+const ORDER: &[u8] = b"aaybacadaeafagahbxbicbdbebfbgbhccdcecfcgchddedfdgdheefegehffgfhgghhai";
 
 /// An entry of a kind. The first three may be put behind the text by themselves, with the line's end or without it; the
 /// third has more decimals when it comes first. The others have a new symbol with a price, an assertion, an assignment
-/// or an earlier day, or end with a comment. Two have no balance and no form.
+/// or an earlier day, or end with a comment. Three have no balance, no such day and no form.
 fn entry_of(kind: u8) -> &'static [u8] {
     match kind {
         b'a' => b"2024-02-01 tea\n    food  1.50 EUR\n    cash\n",
@@ -26,6 +26,7 @@ fn entry_of(kind: u8) -> &'static [u8] {
         b'g' => b"2024-01-02 before\n    even  0 EUR\n    cash  0 EUR\n",
         b'h' =>
             b"2024-02-07 two\n    (budget)  1 EUR\n\n2024-02-07 of them\n    [a]  1 EUR\n    [b]\n\n; so far\n",
+        b'i' => b"2024-02-08 right\n    food  1 EUR\n    cash\n\n2024-02-31 no such day\n",
         b'x' => b"2024-02-06 wrong\n    food  1 EUR\n    cash  -2 EUR\n",
         _ => b"no entry\n",
     }
@@ -33,7 +34,7 @@ fn entry_of(kind: u8) -> &'static [u8] {
 
 /// Whether an entry of a kind is taken.
 fn is_taken(kind: u8) -> bool {
-    !matches!(kind, b'x' | b'y')
+    !matches!(kind, b'i' | b'x' | b'y')
 }
 
 /// Puts in an edit, unless it is refused. Gives whether it was put in.
