@@ -24,7 +24,7 @@ const RULES: &[u8] = b"fields date, description, x\namount %x EUR\naccount1 asse
 const BANK: &[u8] = b"2024-03-01,rent,-500\n2024-03-02,shop,-20\n";
 
 /// An addition to the store `home`.
-fn addition(alloc: Global) -> Result<StoreEdit, Memory>
+pub(crate) fn addition(alloc: Global) -> Result<StoreEdit, Memory>
     ensures day { IfOk result (λ edit. IsDay edit.day.0) }
     ensures edit { IfOk result (λ edit. IsEdit edit.request) }
 {
@@ -37,7 +37,7 @@ fn addition(alloc: Global) -> Result<StoreEdit, Memory>
 }
 
 /// An import into it.
-fn import(alloc: Global) -> Result<StoreEdit, Memory>
+pub(crate) fn import(alloc: Global) -> Result<StoreEdit, Memory>
     ensures day { IfOk result (λ edit. IsDay edit.day.0) }
     ensures edit { IfOk result (λ edit. IsEdit edit.request) }
 {
@@ -94,7 +94,7 @@ fn is_said(alloc: Global, revision: u64, wanted: &[u8]) -> Result<(), Fail> {
 }
 
 /// An edit stands at this revision.
-fn is_done(reply: &Reply, wanted: u64) -> bool {
+pub(crate) fn is_done(reply: &Reply, wanted: u64) -> bool {
     match reply {
         Reply::Done { revision } => *revision == wanted,
         _ => false,
