@@ -1,5 +1,8 @@
-//! Rows of entries that are added to a journal: after each it is what its text opens as.
+//! Rows of journals that are kept open: after each entry that is added one is what its text opens as, and a text opens
+//! where it reads and checks.
 #![tactic(auto)]
 
+#[cfg(test)]
+mod cuts;
 #[cfg(test)]
 mod edits;
