@@ -2,6 +2,7 @@
 //! items, the objects of the outside with their memory forms, and the counters of steps.
 #![tactic(auto)]
 
+pub mod ascii;
 pub mod bytes;
 mod change;
 pub mod clock;
@@ -27,6 +28,7 @@ mod surface;
 pub mod text;
 pub mod transfer;
 
+pub use ascii::{are_digits, is_digit, is_punctuation, is_white};
 pub use bytes::Bytes;
 pub use change::{Latest, Splice};
 pub use clock::{Clock, MemClock};

@@ -3,6 +3,7 @@ ghost use Rattle.std.specs.Prelude.{◌≡◌, ◌<◌, ◌≤◌, ◌+◌, leng
 ghost use Rattle.hl_base.specs.Lines.{first_line, content_length};
 ghost use Rattle.hl_base.specs.Items.{is_white, is_blank, is_remark, is_indented, is_word, begins_entry, closes_block, opens_block, kind_of};
 
+use crate::ascii::is_white;
 use crate::items::Kind;
 use memchr::memchr;
 
@@ -45,13 +46,6 @@ fn before_end(text: &[u8]) -> usize
     ensures bound { result ≤ length text.now }
 {
     memchr(b'\n', text).unwrap_or(text.len())
-}
-
-/// White space: a space, a tab or a CR.
-fn is_white(byte: u8) -> bool
-    ensures { result ≡ is_white byte }
-{
-    byte == b' ' || byte == b'\t' || byte == b'\r'
 }
 
 /// Whether the line holds only white space and its end.
