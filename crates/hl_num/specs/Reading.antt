@@ -2,19 +2,17 @@
 use Rattle.std.specs.Prelude.{ℕ, pos, ◌+◌, ◌*◌, ◌-◌, ◌^◌, min, Bool, true, not, ◌&&◌, ◌||◌, nat_lt, nat_le, ◌==◌, if◌then◌else◌, List, [], ◌∷◌, length, take, drop, reverse, Option, Some, None, Result, Ok, Err}
 use Rattle.std.specs.List.{list_all, list_any, filter, find, count_by, prefix_len}
 use Rattle.std.specs.Str.Parse.{digits_value}
+use Rattle.hl_base.specs.Ascii.{comma, dot}
+pub use Rattle.hl_base.specs.Ascii.{is_digit}
 use Rattle.hl_num.specs.declared.reading.Number.{Number}
 use Rattle.hl_num.specs.declared.reading.BadNumber.{BadNumber}
 
--- '0' to '9'
-abbrev pub is_digit : ℕ → Bool
-is_digit b = nat_le 48 b && nat_le b 57
-
 -- '.' and ','
 abbrev pub is_mark : ℕ → Bool
-is_mark b = b == 46 || b == 44
+is_mark b = b == dot || b == comma
 
 abbrev pub other_mark : ℕ → ℕ
-other_mark mark = if mark == 46 then 44 else 46
+other_mark mark = if mark == dot then comma else dot
 
 -- digits and marks alone make up a number
 abbrev pub is_number_byte : ℕ → Bool

@@ -5,6 +5,7 @@ ghost use Rattle.hl_num.specs.Groups.{IsSummary};
 ghost use Rattle.hl_num.specs.Reading.{is_digit, is_mark, other_mark, decimal_mark, undecided_mark, kept_mark, is_number_byte, whole_len, group_sizes, are_groups, first_size, rest_size, mantissa_of, value_with, is_written, number_of, number_with, number_end, reading};
 
 use crate::decimal::Dec;
+use hl_base::{are_digits, is_digit};
 
 /// A number with what was written of its form: the decimal mark, the group mark, and the sizes of the rightmost
 /// group and of those left of it, at most 255 and three where there are no groups.
@@ -21,13 +22,6 @@ pub struct Number {
 #[derive(Clone, Copy, Debug, PartialEq, Eq)]
 pub struct BadNumber {
     pub at: u64,
-}
-
-/// Whether a byte is a digit.
-fn is_digit(byte: u8) -> bool
-    ensures { result ≡ is_digit byte }
-{
-    byte.is_ascii_digit()
 }
 
 /// Whether a byte is one of the marks.
@@ -318,13 +312,6 @@ fn has_digit(text: &[u8]) -> bool
     ensures { result ≡ list_any is_digit text.now }
 {
     text.iter().any(|byte| is_digit(*byte))
-}
-
-/// Whether all bytes are digits.
-fn are_digits(text: &[u8]) -> bool
-    ensures { result ≡ list_all is_digit text.now }
-{
-    text.iter().all(|byte| is_digit(*byte))
 }
 
 /// The number that the whole text is. `mark` is the decimal mark that was decided, where one was.
