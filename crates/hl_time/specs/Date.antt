@@ -2,6 +2,7 @@
 -- month and day; and `M-D` where the year is given.
 use Rattle.std.specs.Prelude.{ℕ, ◌+◌, ◌-◌, ◌*◌, Bool, not, ◌||◌, ◌==◌, if◌then◌else◌, List, length, slice_index, Option, Some, None, Result, Ok, Err}
 use Rattle.std.specs.Char.{is_ascii_digit}
+use Rattle.hl_base.specs.Ascii.{dot, minus, slash}
 use Rattle.hl_time.specs.Calendar.{has_year, has_month, has_day, day_number}
 use Rattle.hl_time.specs.declared.day.Day.{Day}
 use Rattle.hl_time.specs.declared.fault.TimeFault.{TimeFault}
@@ -9,7 +10,7 @@ use Rattle.hl_time.specs.declared.fault.TimeFault.TheVariants.{BadDate}
 
 -- `-`, `.` or `/`
 abbrev pub is_separator : ℕ → Bool
-is_separator byte = (byte == 45) || (byte == 46) || (byte == 47)
+is_separator byte = (byte == minus) || (byte == dot) || (byte == slash)
 
 abbrev pub is_digit_at : List ℕ → ℕ → Bool
 is_digit_at text at = is_ascii_digit (slice_index text at)

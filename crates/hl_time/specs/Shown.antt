@@ -1,5 +1,6 @@
 -- Days and columns as they are printed.
 use Rattle.std.specs.Prelude.{ℕ, ◌+◌, ◌-◌, ◌/◌, ◌%◌, Bool, ◌&&◌, ◌==◌, if◌then◌else◌, min, max, List, [], ◌∷◌, ◌++◌}
+use Rattle.hl_base.specs.Ascii.{dot, minus}
 use Rattle.hl_time.specs.Calendar.{year_of, month_of, day_of_month, last_day}
 use Rattle.hl_time.specs.Units.{unit_of}
 use Rattle.hl_time.specs.Split.{begins}
@@ -21,7 +22,7 @@ four_digits n = two_digits (n / 100) ++ two_digits (n % 100)
 
 -- `Y-MM-DD`
 unfoldable pub day_text : ℕ → List ℕ
-day_text day = four_digits (year_of day) ++ (45 ∷ two_digits (month_of day)) ++ (45 ∷ two_digits (day_of_month day))
+day_text day = four_digits (year_of day) ++ (minus ∷ two_digits (month_of day)) ++ (minus ∷ two_digits (day_of_month day))
 
 -- the days from one up to an end are exactly a unit
 unfoldable pub is_unit : declared.Unit → ℕ → ℕ → Bool
@@ -33,9 +34,9 @@ unfoldable pub days_text : ℕ → ℕ → List ℕ
 days_text from end =
     if is_unit units.Year from end then four_digits (year_of from)
     else if is_unit units.Quarter from end then four_digits (year_of from) ++ (81 ∷ (49 + (month_of from - 1) / 3) ∷ [])
-    else if is_unit units.Month from end then four_digits (year_of from) ++ (45 ∷ two_digits (month_of from))
+    else if is_unit units.Month from end then four_digits (year_of from) ++ (minus ∷ two_digits (month_of from))
     else if end == from + 1 then day_text from
-    else day_text from ++ (46 ∷ 46 ∷ []) ++ day_text (end - 1)
+    else day_text from ++ (dot ∷ dot ∷ []) ++ day_text (end - 1)
 
 -- the head of a column: in a span without days the first day stands for the last too, and 9999-12-31 for a first day
 -- past it

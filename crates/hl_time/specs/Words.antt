@@ -1,6 +1,7 @@
 -- The words of a period.
 use Rattle.std.specs.Prelude.{ℕ, zero, suc, ◌+◌, ◌-◌, ◌*◌, Bool, true, false, not, ◌&&◌, ◌||◌, ◌==◌, nat_le, if◌then◌else◌, Option, Some, None, Result, Ok, Err, List, [], ◌∷◌, length, map, drop, codes, slice_index, slice_range}
 use Rattle.std.specs.Char.{to_ascii_lowercase}
+use Rattle.hl_base.specs.Ascii.{carriage_return, dot, space, tab}
 use Rattle.hl_time.specs.Calendar.{day_end, has_year, has_month}
 use Rattle.hl_time.specs.Date.{is_separator, is_digit_at, digit_at, part_length, part_value, year_digits, year_value, date_of}
 use Rattle.hl_time.specs.Units.{unit_start}
@@ -142,7 +143,7 @@ word_of word =
 
 -- a space, a tab or a carriage return
 abbrev pub is_blank : ℕ → Bool
-is_blank byte = (byte == 32) || (byte == 9) || (byte == 13)
+is_blank byte = (byte == space) || (byte == tab) || (byte == carriage_return)
 
 -- how many blanks a text begins with
 unfoldable pub blanks : List ℕ → ℕ
@@ -152,11 +153,11 @@ blanks (byte ∷ rest) = if is_blank byte then suc (blanks rest) else 0
 -- how many bytes there are up to a blank, to `..` or to the end
 unfoldable pub run : List ℕ → ℕ
 run [] = 0
-run (byte ∷ rest) = if is_blank byte || ((byte == 46) && (slice_index rest 0 == 46)) then 0 else suc (run rest)
+run (byte ∷ rest) = if is_blank byte || ((byte == dot) && (slice_index rest 0 == dot)) then 0 else suc (run rest)
 
 -- `..` stands at a place
 abbrev pub is_dots_at : List ℕ → ℕ → Bool
-is_dots_at text at = (slice_index text at == 46) && (slice_index text (at + 1) == 46)
+is_dots_at text at = (slice_index text at == dot) && (slice_index text (at + 1) == dot)
 
 -- where the next word begins, and where a word ends that begins at a place: `..` is a word of its own
 unfoldable pub word_start : List ℕ → ℕ → ℕ
