@@ -1,6 +1,7 @@
 -- The line that says what is wrong with a text.
 use Rattle.std.specs.Prelude.{ℕ, List, [], ◌∷◌, ◌++◌, codes}
 use Rattle.std.specs.Fmt.{decimal}
+use Rattle.hl_base.specs.Ascii.{line_feed}
 use Rattle.book.specs.declared.amount.Amount.{Amount}
 use Rattle.book.specs.declared.fault.Fault.{Fault}
 use Rattle.book.specs.declared.fault.Cause.{Cause}
@@ -9,7 +10,7 @@ use Rattle.book.specs.Printed.{plain_amount}
 
 -- a line with its end
 abbrev pub ended : List ℕ → List ℕ
-ended line = line ++ (10 ∷ [])
+ended line = line ++ (line_feed ∷ [])
 
 -- what an assertion wants, and what is found
 abbrev pub assertion_text : Amount → Amount → List ℕ
