@@ -3,6 +3,7 @@ use Rattle.std.specs.Prelude.{ℕ, ◌+◌, ◌-◌, ◌^◌, min, Bool, true, f
 use Rattle.std.specs.List.{starts_with, list_any, list_all, flat_map, before_first, after_first}
 use Rattle.std.specs.Str.{bytes_eq}
 use Rattle.std.specs.Str.Parse.{digits_value}
+use Rattle.hl_base.specs.Ascii.{colon, digit_zero, equals, minus, plus}
 use Rattle.hl_num.specs.Decimal.{Decimal, negated}
 use Rattle.hl_num.specs.Reading.{is_digit, number_of}
 use Rattle.hl_num.specs.declared.reading.Number.{Number}
@@ -69,7 +70,7 @@ head_named name =
 
 -- the kind that a word names before its first colon
 unfoldable pub head_of : List ℕ → Head
-head_of text = if has_byte 58 text then head_named (before_byte 58 text) else heads.Bare
+head_of text = if has_byte colon text then head_named (before_byte colon text) else heads.Bare
 
 -- the text begins with this byte
 abbrev pub begins : List ℕ → ℕ → Bool
@@ -93,7 +94,7 @@ order_size orders.AtLeast = 2
 
 -- it begins with `+` or `-`
 abbrev pub has_sign : List ℕ → Bool
-has_sign text = begins text 43 || begins text 45
+has_sign text = begins text plus || begins text minus
 
 abbrev pub with_minus : Bool → Decimal → Decimal
 with_minus true number = negated number
@@ -107,7 +108,7 @@ abbrev pub test_with : Order → List ℕ → Number → AmountTest
 test_with order signed_text number = record {
   order = order;
   signed = has_sign signed_text || is_zero number.value;
-  number = with_minus (begins signed_text 45) number.value;
+  number = with_minus (begins signed_text minus) number.value;
 }
 
 abbrev pub signed_test : Order → List ℕ → Option AmountTest
@@ -134,7 +135,7 @@ HasDays _ = Unit {0}
 -- a number from 1 doesn't begin with a zero
 abbrev pub begins_number : List ℕ → Bool
 begins_number [] = false
-begins_number (b ∷ bs) = not (b == 48)
+begins_number (b ∷ bs) = not (b == digit_zero)
 
 -- digits without a leading zero; a greater depth than the greatest is that one
 abbrev pub depth_of : List ℕ → Option ℕ
@@ -168,7 +169,7 @@ are_letters text = not (bytes_eq text []) && list_all is_letter text
 
 -- the pattern of a value, where an `=` stands
 abbrev pub value_pattern : List ℕ → Option Pattern
-value_pattern text = if has_byte 61 text then Some (pattern_of (after_byte 61 text)) else None
+value_pattern text = if has_byte equals text then Some (pattern_of (after_byte equals text)) else None
 
 -- what a term that holds no text asks, of the text after its colon
 abbrev pub textless : Head → ℕ → List ℕ → Option Kind
@@ -188,14 +189,14 @@ kind_under heads.Payee day text = Some (kinds.Said fields.Payee (pattern_of text
 kind_under heads.Note day text = Some (kinds.Said fields.Note (pattern_of text))
 kind_under heads.Code day text = Some (kinds.Said fields.Code (pattern_of text))
 kind_under heads.Symbol day text = Some (kinds.Symbol (symbol_of text))
-kind_under heads.Tag day text = Some (kinds.Tag (pattern_of (before_byte 61 text)) (value_pattern text))
+kind_under heads.Tag day text = Some (kinds.Tag (pattern_of (before_byte equals text)) (value_pattern text))
 kind_under heads.Type day text = if are_letters text then Some (kinds.Type text) else None
 kind_under head day text = textless head day text
 
 -- the text that a head looks at: all of it where it names nothing
 abbrev pub text_under : Head → List ℕ → List ℕ
 text_under heads.Bare text = text
-text_under _ text = after_byte 58 text
+text_under _ text = after_byte colon text
 
 abbrev pub kind_of : ℕ → List ℕ → Option Kind
 kind_of day text = kind_under (head_of text) day (text_under (head_of text) text)

@@ -6,14 +6,8 @@ ghost use Rattle.hl_base.specs.Items as items;
 ghost use Rattle.query_terms.specs.Reading as spec;
 ghost use Rattle.query_terms.specs.Trimmed as trims;
 
-use hl_base::{Memory, Text};
+use hl_base::{Memory, Text, is_white};
 use std::alloc::Global;
-
-fn is_white(byte: u8) -> bool
-    ensures { result ≡ items.is_white byte }
-{
-    byte == b' ' || byte == b'\t' || byte == b'\r'
-}
 
 #[tactic(auto, using(crate::proofs::Texts::prefix_count, crate::proofs::Texts::prefix_bound))]
 fn white_length(text: &[u8]) -> usize

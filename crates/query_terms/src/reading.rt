@@ -15,7 +15,7 @@ use crate::cutting::{after, before, bytes_of, has, text_of};
 use crate::kinds::{AmountTest, Field, Kind, Order, Pattern, Term};
 use crate::patterns::{read_pattern, read_symbol};
 use book::Mark;
-use hl_base::{Memory, Text};
+use hl_base::{Memory, Text, are_digits};
 use hl_num::{Dec, Number, read_number};
 use hl_time::{Day, Period, read_period};
 use std::alloc::Global;
@@ -252,19 +252,6 @@ fn plain_period(text: &[u8], day: Day) -> Option<Period>
         },
         Err(_) => None,
     }
-}
-
-fn is_digit(byte: u8) -> bool
-    ensures { result ≡ is_digit byte }
-{
-    byte.is_ascii_digit()
-}
-
-/// Whether all bytes are digits.
-fn are_digits(text: &[u8]) -> bool
-    ensures { result ≡ list_all is_digit text.now }
-{
-    text.iter().all(|byte| is_digit(*byte))
 }
 
 /// The number of some digits, or the greatest that is told.
