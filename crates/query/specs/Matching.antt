@@ -4,6 +4,7 @@ use Rattle.std.specs.List.{list_any, list_all, filter}
 use Rattle.std.specs.Ordering.{int_cmp}
 use Rattle.std.specs.declared.cmp.Ordering.{Ordering}
 use Rattle.std.specs.declared.cmp.Ordering.TheVariants as orderings
+use Rattle.hl_base.specs.Ascii.{pipe}
 use Rattle.hl_num.specs.Decimal.{Decimal, units_of}
 use Rattle.hl_time.specs.declared.spans.Period.{Period}
 use Rattle.book.specs.declared.amount.Amount.{Amount}
@@ -37,12 +38,12 @@ Own = List ℕ → Option ℕ
 -- the part of a description before its first `|`, trimmed; without `|` all of it as it stands
 abbrev pub payee_of : List ℕ → List ℕ
 payee_of description =
-    if has_byte 124 description then trimmed (before_byte 124 description) else description
+    if has_byte pipe description then trimmed (before_byte pipe description) else description
 
 -- the part after its first `|`, trimmed; without `|` all of it as it stands
 abbrev pub note_of : List ℕ → List ℕ
 note_of description =
-    if has_byte 124 description then trimmed (after_byte 124 description) else description
+    if has_byte pipe description then trimmed (after_byte pipe description) else description
 
 abbrev pub said : Field → Txn → List ℕ
 said fields.Description txn = txn.description

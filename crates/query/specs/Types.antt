@@ -3,6 +3,7 @@ use Rattle.std.specs.Prelude.{ℕ, zero, suc, Bool, ◌&&◌, ◌||◌, ◌==◌
 use Rattle.std.specs.List.{flat_map, position_or_len}
 use Rattle.std.specs.Option.{option_or}
 use Rattle.std.specs.Str.{bytes_eq}
+use Rattle.hl_base.specs.Ascii.{colon}
 use Rattle.book.specs.declared.directive.Directive.{Directive}
 use Rattle.book.specs.declared.directive.Directive.TheVariants as directives
 use Rattle.book.specs.declared.item.Item.{Item}
@@ -45,7 +46,7 @@ own_letter declared name = noted declared None name
 abbrev pub parents_below : List ℕ → ℕ → List (List ℕ)
 parents_below account zero = []
 parents_below account (suc k) =
-    if slice_index account k == 58 then take k account ∷ parents_below account k else parents_below account k
+    if slice_index account k == colon then take k account ∷ parents_below account k else parents_below account k
 
 -- the parents of an account, the nearest first
 abbrev pub parents_of : List ℕ → List (List ℕ)
@@ -58,7 +59,7 @@ nearest own (name ∷ names) = option_or (own name) (nearest own names)
 
 -- the letter of the parent that ends at a place, if one does
 abbrev pub parent_letter : (List ℕ → Option ℕ) → List ℕ → ℕ → Option ℕ
-parent_letter own account k = if slice_index account k == 58 then own (take k account) else None
+parent_letter own account k = if slice_index account k == colon then own (take k account) else None
 
 -- the name is that word, case ignored
 abbrev pub is_named : List ℕ → List ℕ → Bool
@@ -108,13 +109,13 @@ first_letter part =
 -- its first part is equity, and its second one says conversions
 unfoldable pub is_for_conversions : List ℕ → Bool
 is_for_conversions account =
-    has_byte 58 account
-    && (is_equity (before_byte 58 account) && is_conversion (before_byte 58 (after_byte 58 account)))
+    has_byte colon account
+    && (is_equity (before_byte colon account) && is_conversion (before_byte colon (after_byte colon account)))
 
 -- the letter that a name says by its parts
 unfoldable pub letter_by_name : List ℕ → Option ℕ
 letter_by_name account =
-    if is_for_conversions account then Some 86 else first_letter (before_byte 58 account)
+    if is_for_conversions account then Some 86 else first_letter (before_byte colon account)
 
 -- an account's letter: its own, else that of its nearest parent with one, else what its name says
 unfoldable pub letter_of : (List ℕ → Option ℕ) → List ℕ → Option ℕ
