@@ -10,7 +10,7 @@ ghost use Rattle.report_options.specs.Values as spec;
 use crate::names::Name;
 use crate::options::{Valuation, When};
 use crate::texts::is_same;
-use hl_base::{Memory, Text};
+use hl_base::{Memory, Text, are_digits};
 use hl_time::{Day, Interval, Period, Unit, read_date, read_period};
 use std::alloc::Global;
 
@@ -88,18 +88,6 @@ fn period_behind(alloc: Global, link: &str, text: &str, day: Day) -> Result<Opti
     let mut whole = String::from_str(alloc, link)?;
     whole.push_str(text)?;
     Ok(period_of(whole.as_bytes(), day))
-}
-
-fn is_digit(byte: u8) -> bool
-    ensures { result ≡ is_digit byte }
-{
-    byte.is_ascii_digit()
-}
-
-fn are_digits(text: &[u8]) -> bool
-    ensures { result ≡ list_all is_digit text.now }
-{
-    text.iter().all(|byte| is_digit(*byte))
 }
 
 /// The number of some digits, or the greatest that is told.
