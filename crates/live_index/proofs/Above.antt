@@ -11,8 +11,9 @@ use Rattle.hl_base.specs.Ascii.{colon}
 use Rattle.live_index.specs.declared.row.Row.{Row}
 use Rattle.std.specs.Int.{int_wrap, w128}
 use Rattle.std.proofs.lemmas.Int.{int_wrap-add_same}
-use Rattle.live_index.specs.Runs.{Alike, raise}
-use Rattle.live_index.specs.Cells.{Key, key_cmp, is_key, counts_for, is_above, is_part, Cell, told, AreCells, HasAdded}
+use Rattle.live_index.specs.declared.runs.Run.{Run}
+use Rattle.live_index.specs.Runs.{Alike, before, raise}
+use Rattle.live_index.specs.Cells.{Key, key_cmp, is_key, counts_for, is_above, Cell, runs_in, told, AreCells, HasAdded}
 use Rattle.live_index.proofs.CellLaws.{key_total, key_same}
 
 -- ---- tests
@@ -22,11 +23,11 @@ same-bool true b f g = sym (f refl)
 same-bool false true f g = g refl
 same-bool false false f g = refl
 
-and-left : (a b : Bool) → (a && b) ≡ true → a ≡ true
+pub and-left : (a b : Bool) → (a && b) ≡ true → a ≡ true
 and-left true b h = refl
 and-left false b h = h
 
-and-right : (a b : Bool) → (a && b) ≡ true → b ≡ true
+pub and-right : (a b : Bool) → (a && b) ≡ true → b ≡ true
 and-right true b h = h
 and-right false b h = absurd (false≢true h)
 
@@ -37,10 +38,10 @@ not-true : (a : Bool) → (a ≡ true → ⊥) → a ≡ false
 not-true true h = absurd (h refl)
 not-true false h = refl
 
-eq-of : (n k : ℕ) → (n == k) ≡ true → n ≡ k
+pub eq-of : (n k : ℕ) → (n == k) ≡ true → n ≡ k
 eq-of n k h = grind (arith, nat_tests)
 
-eq-true : (n k : ℕ) → n ≡ k → (n == k) ≡ true
+pub eq-true : (n k : ℕ) → n ≡ k → (n == k) ≡ true
 eq-true n k h = grind (arith, nat_tests)
 
 -- ---- names
@@ -181,51 +182,51 @@ counts-parts row key = spread (bytes_eq row.symbol key.symbol) (bytes_eq row.acc
     spread true a g = refl
     spread false a g = refl
 
--- ---- rows that were added to keys in turn
+-- ---- sums that were added to keys in turn
 
-raise-both : (t s u p : Bool) (amount sum : ℤ) → (t && s) ≡ false → u ≡ (t || s) → raise (s && p) amount (raise (t && p) amount sum) ≡ raise (u && p) amount sum
-raise-both true true u p amount sum h e = absurd (false≢true (sym h))
-raise-both true false u p amount sum h e = ap (λ (b : Bool). raise (b && p) amount sum) (sym e)
-raise-both false s u p amount sum h e = ap (λ (b : Bool). raise (b && p) amount sum) (sym e)
+raise-both : (t s u : Bool) (amount sum : ℤ) → (t && s) ≡ false → u ≡ (t || s) → raise s amount (raise t amount sum) ≡ raise u amount sum
+raise-both true true u amount sum h e = absurd (false≢true (sym h))
+raise-both true false u amount sum h e = ap (λ (b : Bool). raise b amount sum) (sym e)
+raise-both false s u amount sum h e = ap (λ (b : Bool). raise b amount sum) (sym e)
 
 raise-alike : (b : Bool) (amount x y : ℤ) → Alike x y → Alike (raise b amount x) (raise b amount y)
 raise-alike true amount x y h = int_wrap-add_same w128 x y amount h
 raise-alike false amount x y h = h
 
-pub added-both : (t s u : Key → Bool) (row : Row) (old mid new : List Cell) → ((key : Key) → (t key && s key) ≡ false) → ((key : Key) → u key ≡ (t key || s key)) → HasAdded t row old mid → HasAdded s row mid new → HasAdded u row old new
-added-both t s u row old mid new apart is first second = record {
+pub added-both : (t s u : Key → Bool) (sums : List (List Run)) (old mid new : List Cell) → ((key : Key) → (t key && s key) ≡ false) → ((key : Key) → u key ≡ (t key || s key)) → HasAdded t sums old mid → HasAdded s sums mid new → HasAdded u sums old new
+added-both t s u sums old mid new apart is first second = record {
   cells = second.cells;
   gained = λ key places end.
       second.gained key places end
-      ∙ raise-alike (s key && is_part row places end) row.value.mantissa (told key mid places end) (raise (t key && is_part row places end) row.value.mantissa (told key old places end)) (first.gained key places end)
-      ∙ ap (int_wrap w128) (raise-both (t key) (s key) (u key) (is_part row places end) row.value.mantissa (told key old places end) (apart key) (is key));
+      ∙ raise-alike (s key) (before (runs_in sums places) end) (told key mid places end) (raise (t key) (before (runs_in sums places) end) (told key old places end)) (first.gained key places end)
+      ∙ ap (int_wrap w128) (raise-both (t key) (s key) (u key) (before (runs_in sums places) end) (told key old places end) (apart key) (is key));
 }
 
-pub added-along : (t u : Key → Bool) (row : Row) (old new : List Cell) → ((key : Key) → u key ≡ t key) → HasAdded t row old new → HasAdded u row old new
-added-along t u row old new is h = record {
+pub added-along : (t u : Key → Bool) (sums : List (List Run)) (old new : List Cell) → ((key : Key) → u key ≡ t key) → HasAdded t sums old new → HasAdded u sums old new
+added-along t u sums old new is h = record {
   cells = h.cells;
-  gained = λ key places end. h.gained key places end ∙ ap (λ (b : Bool). int_wrap w128 (raise (b && is_part row places end) row.value.mantissa (told key old places end))) (sym (is key));
+  gained = λ key places end. h.gained key places end ∙ ap (λ (b : Bool). int_wrap w128 (raise b (before (runs_in sums places) end) (told key old places end))) (sym (is key));
 }
 
-pub added-none : (t : Key → Bool) (row : Row) (cells : List Cell) → ((key : Key) → t key ≡ false) → AreCells cells → HasAdded t row cells cells
-added-none t row cells none cells_are = record {
+pub added-none : (t : Key → Bool) (sums : List (List Run)) (cells : List Cell) → ((key : Key) → t key ≡ false) → AreCells cells → HasAdded t sums cells cells
+added-none t sums cells none cells_are = record {
   cells = cells_are;
-  gained = λ key places end. sym (ap (λ (b : Bool). int_wrap w128 (raise (b && is_part row places end) row.value.mantissa (told key cells places end))) (none key));
+  gained = λ key places end. sym (ap (λ (b : Bool). int_wrap w128 (raise b (before (runs_in sums places) end) (told key cells places end))) (none key));
 }
 
--- a row was added to its own keys and to those above
-pub added-all : (row : Row) (old one two new : List Cell) → HasAdded (is_key (record { account = row.account; symbol = row.symbol; below = false })) row old one → HasAdded (is_key (record { account = row.account; symbol = row.symbol; below = true })) row one two → HasAdded (is_above row.account row.symbol) row two new → HasAdded (λ key. counts_for key row) row old new
-added-all row old one two new first second above =
-    added-both (λ key. bytes_eq row.symbol key.symbol && bytes_eq row.account key.account) (is_above row.account row.symbol) (λ key. counts_for key row) row old two new (above-apart row) (counts-parts row)
-    (added-both (is_key (record { account = row.account; symbol = row.symbol; below = false })) (is_key (record { account = row.account; symbol = row.symbol; below = true })) (λ key. bytes_eq row.symbol key.symbol && bytes_eq row.account key.account) row old one two (own-apart row) (λ key. sym (own-keys row key)) first second)
+-- sums were added to the keys of a row and to those above
+pub added-all : (row : Row) (sums : List (List Run)) (old one two new : List Cell) → HasAdded (is_key (record { account = row.account; symbol = row.symbol; below = false })) sums old one → HasAdded (is_key (record { account = row.account; symbol = row.symbol; below = true })) sums one two → HasAdded (is_above row.account row.symbol) sums two new → HasAdded (λ key. counts_for key row) sums old new
+added-all row sums old one two new first second above =
+    added-both (λ key. bytes_eq row.symbol key.symbol && bytes_eq row.account key.account) (is_above row.account row.symbol) (λ key. counts_for key row) sums old two new (above-apart row) (counts-parts row)
+    (added-both (is_key (record { account = row.account; symbol = row.symbol; below = false })) (is_key (record { account = row.account; symbol = row.symbol; below = true })) (λ key. bytes_eq row.symbol key.symbol && bytes_eq row.account key.account) sums old one two (own-apart row) (λ key. sym (own-keys row key)) first second)
     above
 
 -- one name more of those above
-pub added-more : (account symbol : List ℕ) (row : Row) (i : ℕ) (old mid new : List Cell) → i < length account → get_or account i 0 ≡ 58 → HasAdded (λ key. is_above account symbol key && nat_lt (length key.account) i) row old mid → HasAdded (is_key (record { account = take i account; symbol = symbol; below = true })) row mid new → HasAdded (λ key. is_above account symbol key && nat_lt (length key.account) (i + 1)) row old new
-added-more account symbol row i old mid new lt h first second =
-    added-both (λ key. is_above account symbol key && nat_lt (length key.account) i) (λ key. is_above account symbol key && (length key.account == i)) (λ key. is_above account symbol key && nat_lt (length key.account) (i + 1)) row old mid new
+pub added-more : (account symbol : List ℕ) (sums : List (List Run)) (i : ℕ) (old mid new : List Cell) → i < length account → get_or account i 0 ≡ 58 → HasAdded (λ key. is_above account symbol key && nat_lt (length key.account) i) sums old mid → HasAdded (is_key (record { account = take i account; symbol = symbol; below = true })) sums mid new → HasAdded (λ key. is_above account symbol key && nat_lt (length key.account) (i + 1)) sums old new
+added-more account symbol sums i old mid new lt h first second =
+    added-both (λ key. is_above account symbol key && nat_lt (length key.account) i) (λ key. is_above account symbol key && (length key.account == i)) (λ key. is_above account symbol key && nat_lt (length key.account) (i + 1)) sums old mid new
     (λ key. apart (is_above account symbol key) (length key.account)) (λ key. joined (is_above account symbol key) (length key.account)) first
-    (added-along (is_key (record { account = take i account; symbol = symbol; below = true })) (λ key. is_above account symbol key && (length key.account == i)) row mid new (λ key. sym (front-key account symbol i key lt h)) second)
+    (added-along (is_key (record { account = take i account; symbol = symbol; below = true })) (λ key. is_above account symbol key && (length key.account == i)) sums mid new (λ key. sym (front-key account symbol i key lt h)) second)
   where
     apart : (a : Bool) (n : ℕ) → ((a && nat_lt n i) && (a && (n == i))) ≡ false
     apart true n = grind (arith, nat_tests)
@@ -236,24 +237,24 @@ added-more account symbol row i old mid new lt h first second =
     joined false n = refl
 
 -- a byte that is no colon
-pub added-same : (account symbol : List ℕ) (row : Row) (i : ℕ) (old new : List Cell) → (get_or account i 0 ≡ 58 → ⊥) → HasAdded (λ key. is_above account symbol key && nat_lt (length key.account) i) row old new → HasAdded (λ key. is_above account symbol key && nat_lt (length key.account) (i + 1)) row old new
-added-same account symbol row i old new h first =
-    added-along (λ key. is_above account symbol key && nat_lt (length key.account) i) (λ key. is_above account symbol key && nat_lt (length key.account) (i + 1)) row old new (λ key. same (is_above account symbol key) (length key.account) (no-front-key account symbol i key h)) first
+pub added-same : (account symbol : List ℕ) (sums : List (List Run)) (i : ℕ) (old new : List Cell) → (get_or account i 0 ≡ 58 → ⊥) → HasAdded (λ key. is_above account symbol key && nat_lt (length key.account) i) sums old new → HasAdded (λ key. is_above account symbol key && nat_lt (length key.account) (i + 1)) sums old new
+added-same account symbol sums i old new h first =
+    added-along (λ key. is_above account symbol key && nat_lt (length key.account) i) (λ key. is_above account symbol key && nat_lt (length key.account) (i + 1)) sums old new (λ key. same (is_above account symbol key) (length key.account) (no-front-key account symbol i key h)) first
   where
     same : (a : Bool) (n : ℕ) → (a && (n == i)) ≡ false → (a && nat_lt n (i + 1)) ≡ (a && nat_lt n i)
     same true n e = grind (arith, nat_tests)
     same false n e = refl
 
 -- no name is shorter than none
-pub added-start : (account symbol : List ℕ) (row : Row) (cells : List Cell) → AreCells cells → HasAdded (λ key. is_above account symbol key && nat_lt (length key.account) 0) row cells cells
-added-start account symbol row cells cells_are =
-    added-none (λ key. is_above account symbol key && nat_lt (length key.account) 0) row cells (λ key. none (is_above account symbol key) (length key.account)) cells_are
+pub added-start : (account symbol : List ℕ) (sums : List (List Run)) (cells : List Cell) → AreCells cells → HasAdded (λ key. is_above account symbol key && nat_lt (length key.account) 0) sums cells cells
+added-start account symbol sums cells cells_are =
+    added-none (λ key. is_above account symbol key && nat_lt (length key.account) 0) sums cells (λ key. none (is_above account symbol key) (length key.account)) cells_are
   where
     none : (a : Bool) (n : ℕ) → (a && nat_lt n 0) ≡ false
     none true n = grind (arith, nat_tests)
     none false n = refl
 
 -- all names
-pub added-end : (account symbol : List ℕ) (row : Row) (i : ℕ) (old new : List Cell) → i ≡ length account → HasAdded (λ key. is_above account symbol key && nat_lt (length key.account) i) row old new → HasAdded (is_above account symbol) row old new
-added-end account symbol row i old new e first =
-    added-along (λ key. is_above account symbol key && nat_lt (length key.account) i) (is_above account symbol) row old new (λ key. sym (all-shorter account symbol key) ∙ ap (λ (n : ℕ). is_above account symbol key && nat_lt (length key.account) n) (sym e)) first
+pub added-end : (account symbol : List ℕ) (sums : List (List Run)) (i : ℕ) (old new : List Cell) → i ≡ length account → HasAdded (λ key. is_above account symbol key && nat_lt (length key.account) i) sums old new → HasAdded (is_above account symbol) sums old new
+added-end account symbol sums i old new e first =
+    added-along (λ key. is_above account symbol key && nat_lt (length key.account) i) (is_above account symbol) sums old new (λ key. sym (all-shorter account symbol key) ∙ ap (λ (n : ℕ). is_above account symbol key && nat_lt (length key.account) n) (sym e)) first

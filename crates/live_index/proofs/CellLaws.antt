@@ -11,10 +11,9 @@ use Rattle.std.specs.FinMap.Entries.{find, find-append, below_all}
 use Rattle.std.specs.List.{AllByRecursion}
 use Rattle.std.specs.Int.{int_wrap, w128}
 use Rattle.book.proofs.Places.{first, second, less}
-use Rattle.live_index.specs.declared.row.Row.{Row}
 use Rattle.live_index.specs.declared.runs.Run.{Run}
 use Rattle.live_index.specs.Runs.{Alike, before, raise}
-use Rattle.live_index.specs.Cells.{Key, key_cmp, is_key, Cell, IsOrdered, runs_in, told, is_part, HasDays, NoneEmpty, AreCells, AreSummed, AreOfRow, AreJoined, HasAdded, HasPushed, HasPushedSum, lesser_of}
+use Rattle.live_index.specs.Cells.{Key, key_cmp, is_key, Cell, IsOrdered, runs_in, told, HasDays, NoneEmpty, AreCells, AreSummed, AreJoined, HasAdded, HasPushed, HasPushedSum, lesser_of}
 
 -- ---- the order of keys
 
@@ -330,24 +329,20 @@ join-end one two done j = record {
   sums = λ key places end. ap (int_wrap w128) (plus-none (told key done places end)) ∙ j.sums key places end;
 }
 
--- ---- a row
+-- ---- further sums
 
--- a row's sums under a key, beside cells
-pub joined-row : (key : Key) (row : Row) (old one new : List Cell) (cell : Cell) → cell.0 ≡ key → AreOfRow row cell.1 → HasPushed cell [] one → AreJoined old one new → HasAdded (is_key key) row old new
-joined-row key row old one new cell e of_row pushed joined = record {
+-- sums under a key, beside cells
+pub joined-sums : (key : Key) (sums : List (List Run)) (old one new : List Cell) (cell : Cell) → cell.0 ≡ key → cell.1 ≡ sums → HasPushed cell [] one → AreJoined old one new → HasAdded (is_key key) sums old new
+joined-sums key sums old one new cell e are pushed joined = record {
   cells = joined.cells;
   gained = λ k places end.
       joined.sums k places end
-      ∙ ap (λ (z : ℤ). int_wrap w128 (told k old places end +ℤ z)) (pushed-tells k [] one cell places end tt pushed ∙ sym (none-plus (told k (cell ∷ []) places end)) ∙ (λ i. tells (cond (is_key (e i) k) (Some cell.1) None) places end))
-      ∙ ap (int_wrap w128) (elim (is_key key k) as (λ b. told k old places end +ℤ tells (cond b (Some cell.1) None) places end ≡ raise (b && is_part row places end) row.value.mantissa (told k old places end)) [
-        | true ↦ ap (λ (z : ℤ). told k old places end +ℤ z) (of_row places end) ∙ raised (is_part row places end) row.value.mantissa (told k old places end)
+      ∙ ap (λ (z : ℤ). int_wrap w128 (told k old places end +ℤ z)) (pushed-tells k [] one cell places end tt pushed ∙ sym (none-plus (told k (cell ∷ []) places end)) ∙ (λ i. tells (cond (is_key (e i) k) (Some (are i)) None) places end))
+      ∙ ap (int_wrap w128) (elim (is_key key k) as (λ b. told k old places end +ℤ tells (cond b (Some sums) None) places end ≡ raise b (before (runs_in sums places) end) (told k old places end)) [
+        | true ↦ refl
         | false ↦ sym (plus-none (told k old places end))
       ]);
 }
-  where
-    raised : (b : Bool) (amount sum : ℤ) → sum +ℤ raise b amount (pos 0) ≡ raise b amount sum
-    raised true amount sum = ap (λ (z : ℤ). sum +ℤ z) (sym (none-plus amount))
-    raised false amount sum = sym (plus-none sum)
 
 pub pushed-one : (one : List Cell) (cell : Cell) → HasPushed cell [] one → AreCells one
 pushed-one one cell p = pushed-cells [] one cell (record { ordered = tt; full = tt }) tt p

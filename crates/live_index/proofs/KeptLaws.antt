@@ -1,5 +1,5 @@
 -- What the cells tell of a node, exactly.
-use Rattle.std.proofs.Common.{◌≡◌, ℕ, ℤ, pos, ◌+◌, ◌-◌, ◌*◌, ◌/◌, ◌^◌, ◌<◌, ◌≤◌, ◌+ℤ◌, ◌-ℤ◌, ◌*ℤ◌, ◌==◌, nat_lt, max, unsigned_abs, Bool, true, false, cond, ◌&&◌, ◌||◌, List, [], ◌∷◌, ◌++◌, filter, take, drop, zero-mul, inl, inr, rules, neg_ℤ, refl, sym, ap, subst, ◌∙◌, arith}
+use Rattle.std.proofs.Common.{◌≡◌, ℕ, ℤ, pos, ◌+◌, ◌-◌, ◌*◌, ◌/◌, ◌^◌, ◌<◌, ◌≤◌, ◌+ℤ◌, ◌-ℤ◌, ◌*ℤ◌, ◌==◌, nat_lt, max, unsigned_abs, Bool, true, false, cond, ◌&&◌, ◌||◌, List, [], ◌∷◌, ◌++◌, filter, zero-mul, inl, inr, rules, neg_ℤ, refl, sym, ap, subst, ◌∙◌, arith}
 use Rattle.std.specs.Str.{bytes_eq}
 use Rattle.std.specs.List.{AllByRecursion}
 use Rattle.std.specs.Int.{int_wrap, w128}
@@ -8,15 +8,14 @@ use Rattle.std.proofs.lemmas.Int.{ints, int_wrap-add_same, int_wrap-sub_right, i
 use Rattle.std.proofs.lemmas.Bool.{false≢true}
 use Rattle.std.proofs.lemmas.Bool.Decides.{nat_tests}
 use Rattle.std.proofs.lemmas.Nat.{pow_pos}
-use Rattle.std.proofs.lemmas.List.{take-append-drop}
 use Rattle.book.specs.SumsBefore.{is_of}
 use Rattle.hl_num.specs.Decimal.{Decimal, IsInBounds, units_of, add_fits}
 use Rattle.hl_num.proofs.DecimalLemmas.{mul-add}
 use Rattle.std.proofs.lemmas.Bool.{cases_lt}
 use Rattle.live_index.specs.declared.row.Row.{Row}
 use Rattle.live_index.specs.Rows.{counts, sum_by, total, node_sum, places_of, turnover, TurnoverFits}
-use Rattle.live_index.specs.Runs.{Alike, before, raise}
-use Rattle.live_index.specs.Cells.{Key, Cell, counts_for, is_part, sums_of, runs_in, told, HasAdded, AreJoined}
+use Rattle.live_index.specs.Runs.{Alike, before}
+use Rattle.live_index.specs.Cells.{Key, Cell, counts_for, is_part, sums_of, runs_in, told, AreJoined}
 use Rattle.live_index.specs.Kept.{mantissas_before, AreSums}
 use Rattle.live_index.specs.Puts.{rows_put}
 use Rattle.live_index.specs.Standing.{standing}
@@ -53,18 +52,6 @@ sums-none = record {
   few = tt;
 }
 
-one-amount : (x : Bool) (row : Row) → raise x row.value.mantissa (pos 0) ≡ sum_by (λ (r : Row). r.value.mantissa) (cond x (row ∷ []) [])
-one-amount true row = omega (arith, ints)
-one-amount false row = refl
-
--- one row
-pub sums-one : (row : Row) (cells : List Cell) → HasAdded (λ key. counts_for key row) row [] cells → row.value.places ≤ 36 → AreSums (row ∷ []) cells
-sums-one row cells added few = record {
-  cells = added.cells;
-  sums = λ key places end. added.gained key places end ∙ ap (int_wrap w128) (one-amount (counts_for key row && is_part row places end) row);
-  few = (few, tt);
-}
-
 -- the sums of two lists of rows
 pub sums-both : (rows more : List Row) (first second both : List Cell) → AreSums rows first → AreSums more second → AreJoined first second both → AreSums (rows ++ more) both
 sums-both rows more first second both h k joined = record {
@@ -81,11 +68,6 @@ sums-both rows more first second both h k joined = record {
   where
     turn : (a b : ℤ) → a +ℤ b ≡ b +ℤ a
     turn a b = omega (arith, ints)
-
--- the sums of both halves of a list of rows
-pub sums-of-halves : (rows front back : List Row) (i : ℕ) (first second both : List Cell) → front ≡ take i rows → back ≡ drop i rows → AreSums front first → AreSums back second → AreJoined first second both → AreSums rows both
-sums-of-halves rows front back i first second both e g h k joined =
-    subst (λ (t : List Row). AreSums t both) ((λ j. e j ++ g j) ∙ take-append-drop i rows) (sums-both front back first second both h k joined)
 
 -- ---- the rows of a node
 

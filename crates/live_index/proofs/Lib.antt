@@ -9,6 +9,7 @@ pub mod InRange
 pub mod KeptLaws
 pub mod NetLaws
 pub mod RunLaws
+pub mod SeriesLaws
 pub mod SmallRows
 pub mod StandingLaws
 pub mod SumLaws

@@ -1,14 +1,12 @@
 -- Lists of sums by number of decimals, where one is put last or taken away.
-use Rattle.std.proofs.Common.{◌≡◌, ℕ, zero, suc, ◌+◌, ◌-◌, ◌<◌, ◌≤◌, ◌+ℤ◌, pos, nat_lt, ◌==◌, true, false, ◌&&◌, List, [], ◌∷◌, ◌++◌, length, take, inl, inr, refl, sym, ap, ◌∙◌, lit<, arith}
+use Rattle.std.proofs.Common.{◌≡◌, ℕ, zero, suc, ◌+◌, ◌-◌, ◌<◌, ◌≤◌, ◌+ℤ◌, pos, ◌==◌, cond, true, false, List, [], ◌∷◌, ◌++◌, length, take, inl, inr, refl, sym, ap, ◌∙◌, lit<, arith}
 use Rattle.std.proofs.lemmas.Bool.{cases_lt}
 use Rattle.std.proofs.lemmas.Bool.Decides.{nat_tests}
 use Rattle.std.proofs.lemmas.Int.{int_wrap_fits}
 use Rattle.std.specs.Int.{int_wrap, w128}
-use Rattle.live_index.specs.declared.row.Row.{Row}
 use Rattle.live_index.specs.declared.runs.Run.{Run}
-use Rattle.live_index.specs.Runs.{before, one_run, raise, AreTogether}
-use Rattle.live_index.specs.Cells.{runs_in, AreSummed, AreOfRow}
-use Rattle.live_index.proofs.TogetherLaws.{one-tells}
+use Rattle.live_index.specs.Runs.{before, AreTogether}
+use Rattle.live_index.specs.Cells.{runs_in, AreSummed}
 
 pub in-last : (sums : List (List Run)) (runs : List Run) → runs_in (sums ++ runs ∷ []) (length sums) ≡ runs
 in-last [] runs = refl
@@ -107,7 +105,7 @@ summed-all one two sums new n long le within h same places end =
           ∙ (λ i. int_wrap w128 (before (sym (in-none one places (omega (arith, le, ge))) i) end +ℤ before (sym (in-none two places (omega (arith, within, ge))) i) end))
     ]
 
--- ---- the sums of one row
+-- ---- sums put last
 
 same-places : (a b : ℕ) → (a == b) ≡ true → a ≡ b
 same-places a b e = grind (arith, nat_tests)
@@ -115,22 +113,16 @@ same-places a b e = grind (arith, nat_tests)
 other-places : (a b : ℕ) → (a == b) ≡ false → a ≡ b → ⊥
 other-places a b e h = grind (arith, nat_tests)
 
-pub row-sums : (row : Row) (none new : List (List Run)) → length none ≡ row.value.places → AllNone none → ((places : ℕ) → runs_in new places ≡ runs_in (none ++ one_run row.day row.value.mantissa ∷ []) places) → AreOfRow row new
-row-sums row none new long empty same places end =
-    ap (λ (t : List Run). before t end) (same places)
-    ∙ elim (row.value.places == places) as (λ b. (row.value.places == places) ≡ b → before (runs_in (none ++ one_run row.day row.value.mantissa ∷ []) places) end ≡ raise (b && nat_lt row.day.0 end) row.value.mantissa (pos 0)) [
-      | true ↦ λ e.
-          let at : length none ≡ places = long ∙ same-places row.value.places places e in
-          ap (λ (t : List Run). before t end) (ap (runs_in (none ++ one_run row.day row.value.mantissa ∷ [])) (sym at) ∙ in-last none (one_run row.day row.value.mantissa))
-          ∙ one-tells row.day row.value.mantissa end
-      | false ↦ λ e. ap (λ (t : List Run). before t end) (elsewhere places (λ h. other-places row.value.places places e (sym long ∙ h)))
-    ] refl
-  where
-    elsewhere-in : (sums : List (List Run)) (runs : List Run) (places : ℕ) → (length sums ≡ places → ⊥) → runs_in (sums ++ runs ∷ []) places ≡ runs_in sums places
-    elsewhere-in [] runs zero apart = absurd (apart refl)
-    elsewhere-in [] runs (suc places) apart = refl
-    elsewhere-in (other ∷ sums) runs zero apart = refl
-    elsewhere-in (other ∷ sums) runs (suc places) apart = elsewhere-in sums runs places (λ h. apart (ap suc h))
+elsewhere : (sums : List (List Run)) (runs : List Run) (places : ℕ) → (length sums ≡ places → ⊥) → runs_in (sums ++ runs ∷ []) places ≡ runs_in sums places
+elsewhere [] runs zero apart = absurd (apart refl)
+elsewhere [] runs (suc places) apart = refl
+elsewhere (other ∷ sums) runs zero apart = refl
+elsewhere (other ∷ sums) runs (suc places) apart = elsewhere sums runs places (λ h. apart (ap suc h))
 
-    elsewhere : (places : ℕ) → (length none ≡ places → ⊥) → runs_in (none ++ one_run row.day row.value.mantissa ∷ []) places ≡ []
-    elsewhere places apart = elsewhere-in none (one_run row.day row.value.mantissa) places apart ∙ empty places
+-- after empty lists
+pub last-at : (none : List (List Run)) (runs : List Run) (p places : ℕ) → length none ≡ p → AllNone none → runs_in (none ++ runs ∷ []) places ≡ cond (p == places) runs []
+last-at none runs p places long empty =
+    elim (p == places) as (λ b. (p == places) ≡ b → runs_in (none ++ runs ∷ []) places ≡ cond b runs []) [
+      | true ↦ λ e. ap (runs_in (none ++ runs ∷ [])) (sym (long ∙ same-places p places e)) ∙ in-last none runs
+      | false ↦ λ e. elsewhere none runs places (λ h. other-places p places e (sym long ∙ h)) ∙ empty places
+    ] refl

@@ -2,7 +2,7 @@
 use Rattle.std.proofs.Common.{◌≡◌, ℕ, ℤ, zero, suc, ◌+◌, ◌<◌, ◌≤◌, ◌+ℤ◌, pos, nat_lt, Bool, true, false, cond, List, [], ◌∷◌, ◌++◌, length, get_or, drop, refl, sym, ap, subst, ◌∙◌, inl, inr, append_assoc, lit<, arith}
 use Rattle.std.proofs.lemmas.List.{drop_more}
 use Rattle.std.proofs.lemmas.Bool.{cases_lt}
-use Rattle.std.proofs.lemmas.Int.{ints, int_wrap_fits}
+use Rattle.std.proofs.lemmas.Int.{int_wrap_fits}
 use Rattle.std.proofs.lemmas.Cmp.{ranked}
 use Rattle.std.specs.declared.cmp.Ordering.{Ordering}
 use Rattle.std.specs.declared.cmp.Ordering.TheVariants.{Less, Equal, Greater}
@@ -11,7 +11,7 @@ use Rattle.std.specs.FinMap.Entries.{by_order}
 use Rattle.std.specs.Int.{int_wrap, w128}
 use Rattle.hl_time.specs.declared.day.Day.{Day}
 use Rattle.live_index.specs.declared.runs.Run.{Run}
-use Rattle.live_index.specs.Runs.{IsRising, sum_from, sum_at, changed, EachChanges, AreRuns, AreTogether, earlier_of, before, one_run, raise}
+use Rattle.live_index.specs.Runs.{IsRising, sum_from, sum_at, changed, EachChanges, AreRuns, AreTogether, earlier_of, before}
 use Rattle.live_index.proofs.RunLaws.{lt-false, ge-of, changed-law, changed-rising, changed-changes, sum_at-suc}
 
 -- a day with the sum of both lists, unless it is that of the day before
@@ -41,7 +41,7 @@ both_of a (run ∷ runs) b others = along run (λ c rest. both_of run.sum runs c
 order-of : (x y : ℕ) → MatchOrdering (nat_cmp x y) (x < y) (x ≡ y) (y < x)
 order-of x y = ranked x y (nat_cmp x y) refl
 
-rising-from : (low high : ℕ) (runs : List Run) → low ≤ high → IsRising high runs → IsRising low runs
+pub rising-from : (low high : ℕ) (runs : List Run) → low ≤ high → IsRising high runs → IsRising low runs
 rising-from low high [] le h = tt
 rising-from low high (run ∷ runs) le h = (omega (arith, le, h.0), h.1)
 
@@ -250,7 +250,7 @@ walk-equal first second at other d lt within e =
     ∙ both-equal (sum_at (pos 0) first at) (get_or first at d) (drop (at + 1) first) (sum_at (pos 0) second other) (get_or second other d) (drop (other + 1) second) ((λ i. earlier_of (sym is i) (sym are i)) ∙ e)
     ∙ (λ i. with_day (get_or first at d).day (sum_upto first at second other) (sym next i) (sym then i) (both_of (sym next i) (drop (at + 1) first) (sym then i) (drop (other + 1) second)))
 
-changed-last : (earlier : ℤ) (run : Run) (rest : List Run) → changed earlier run [] ++ rest ≡ changed earlier run rest
+pub changed-last : (earlier : ℤ) (run : Run) (rest : List Run) → changed earlier run [] ++ rest ≡ changed earlier run rest
 changed-last earlier run rest = elim (int_eq run.sum earlier) as (λ b. cond b [] (run ∷ []) ++ rest ≡ cond b rest (run ∷ rest)) [ true ↦ refl | false ↦ refl ]
 
 -- a day that was put last, and what is left behind it
@@ -269,7 +269,7 @@ pub walk-end : (first second : List Run) (at other : ℕ) → length first ≤ a
 walk-end first second at other le within =
     λ i. both_of (sum_at (pos 0) first at) (nothing-left first at le i) (sum_at (pos 0) second other) (nothing-left second other within i)
 
-zero-wrap : int_wrap w128 (pos 0) ≡ pos 0
+pub zero-wrap : int_wrap w128 (pos 0) ≡ pos 0
 zero-wrap = int_wrap_fits w128 (pos 0) (record { sfits = lit< tt })
 
 pub both-together : (first second : List Run) → AreRuns first → AreRuns second → AreTogether first second (both_of (pos 0) first (pos 0) second)
@@ -282,22 +282,6 @@ both-kept first second h k = record {
   rising = both-rising 0 (pos 0) first (pos 0) second h.rising k.rising;
   changes = subst (λ (z : ℤ). EachChanges z (both_of (pos 0) first (pos 0) second)) zero-wrap (both-changes (pos 0) first (pos 0) second);
 }
-
--- ---- one amount
-
-pub one-kept : (day : Day) (amount : ℤ) → AreRuns (changed (pos 0) (record { day = day; sum = amount }) [])
-one-kept day amount = record {
-  rising = changed-rising 0 (pos 0) (record { day = day; sum = amount }) [] (omega arith) tt;
-  changes = changed-changes (pos 0) (record { day = day; sum = amount }) [] tt;
-}
-
-pub one-tells : (day : Day) (amount : ℤ) (end : ℕ) → before (one_run day amount) end ≡ raise (nat_lt day.0 end) amount (pos 0)
-one-tells day amount end =
-    changed-law (pos 0) (record { day = day; sum = amount }) [] end tt
-    ∙ elim (nat_lt day.0 end) as (λ b. cond b amount (pos 0) ≡ raise b amount (pos 0)) [ true ↦ plus-none amount | false ↦ refl ]
-  where
-    plus-none : (z : ℤ) → z ≡ pos 0 +ℤ z
-    plus-none z = omega (arith, ints)
 
 -- which list begins with the earlier day, by places
 pub greater-of : (first : List Run) (at : ℕ) (others : List Run) → length first ≤ at → Greater ≡ earlier_of (drop at first) others

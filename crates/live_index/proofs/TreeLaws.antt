@@ -165,7 +165,7 @@ gone-here key left cell right h p =
 abbrev pub SumAlike : List (List Run) → List (List Run) → List (List Run) → Type 0
 SumAlike one two sums = (places end : ℕ) → Alike (before (runs_in sums places) end) (before (runs_in one places) end +ℤ before (runs_in two places) end)
 
-twice : (z : ℤ) → int_wrap w128 (int_wrap w128 z) ≡ int_wrap w128 z
+pub twice : (z : ℤ) → int_wrap w128 (int_wrap w128 z) ≡ int_wrap w128 z
 twice z = ap (int_wrap w128) (plus-none (int_wrap w128 z)) ∙ int_wrap-add_left w128 z (pos 0) ∙ ap (int_wrap w128) (sym (plus-none z))
 
 pub sum-alike : (one two sums : List (List Run)) → AreSummed one two sums → SumAlike one two sums
@@ -262,4 +262,14 @@ pub add-end : (tree cells now : List Cell) → Adding tree cells now [] → AreJ
 add-end tree cells now a = record {
   cells = a.now_cells;
   sums = λ key places end. ap (int_wrap w128) (plus-none (told key now places end)) ∙ a.sums key places end;
+}
+
+-- cells beside none
+pub joined-alone : (none cells new : List Cell) → none ≡ [] → new ≡ cells → AreCells cells → AreJoined none cells new
+joined-alone none cells new e is h = record {
+  cells = subst AreCells (sym is) h;
+  sums = λ key places end.
+      ap (λ (t : List Cell). int_wrap w128 (told key t places end)) is
+      ∙ ap (int_wrap w128) (none-plus (told key cells places end))
+      ∙ ap (λ (t : List Cell). int_wrap w128 (told key t places end +ℤ told key cells places end)) (sym e);
 }

@@ -1,7 +1,7 @@
 -- A walk along two lists whose images are cells, by places.
-use Rattle.std.proofs.Common.{◌≡◌, ℕ, zero, suc, ◌+◌, ◌<◌, ◌≤◌, List, [], ◌∷◌, ◌++◌, map, length, get_or, drop, inl, inr, refl, sym, ap, subst, ◌∙◌, arith}
+use Rattle.std.proofs.Common.{◌≡◌, ℕ, zero, suc, ◌+◌, ◌<◌, ◌≤◌, List, [], ◌∷◌, ◌++◌, map, length, get_or, take, drop, inl, inr, refl, sym, ap, subst, ◌∙◌, arith}
 use Rattle.std.proofs.lemmas.Bool.{cases_lt}
-use Rattle.std.proofs.lemmas.List.{drop_more, map-append}
+use Rattle.std.proofs.lemmas.List.{drop_more, map-append, take-append-drop}
 use Rattle.std.specs.declared.cmp.Ordering.TheVariants.{Less, Equal, Greater}
 use Rattle.live_index.specs.Cells.{Cell, key_cmp, lesser_of, HasPushedSum}
 use Rattle.live_index.proofs.CellLaws.{Joining, join-less, join-greater, join-equal}
@@ -104,3 +104,11 @@ module _ {A : Type 0} (f : A → Cell) where
       let Q : List Cell → Type 0 = λ t. Joining one two (map f done) t (map f (drop j ys)) in
       let R : List Cell → Type 0 = λ t. Joining one two (map f done) (f x ∷ map f (drop (i + 1) xs)) t in
       join-equal one two (map f done) (map f new) (f x) (map f (drop (i + 1) xs)) (f y) (map f (drop (j + 1) ys)) ((λ k. lesser_of (sym rest k) (sym others k)) ∙ equal) pushed (subst R others (subst Q rest so_far))
+
+  -- what stands before an item, the item and what stands behind it
+  pub made-of : (xs front back : List A) (i : ℕ) (left right : List Cell) (x y : A) → front ≡ take i xs → back ≡ drop i xs → left ≡ map f front → right ≡ map f (drop 1 back) → 0 < length back → x ≡ get_or back 0 x → f y ≡ f x → left ++ f y ∷ right ≡ map f xs
+  made-of xs front back i left right x y e g of_front of_rest some is own =
+      (λ k. of_front k ++ own k ∷ of_rest k)
+      ∙ ap (λ (t : List Cell). map f front ++ t) (sym (rest-at back 0 x some is))
+      ∙ sym (map-append f front back)
+      ∙ ap (map f) ((λ k. e k ++ g k) ∙ take-append-drop i xs)

@@ -1,5 +1,5 @@
 -- Sums by account, symbol, number of decimals and day.
-use Rattle.std.specs.Prelude.{◌≡◌, ◌⊎◌, ℕ, ℤ, pos, length, ◌-◌, ◌<◌, ◌+ℤ◌, Bool, ◌&&◌, nat_lt, nat_eq, ◌==◌, List, [], ◌∷◌, ◌++◌, slice_index_or, Option, None, Some, unwrap_or, T}
+use Rattle.std.specs.Prelude.{◌≡◌, ◌⊎◌, ℕ, ℤ, pos, length, ◌-◌, ◌<◌, ◌+ℤ◌, Bool, ◌&&◌, nat_lt, nat_eq, ◌==◌, List, [], ◌∷◌, ◌++◌, slice_index_or, Option, None, Some, unwrap_or, filter, T}
 use Rattle.std.specs.declared.cmp.Ordering.{Ordering}
 use Rattle.std.specs.declared.cmp.Ordering.TheVariants.{Less, Greater}
 use Rattle.std.specs.Ordering.{nat_cmp, bool_cmp, ordering_then, eq_by_cmp}
@@ -10,7 +10,7 @@ use Rattle.std.specs.Cmp.Lexicographic.{slice_cmp}
 use Rattle.std.specs.FinMap.Entries.{find, is_sorted}
 use Rattle.live_index.specs.declared.row.Row.{Row}
 use Rattle.live_index.specs.declared.runs.Run.{Run}
-use Rattle.live_index.specs.Rows.{counts}
+use Rattle.live_index.specs.Rows.{counts, sum_by}
 use Rattle.live_index.specs.Runs.{Alike, before, raise, AreTogether}
 
 -- an account's own rows in a symbol, or with `below` those of its subaccounts too
@@ -70,10 +70,13 @@ abbrev pub AreSummed : List (List Run) → List (List Run) → List (List Run) �
 AreSummed first second both =
     (places : ℕ) → AreTogether (runs_in first places) (runs_in second places) (runs_in both places)
 
--- a row's sums
-abbrev pub AreOfRow : Row → List (List Run) → Type 0
-AreOfRow row sums =
-    (places end : ℕ) → before (runs_in sums places) end ≡ raise (is_part row places end) row.value.mantissa (pos 0)
+-- the sum of the mantissas of the rows with a number of decimals before a day
+abbrev pub mantissas_in : List Row → ℕ → ℕ → ℤ
+mantissas_in rows places end = sum_by (λ row. row.value.mantissa) (filter (λ row. is_part row places end) rows)
+
+-- the sums of some rows, modulo 2^128
+abbrev pub AreOfRows : List Row → List (List Run) → Type 0
+AreOfRows rows sums = (places end : ℕ) → Alike (before (runs_in sums places) end) (mantissas_in rows places end)
 
 -- some day's sum changes with the greatest number of decimals: no cell is kept that tells nothing
 abbrev pub HasDays : List (List Run) → Type 0
@@ -97,12 +100,12 @@ pub record AreJoined (first second both : List Cell) : Type 0 where
   pub sums : (key : Key) (places end : ℕ) →
       Alike (told key both places end) (told key first places end +ℤ told key second places end)
 
--- a row was added to the sums of the keys that pass a test
-pub record HasAdded (test : Key → Bool) (row : Row) (old new : List Cell) : Type 0 where
+-- sums were added to those of the keys that pass a test
+pub record HasAdded (test : Key → Bool) (sums : List (List Run)) (old new : List Cell) : Type 0 where
   pub cells : AreCells new
   pub gained : (key : Key) (places end : ℕ) →
       Alike (told key new places end)
-      (raise (test key && is_part row places end) row.value.mantissa (told key old places end))
+      (raise (test key) (before (runs_in sums places) end) (told key old places end))
 
 -- which of two lists begins with the earlier key
 abbrev pub lesser_of : List Cell → List Cell → Ordering

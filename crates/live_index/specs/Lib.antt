@@ -4,6 +4,7 @@ pub mod Net
 pub mod Puts
 pub mod Rows
 pub mod Runs
+pub mod Series
 pub mod Small
 pub mod Standing
 pub mod Told

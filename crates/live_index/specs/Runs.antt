@@ -39,10 +39,6 @@ sum_at earlier (run ∷ runs) (suc place) = sum_at run.sum runs place
 abbrev pub changed : ℤ → Run → List Run → List Run
 changed earlier run runs = if int_eq run.sum earlier then runs else run ∷ runs
 
--- an amount on a day
-abbrev pub one_run : Day → ℤ → List Run
-one_run day amount = changed (pos 0) (record { day = day; sum = amount }) []
-
 -- which of two lists begins with the earlier day
 abbrev pub earlier_of : List Run → List Run → Ordering
 earlier_of [] others = Greater

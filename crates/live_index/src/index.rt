@@ -15,7 +15,7 @@ use crate::puts::Puts;
 use crate::row::Row;
 #[cfg(test)]
 use crate::tree::count;
-use crate::tree::{Tree, find, with_all};
+use crate::tree::{Tree, find, shared, with_all};
 use hl_base::{Memory, Steps, Text};
 use hl_num::Dec;
 use std::alloc::Global;
@@ -75,6 +75,19 @@ impl Index {
             alloc,
             puts: Puts::new(),
             cells: Tree::Leaf,
+        })
+    }
+
+    /// An index of the same rows. Both share what they have, so it takes the same memory however many rows there are, and
+    /// what is put into one of them stays out of the other.
+    pub fn copy(&self) -> Result<Index, Memory>
+        ensures { IfOk result (λ copy. copy ≡ self.now) }
+    {
+        let cells = shared(&self.cells)?;
+        Ok(Index {
+            alloc: self.alloc,
+            puts: self.puts.same(),
+            cells,
         })
     }
 

@@ -1,6 +1,7 @@
 //! An index of rows by account, symbol and day, whose sums up to a day come from few nodes.
 #![tactic(auto)]
 
+mod by_places;
 mod cell;
 mod cells;
 pub mod index;
@@ -9,6 +10,7 @@ pub mod nodes;
 mod puts;
 pub mod row;
 mod runs;
+mod series;
 #[cfg(test)]
 mod tests;
 mod tree;

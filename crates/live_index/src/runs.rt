@@ -1,8 +1,11 @@
 //! Sums of amounts by day.
-ghost use Rattle.std.specs.Prelude.{◌≡◌, ◌<◌, ◌≤◌, ◌++◌, ◌+ℤ◌, ◌-ℤ◌, ◌⊎◌, [], pos, drop, length, IfOk, OnOk, IsTrue, ◌↔◌};
+ghost use Rattle.std.specs.Prelude.{◌≡◌, ◌<◌, ◌≤◌, ◌++◌, ◌+ℤ◌, ◌-ℤ◌, ◌⊎◌, [], pos, drop, length, map, IfOk, OnOk, IsTrue, ◌↔◌, if◌then◌else◌};
 ghost use Rattle.std.specs.Int.{int_wrap, w128};
-ghost use Rattle.live_index.specs.Runs.{IsRising, before, place_in, sum_at, changed, one_run, earlier_of, AreTogether, AreRuns};
+ghost use Rattle.live_index.specs.Runs.{IsRising, before, place_in, sum_at, changed, earlier_of, AreTogether, AreRuns};
+ghost use Rattle.live_index.specs.Series.{IsSeries, AreDaysOf};
 
+use crate::row::Row;
+use crate::series::ends_day;
 use hl_base::Memory;
 use hl_time::Day;
 use std::alloc::Global;
@@ -44,12 +47,13 @@ impl Runs {
         }
     }
 
-    /// An amount on a day, or none where it is zero.
-    pub(crate) fn of(alloc: Global, day: Day, amount: i128) -> Result<Runs, Memory>
-        ensures { IfOk result (λ runs. runs ≡ one_run day amount) }
+    /// The amounts of the rows of a series.
+    pub(crate) fn of(alloc: Global, rows: &[&Row]) -> Result<Runs, Memory>
+        requires { IsSeries (map (λ r. r.now) rows.now) }
+        ensures { IfOk result (λ runs. AreDaysOf (map (λ r. r.now) rows.now) runs) }
     {
         Ok(Runs {
-            items: one(alloc, day, amount)?,
+            items: days_of(alloc, rows)?,
         })
     }
 
@@ -87,14 +91,42 @@ impl Runs {
     }
 }
 
-/// An amount on a day, or none where it is zero.
-fn one(alloc: Global, day: Day, amount: i128) -> Result<Vec<Run>, Memory>
-    ensures value { IfOk result (λ runs. runs.items ≡ one_run day amount) }
+/// The sums of the rows of a series by one pass: with the last row of each day the sum up to it.
+fn days_of(alloc: Global, rows: &[&Row]) -> Result<Vec<Run>, Memory>
+    requires { IsSeries (map (λ r. r.now) rows.now) }
+    ensures sums { IfOk result (λ runs. AreDaysOf (map (λ r. r.now) rows.now) runs.items) }
     ensures kept { IfOk result (λ runs. AreRuns runs.items) }
 {
     let mut runs = Vec::new(alloc);
-    push_changed(&mut runs, Run { day, sum: amount }, 0)?;
+    let mut earlier = 0;
+    let mut sum = 0;
+    for at in 0..rows.len() {
+        let row = rows[at];
+        sum = wrapped_sum(sum, row.value.mantissa);
+        let ends = ends_day(rows, at);
+        earlier = push_last(&mut runs, row.day, sum, earlier, ends)?;
+    }
     Ok(runs)
+}
+
+/// Puts a day last where its last row was added, unless its sum is that of the day before it. Answers the sum of the
+/// last day that has ended.
+fn push_last(
+    runs: &mut Vec<Run>,
+    day: Day,
+    sum: i128,
+    earlier: i128,
+    ends: bool,
+) -> Result<i128, Memory>
+    ensures sum { IfOk result (λ last. last ≡ if ends then sum else earlier) }
+    ensures put { OnOk result (runs.new.items ≡ runs.old.items
+        ++ (if ends then changed earlier (record { day = day; sum = sum }) [] else [])) }
+{
+    if !ends {
+        return Ok(earlier);
+    }
+    push_changed(runs, Run { day, sum }, earlier)?;
+    Ok(sum)
 }
 
 /// Puts a day last, unless its sum is that of the day before it.

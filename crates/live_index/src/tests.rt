@@ -40,11 +40,13 @@ fn row(
 }
 
 /// The day of a row: of the first ones the last day of a first node of each level and the one behind it, and then
-/// random days.
+/// random days, every other one of four.
 fn day_of(next: u32, seed: u64) -> u32 {
     if next < 44 {
         let end = 1u32.wrapping_shl(next / 2);
         end.saturating_sub(next % 2).max(1)
+    } else if next % 2 == 0 {
+        ((seed >> 20) % 4) as u32 + 1
     } else {
         ((seed >> 20) % 3_652_059) as u32 + 1
     }
@@ -56,7 +58,7 @@ fn some_rows(alloc: Global, negated: bool) -> Result<Vec<Row>, Memory>
 {
     let mut rows = Vec::new(alloc);
     let mut seed = 7_u64;
-    for next in 0..84u32 {
+    for next in 0..244u32 {
         seed = seed.wrapping_mul(6_364_136_223_846_793_005).wrapping_add(1);
         let account = ACCOUNTS[((seed >> 40) % 4) as usize];
         let symbol = if (seed >> 50) % 3 == 0 { "USD" } else { "EUR" };
@@ -194,8 +196,9 @@ fn only_prepared(index: &mut Index, rows: &[Row]) -> Result<(), Memory>
     Ok(())
 }
 
-/// Puts rows in, prepares their negations and drops them, asks for the sums, and prepares and puts the negations in.
-fn in_and_out<L: Ledger>(alloc: Global, blank: Blank) -> Result<(bool, bool), Memory>
+/// Puts rows in, prepares their negations and drops them, asks for the sums, and prepares and puts the negations in,
+/// beside a copy.
+fn in_and_out<L: Ledger>(alloc: Global, blank: Blank) -> Result<(bool, bool, bool), Memory>
     requires name { blank.name ≡ L.name }
     requires parts { blank.parts ≡ L.parts }
     requires three { blank.parts ≡ 3 }
@@ -207,17 +210,20 @@ fn in_and_out<L: Ledger>(alloc: Global, blank: Blank) -> Result<(bool, bool), Me
     let mut index = index_of(alloc, rows.as_slice())?;
     only_prepared(&mut index, negated.as_slice())?;
     let stays = are_plain(&index, rows.as_slice(), &names, &mut steps);
+    let copy = index.copy()?;
     let prepared = index.prepare(negated.as_slice())?;
     index.put(prepared);
     let goes = are_zero(&index, rows.as_slice(), &names, &mut steps) && index.kept() == 0;
-    Ok((stays, goes))
+    let apart = are_plain(&copy, rows.as_slice(), &names, &mut steps);
+    Ok((stays, goes, apart))
 }
 
 #[test]
 fn sums_at_the_ends_of_levels(rt: HostRuntime) -> Result<(), Fail> {
     standing_laws();
-    let (stays, goes) = in_and_out::<Brand>(rt.alloc(), Blank::new(3))?;
+    let (stays, goes, apart) = in_and_out::<Brand>(rt.alloc(), Blank::new(3))?;
     assert!(rt; stays, "rows that were prepared and dropped change no sum");
     assert!(rt; goes, "negated rows leave nothing");
+    assert!(rt; apart, "what is put in changes no copy");
     Ok(())
 }

@@ -69,6 +69,32 @@ pub(crate) fn with_all(alloc: Global, tree: &Tree, cells: &[Arc<Cell>]) -> Resul
     ensures { IfOk result (λ new. AreJoined (cells_of tree.now) (map arc_value cells.now)
         (cells_of new)) }
 {
+    match tree {
+        Tree::Leaf => tree_of(alloc, cells),
+        Tree::Fork(_) => with_each(alloc, tree, cells),
+    }
+}
+
+/// The cells of a list as a tree.
+fn tree_of(alloc: Global, cells: &[Arc<Cell>]) -> Result<Tree, Memory>
+    ensures { IfOk result (λ new. cells_of new ≡ map arc_value cells.now) }
+{
+    if cells.is_empty() {
+        return Ok(Tree::Leaf);
+    }
+    let (front, back) = cells.split_at(cells.len() / 2);
+    let left = tree_of(alloc, front)?;
+    let right = tree_of(alloc, &back[1..])?;
+    node(alloc, left, Arc::try_clone(&back[0])?, right)
+}
+
+/// The tree with the sums of some cells, put in one after another.
+fn with_each(alloc: Global, tree: &Tree, cells: &[Arc<Cell>]) -> Result<Tree, Memory>
+    requires tree { AreCells (cells_of tree.now) }
+    requires cells { AreCells (map arc_value cells.now) }
+    ensures { IfOk result (λ new. AreJoined (cells_of tree.now) (map arc_value cells.now)
+        (cells_of new)) }
+{
     let mut all = shared(tree)?;
     for cell in cells {
         all = with_sums(alloc, &all, cell)?;

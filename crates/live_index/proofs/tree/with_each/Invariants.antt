@@ -2,7 +2,7 @@ use Rattle.std.proofs.Common.{map, drop}
 use Rattle.std.specs.Arc.{arc_value}
 use Rattle.live_index.specs.Trees.{cells_of}
 use Rattle.live_index.proofs.TreeLaws.{Adding}
-use Rattle.live_index.proofs.tree.with_all.Given as goal
+use Rattle.live_index.proofs.tree.with_each.Given as goal
 
 -- what is put in and what is left have the sums of both
 abbrev pub invariant-loop-cell : goal.invariant-loop-cell

@@ -1,6 +1,6 @@
 use Rattle.std.proofs.Common.{◌≡◌, length}
 use Rattle.live_index.proofs.SumLaws.{SummedUpto}
-use Rattle.live_index.proofs.cell.summed.Given as goal
+use Rattle.live_index.proofs.by_places.summed.Given as goal
 
 -- the sums of so many numbers of decimals
 abbrev pub invariant-loop-places : goal.invariant-loop-places

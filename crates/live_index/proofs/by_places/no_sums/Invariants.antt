@@ -1,7 +1,7 @@
 use Rattle.std.proofs.Common.{◌-◌, ◌≤◌, length}
 use Rattle.std.specs.Vec.{vec_len}
 use Rattle.live_index.proofs.SumLaws.{AllNone}
-use Rattle.live_index.proofs.cell.no_sums.Given as goal
+use Rattle.live_index.proofs.by_places.no_sums.Given as goal
 
 abbrev pub invariant-loop-alloc : goal.invariant-loop-alloc
 invariant-loop-alloc l = record {
