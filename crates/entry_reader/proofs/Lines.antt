@@ -1,6 +1,7 @@
--- The first line of a text, found by its first LF.
-use Rattle.std.proofs.Common.{◌≡◌, ℕ, suc, ◌+◌, ◌<◌, Bool, true, false, cond, ◌==◌, not, List, [], ◌∷◌, length, take, drop, map, refl, ap, ◌∙◌, arith}
+-- The first line of a text, found by its first LF; and how many lines there are.
+use Rattle.std.proofs.Common.{◌≡◌, ℕ, suc, ◌+◌, ◌<◌, ◌≤◌, Bool, true, false, cond, ◌==◌, not, List, [], ◌∷◌, length, take, drop, map, refl, ap, ◌∙◌, arith}
 use Rattle.std.specs.List.{prefix_len, take_while}
+use Rattle.std.proofs.lemmas.List.{length-map, length-take}
 use Rattle.std.proofs.lemmas.List.Sums.{take_while-cons}
 use Rattle.hl_base.specs.Lines.{onto, lines_of}
 use Rattle.entry_reader.specs.Lines.{before_white, content_of, contents_of}
@@ -58,3 +59,22 @@ cut_of (b ∷ bs) h = lines_cut b bs
 -- the first line's content before the contents of the text after it
 pub contents_cut : (text : List ℕ) → 0 < length text → contents_of text ≡ before_white (take (inside text) text) ∷ contents_of (drop (inside text + 1) text)
 contents_cut text h = ap (map content_of) (cut_of text h) ∙ ap (λ (l : List ℕ). before_white l ∷ contents_of (drop (inside text + 1) text)) (content_cut text)
+
+-- a text has no more lines than bytes
+few_onto : (b n : ℕ) (ls : List (List ℕ)) → length ls ≤ n → length (onto b ls) ≤ suc n
+few_onto b n [] h = omega arith
+few_onto b n (l ∷ ls) h = omega (arith, h)
+
+few_more : (t : Bool) (b n : ℕ) (ls : List (List ℕ)) → length ls ≤ n → length (cond t ((b ∷ []) ∷ ls) (onto b ls)) ≤ suc n
+few_more true b n ls h = omega (arith, h)
+few_more false b n ls h = few_onto b n ls h
+
+few_parts : (text : List ℕ) → length (lines_of text) ≤ length text
+few_parts [] = omega arith
+few_parts (b ∷ bs) = few_more (b == 10) b (length bs) (lines_of bs) (few_parts bs)
+
+pub few_lines : (text : List ℕ) → length (contents_of text) ≤ length text
+few_lines text = omega (arith, length-map (lines_of text) content_of, few_parts text)
+
+pub few_within : (n : ℕ) (text : List ℕ) → length (contents_of (take n text)) ≤ n
+few_within n text = omega (arith, few_lines (take n text), length-take n text)

@@ -1,6 +1,7 @@
 -- The accounts of postings.
 use Rattle.std.specs.Prelude.{ℕ, ◌+◌, ◌-◌, Bool, ◌&&◌, ◌||◌, List, [], ◌∷◌, ◌==◌, nat_le, slice_index, if◌then◌else◌, length, take, drop, Result, Ok, Err, not}
 use Rattle.std.specs.List.{list_all}
+use Rattle.hl_base.specs.Ascii.{close_round, close_square, line_feed, open_round, open_square, tab}
 use Rattle.hl_base.specs.Items.{is_white}
 use Rattle.book.specs.declared.fault.Fault.{Fault}
 use Rattle.book.specs.declared.fault.Cause.TheVariants as cause
@@ -13,7 +14,7 @@ use Rattle.entry_reader.specs.Lines.{first_is, has_byte, before_byte, before_whi
 
 -- an account ends before a tab and before two white spaces
 abbrev pub ends_name : ℕ → List ℕ → Bool
-ends_name b bs = (b == 9) || (is_white b && first_is is_white bs)
+ends_name b bs = (b == tab) || (is_white b && first_is is_white bs)
 
 -- how many bytes the account has that a text begins with
 abbrev pub account_len : List ℕ → ℕ
@@ -26,10 +27,10 @@ is_within first last text = nat_le 2 (length text) && (slice_index text 0 == fir
 
 -- in parentheses it is a free virtual posting's, in brackets a balanced one's
 abbrev pub side_of : List ℕ → Side
-side_of text = if is_within 40 41 text then Free else if is_within 91 93 text then Balanced else Real
+side_of text = if is_within open_round close_round text then Free else if is_within open_square close_square text then Balanced else Real
 
 abbrev pub is_bracketed : List ℕ → Bool
-is_bracketed text = is_within 40 41 text || is_within 91 93 text
+is_bracketed text = is_within open_round close_round text || is_within open_square close_square text
 
 -- the name without its brackets
 abbrev pub name_of : List ℕ → List ℕ
@@ -56,7 +57,7 @@ account_at context line text = name_in context line (name_of text) >>= λ name. 
 -- all of a text is an account, without white space at its ends
 abbrev pub is_account_text : List ℕ → Bool
 is_account_text text =
-    (account_len text == length text) && not (first_is is_white text) && not (has_byte 10 text)
+    (account_len text == length text) && not (first_is is_white text) && not (has_byte line_feed text)
     && not (first_is is_white (drop (length text - 1) text))
 
 -- what a line's text is the account of, were it one
@@ -69,5 +70,5 @@ unfoldable pub account_alone : List ℕ → Result (Side × List ℕ) Fault
 account_alone text =
     if first_is is_white text then Err (fault_at 1 cause.Form)
     else (do
-      account ← account_of 1 (account_front (before_byte 10 text))
+      account ← account_of 1 (account_front (before_byte line_feed text))
       if is_account_text text then Ok account else Err (fault_at 1 cause.Form))

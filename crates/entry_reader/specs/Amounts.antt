@@ -1,6 +1,7 @@
 -- Amounts: `[SIGN] [SYMBOL] [SIGN] NUMBER [SYMBOL]`, with at most one sign and one symbol.
 use Rattle.std.specs.Prelude.{ℕ, Bool, false, true, ◌&&◌, ◌||◌, not, List, [], ◌∷◌, nat_lt, nat_eq, if◌then◌else◌, length, drop, codes, Option, Some, None, Result, Ok, Err}
 use Rattle.std.specs.List.{prefix_len, take_while, starts_with}
+use Rattle.hl_base.specs.Ascii.{asterisk, equals, line_feed, minus}
 use Rattle.hl_base.specs.Items.{is_white}
 use Rattle.hl_num.specs.Decimal.{Decimal, negated}
 use Rattle.hl_num.specs.Reading.{is_number_byte, reading}
@@ -40,7 +41,7 @@ left_from line text inner =
     let second = after_white (after_symbol inner) in
     if not (is_left_good inner) then Err (fault_at line cause.Quote)
     else if first_is is_sign text && first_is is_sign second then Err (fault_at line cause.Number)
-    else Ok (left_of (begins text 45 || begins second 45) (symbol_name inner) (first_is is_white (after_symbol inner)) (after_sign second))
+    else Ok (left_of (begins text minus || begins second minus) (symbol_name inner) (first_is is_white (after_symbol inner)) (after_sign second))
 
 unfoldable pub left_at : ℕ → List ℕ → Result Left Fault
 left_at line text = left_from line text (after_sign text)
@@ -130,19 +131,19 @@ factor_from_right context line is_negative digits right =
 unfoldable pub factor_at : Context → ℕ → List ℕ → Result (Factor × List ℕ) Fault
 factor_at context line text =
     let rest = after_sign text in
-    factor_from_right context line (begins text 45) (take_while is_number_byte rest)
+    factor_from_right context line (begins text minus) (take_while is_number_byte rest)
     (right_at false (drop (prefix_len is_number_byte rest) rest))
 
 -- the sign of an assertion: `=`, or `==` where it speaks of every symbol; and then `*` where it speaks of the accounts
 -- below too
 abbrev pub is_only : List ℕ → Bool
-is_only text = begins (drop 1 text) 61
+is_only text = begins (drop 1 text) equals
 
 abbrev pub after_equals : List ℕ → List ℕ
 after_equals text = if is_only text then drop 1 (drop 1 text) else drop 1 text
 
 abbrev pub is_below : List ℕ → Bool
-is_below text = begins (after_equals text) 42
+is_below text = begins (after_equals text) asterisk
 
 abbrev pub after_claim : List ℕ → List ℕ
 after_claim text = if is_below text then drop 1 (after_equals text) else after_equals text
@@ -184,4 +185,4 @@ alone_of is_line read = read >>= λ a. alone is_line a
 
 -- a whole text as one amount, but for white space at its ends; its first line is read first, and another is no part of it
 unfoldable pub amount_alone : Context → List ℕ → Result Amount Fault
-amount_alone context text = alone_of (not (has_byte 10 text)) (amount_at context 1 (trimmed (before_byte 10 text)))
+amount_alone context text = alone_of (not (has_byte line_feed text)) (amount_at context 1 (trimmed (before_byte line_feed text)))

@@ -2,6 +2,7 @@
 use Rattle.std.specs.Prelude.{ℕ, ◌+◌, Bool, ◌&&◌, List, [], ◌∷◌, ◌++◌, if◌then◌else◌, drop, codes, Option, Some, None, Result, Ok, Err, option_map}
 use Rattle.std.specs.List.{flat_map, find}
 use Rattle.std.specs.Str.{bytes_eq}
+use Rattle.hl_base.specs.Ascii.{line_feed, semicolon}
 use Rattle.hl_base.specs.Items.{is_white}
 use Rattle.hl_time.specs.Date.{date_of}
 use Rattle.hl_time.specs.declared.day.Day.{Day}
@@ -14,7 +15,7 @@ use Rattle.entry_reader.specs.Tags.{tags_of}
 
 -- the content of an indented line whose first character after white space is `;`
 abbrev pub is_comment : List ℕ → Bool
-is_comment content = first_is is_white content && begins (after_white content) 59
+is_comment content = first_is is_white content && begins (after_white content) semicolon
 
 -- what follows the `;`
 abbrev pub comment_text : List ℕ → List ℕ
@@ -27,7 +28,7 @@ comments_in (c ∷ cs) = if is_comment c then comment_text c ∷ comments_in cs 
 
 -- a comment on a line and its further lines, joined by LF
 abbrev pub comment_of : List ℕ → List (List ℕ) → List ℕ
-comment_of own more = own ++ flat_map (λ text. 10 ∷ text) more
+comment_of own more = own ++ flat_map (λ text. line_feed ∷ text) more
 
 -- the tags of some comment lines
 abbrev pub tags_in : List (List ℕ) → List Tag

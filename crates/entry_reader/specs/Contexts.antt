@@ -2,6 +2,7 @@
 use Rattle.std.specs.Prelude.{ℕ, ◌-◌, Bool, true, ◌&&◌, List, [], ◌∷◌, ◌++◌, ◌==◌, nat_eq, if◌then◌else◌, length, take, drop, reverse, Option, Some, None}
 use Rattle.std.specs.List.{fold, find, flat_map, starts_with}
 use Rattle.std.specs.Str.{bytes_eq}
+use Rattle.hl_base.specs.Ascii.{colon}
 use Rattle.book.specs.declared.amount.Amount.{Amount}
 use Rattle.book.specs.declared.directive.Directive.{Directive}
 use Rattle.book.specs.declared.directive.Directive.TheVariants as directive
@@ -119,12 +120,12 @@ decided_mark context written =
 -- the name behind those that are applied
 abbrev pub with_applied : List (List ℕ) → List ℕ → List ℕ
 with_applied [] name = name
-with_applied (outer ∷ names) name = outer ++ 58 ∷ with_applied names name
+with_applied (outer ∷ names) name = outer ++ colon ∷ with_applied names name
 
 -- a part of a name ends where the name ends, and before a colon
 abbrev pub ends_part : List ℕ → Bool
 ends_part [] = true
-ends_part (b ∷ bs) = b == 58
+ends_part (b ∷ bs) = b == colon
 
 -- a name is the old one, or one below it
 abbrev pub is_under : List ℕ → List ℕ → Bool

@@ -1,6 +1,7 @@
 -- The head line of an entry: `DATE [MARK] [(CODE)] [DESCRIPTION] [; COMMENT]`.
 use Rattle.std.specs.Prelude.{ℕ, Bool, true, ◌&&◌, ◌||◌, List, [], ◌∷◌, ◌==◌, if◌then◌else◌, drop, Option, Result, Ok, Err}
 use Rattle.std.specs.List.{prefix_len, take_while}
+use Rattle.hl_base.specs.Ascii.{asterisk, close_round, exclamation, open_round, semicolon}
 use Rattle.hl_base.specs.Items.{is_white}
 use Rattle.hl_num.specs.Reading.{is_digit}
 use Rattle.hl_time.specs.Date.{date_of, is_separator}
@@ -32,10 +33,10 @@ day_at year line text = day_before line (drop (prefix_len is_date_byte text) tex
 
 -- `!` or `*`
 abbrev pub is_mark : ℕ → Bool
-is_mark b = (b == 33) || (b == 42)
+is_mark b = (b == exclamation) || (b == asterisk)
 
 abbrev pub mark_of : List ℕ → Mark
-mark_of text = if begins text 33 then Pending else if begins text 42 then Cleared else Unmarked
+mark_of text = if begins text exclamation then Pending else if begins text asterisk then Cleared else Unmarked
 
 -- what follows a mark and the white space after it, where a mark stands first
 abbrev pub after_mark : List ℕ → List ℕ
@@ -52,21 +53,21 @@ mark_at line text =
 
 -- a code in parentheses stands first, and they are closed on the line
 abbrev pub has_code : List ℕ → Bool
-has_code text = begins text 40 && has_byte 41 (drop 1 text)
+has_code text = begins text open_round && has_byte close_round (drop 1 text)
 
 abbrev pub code_of : List ℕ → List ℕ
-code_of text = if has_code text then before_byte 41 (drop 1 text) else []
+code_of text = if has_code text then before_byte close_round (drop 1 text) else []
 
 abbrev pub after_code : List ℕ → List ℕ
-after_code text = if has_code text then after_byte 41 (drop 1 text) else text
+after_code text = if has_code text then after_byte close_round (drop 1 text) else text
 
 -- all up to the first `;`
 abbrev pub description_of : List ℕ → List ℕ
-description_of text = trimmed (before_byte 59 text)
+description_of text = trimmed (before_byte semicolon text)
 
 -- what follows the first `;`; empty where there is none
 abbrev pub own_comment : List ℕ → List ℕ
-own_comment text = trimmed (after_byte 59 text)
+own_comment text = trimmed (after_byte semicolon text)
 
 -- what a head line says; the comment is the one on the line
 pub record Head : Type 0 where

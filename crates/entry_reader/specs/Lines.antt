@@ -1,6 +1,7 @@
 -- The lines of a piece, and the white space at the ends of texts.
 use Rattle.std.specs.Prelude.{ℕ, ◌-◌, Bool, false, not, List, [], ◌∷◌, ◌==◌, nat_lt, length, take, drop, map}
 use Rattle.std.specs.List.{prefix_len, suffix_len, take_while, before_first, after_first, list_any}
+use Rattle.hl_base.specs.Ascii.{line_feed}
 use Rattle.hl_base.specs.Lines.{lines_of}
 use Rattle.hl_base.specs.Items.{is_white}
 
@@ -42,7 +43,7 @@ trimmed text = before_white (after_white text)
 
 -- what a line says: all up to its LF, without the white space at its end
 abbrev pub content_of : List ℕ → List ℕ
-content_of line = before_white (take_while (λ b. not (b == 10)) line)
+content_of line = before_white (take_while (λ b. not (b == line_feed)) line)
 
 -- what the lines of a text say
 abbrev pub contents_of : List ℕ → List (List ℕ)

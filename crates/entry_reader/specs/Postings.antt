@@ -1,5 +1,6 @@
 -- Posting lines: `[MARK] ACCOUNT [2 SPACES OR TAB AMOUNT [COST] [ASSERTION]] [; COMMENT]`, and the comment lines after them.
 use Rattle.std.specs.Prelude.{ℕ, ◌+◌, Bool, true, false, ◌&&◌, ◌||◌, not, List, [], ◌∷◌, ◌==◌, if◌then◌else◌, take, drop, Option, Some, None, Result, Ok, Err, is_some}
+use Rattle.hl_base.specs.Ascii.{asterisk, equals, semicolon}
 use Rattle.hl_base.specs.Items.{is_white}
 use Rattle.hl_time.specs.declared.day.Day.{Day}
 use Rattle.book.specs.declared.amount.Amount.{Amount}
@@ -44,7 +45,7 @@ is_written quantity = is_some quantity.0 || is_some quantity.1
 unfoldable pub quantity_at : Holder → Context → ℕ → List ℕ → Result (Quantity × List ℕ) Fault
 quantity_at h context line text =
     if ends_amount text then Ok ((None, None), text)
-    else if is_auto h && begins text 42 then (do
+    else if is_auto h && begins text asterisk then (do
       f ← factor_at context line (after_white (drop 1 text))
       Ok ((None, Some f.0), f.1))
     else (do
@@ -58,7 +59,7 @@ cost_behind is_written context line text = if is_written then cost_at context li
 -- the assertion that a text begins with, if any, in an entry alone
 unfoldable pub claim_at : Holder → Context → ℕ → List ℕ → Result (Option Assertion × List ℕ) Fault
 claim_at h context line text =
-    if is_entry h && begins text 61 then (do
+    if is_entry h && begins text equals then (do
       a ← assertion_at context line text
       Ok (Some a.0, a.1))
     else Ok (None, text)
@@ -90,11 +91,11 @@ says_much numbers = is_some numbers.amount || is_some numbers.factor || is_some 
 -- the line has ended, or goes on with a comment
 abbrev pub ends_line : List ℕ → Bool
 ends_line [] = true
-ends_line (b ∷ bs) = b == 59
+ends_line (b ∷ bs) = b == semicolon
 
 -- what follows the `;`, or nothing where the line has ended
 abbrev pub comment_at : List ℕ → List ℕ
-comment_at text = if begins text 59 then trimmed (drop 1 text) else []
+comment_at text = if begins text semicolon then trimmed (drop 1 text) else []
 
 abbrev pub is_free : Side → Bool
 is_free Free = true

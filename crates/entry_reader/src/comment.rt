@@ -42,7 +42,7 @@ fn comment_text(content: &[u8]) -> &[u8]
 fn next_comment(text: &[u8]) -> Option<(&[u8], &[u8])>
     ensures cut { MatchOption result (spec.comments_in (contents_of text.now) ≡ [])
         (λ x. spec.comments_in (contents_of text.now) ≡ x.0.now ∷ spec.comments_in (contents_of x.1.now)) }
-    ensures shorter { IfSome result (λ x. length x.1.now < length text.now) }
+    ensures shorter { IfSome result (λ x. length (contents_of x.1.now) < length (contents_of text.now)) }
     ensures utf8 { is_utf8 text.now ≡ true → IfSome result (λ x. (is_utf8 x.0.now ≡ true) × (is_utf8 x.1.now ≡ true)) }
 {
     if text.is_empty() || !is_comment(text) {
@@ -60,7 +60,7 @@ fn next_comment(text: &[u8]) -> Option<(&[u8], &[u8])>
 #[tactic(auto, using(crate::proofs::Fronts::no_remark, crate::proofs::Texts::empty_utf8))]
 pub fn comment_lines(text: &[u8]) -> &[u8]
     ensures same { spec.comments_in (contents_of result.now) ≡ spec.comments_in (contents_of text.now) }
-    ensures shorter { length result.now ≤ length text.now }
+    ensures shorter { length (contents_of result.now) ≤ length (contents_of text.now) }
     ensures utf8 { is_utf8 text.now ≡ true → is_utf8 result.now ≡ true }
 {
     if is_comment(text) { text } else { &[] }
@@ -160,7 +160,7 @@ pub fn read_own_day(
     year: u16,
     line: u64,
 ) -> Result<Option<Day>, ReadFault>
-    requires { line + 1 + length after.now < 2 ^ 64 }
+    requires { line + 1 + length (contents_of after.now) < 2 ^ 64 }
     ensures { Gives (λ day. day) cause_in result (spec.day_in year line (own.now ∷ spec.comments_in (contents_of after.now))) }
 {
     if own.is_empty() && after.is_empty() {
@@ -171,7 +171,7 @@ pub fn read_own_day(
 
 /// The same where there is a comment.
 fn day_of_comments(own: &[u8], after: &[u8], year: u16, line: u64) -> Result<Option<Day>, ReadFault>
-    requires { line + 1 + length after.now < 2 ^ 64 }
+    requires { line + 1 + length (contents_of after.now) < 2 ^ 64 }
     ensures { Gives (λ day. day) cause_in result (spec.day_in year line (own.now ∷ spec.comments_in (contents_of after.now))) }
 {
     if let Some(value) = find_date(own) {

@@ -27,7 +27,7 @@ fn read_lines(
 ) -> Result<Item, ReadFault>
     requires content { is_utf8 content.now ≡ true }
     requires after { is_utf8 after.now ≡ true }
-    requires lines { line + 1 + length after.now < 2 ^ 64 }
+    requires lines { line + 1 + length (contents_of after.now) < 2 ^ 64 }
     ensures { Gives (λ item. item) cause_in result (spec.entry_with context.now line content.now (contents_of after.now)) }
 {
     let head = read_head(context, content, line)?;
@@ -56,7 +56,7 @@ pub fn read_entry(
     line: u64,
 ) -> Result<Item, ReadFault>
     requires utf8 { is_utf8 bytes.now ≡ true }
-    requires lines { line + length bytes.now < 2 ^ 64 }
+    requires lines { line + length (contents_of bytes.now) < 2 ^ 64 }
     ensures { Gives (λ item. item) cause_in result (spec.entry_of context.now line (contents_of bytes.now)) }
 {
     if bytes.is_empty() {

@@ -2,6 +2,7 @@
 ghost use Rattle.std.specs.Prelude.{◌≡◌, ◌==◌, ◌+◌, ◌<◌, ◌≤◌, ◌^◌, ◌∷◌, true, IfOk, length};
 ghost use Rattle.std.specs.List.{count_by};
 ghost use Rattle.std.specs.Str.{is_utf8};
+ghost use Rattle.hl_base.specs.Ascii.{line_feed};
 ghost use Rattle.hl_base.specs.Gives.{Gives};
 ghost use Rattle.entry_reader.specs.Causes.{cause_in};
 ghost use Rattle.entry_reader.specs.Comments.{comments_in};
@@ -121,7 +122,7 @@ fn read_day_in(
     after: &[u8],
     line: u64,
 ) -> Result<Option<Day>, ReadFault>
-    requires { line + 1 + length after.now < 2 ^ 64 }
+    requires { line + 1 + length (contents_of after.now) < 2 ^ 64 }
     ensures { Gives (λ day. day) cause_in result (spec.own_day holder line (own.now ∷ comments_in (contents_of after.now))) }
 {
     match holder {
@@ -143,7 +144,7 @@ fn read_with_factor(
 ) -> Result<(Posting, Option<Boxed<Factor>>), ReadFault>
     requires content { is_utf8 content.now ≡ true }
     requires after { is_utf8 after.now ≡ true }
-    requires lines { line + 1 + length after.now < 2 ^ 64 }
+    requires lines { line + 1 + length (contents_of after.now) < 2 ^ 64 }
     ensures { Gives (λ x. spec.rule_posting_with x.0 x.1) cause_in result
         (spec.rule_posting_of holder context.now line content.now (contents_of after.now)) }
 {
@@ -184,7 +185,7 @@ fn read_posting(
 ) -> Result<Posting, ReadFault>
     requires content { is_utf8 content.now ≡ true }
     requires after { is_utf8 after.now ≡ true }
-    requires lines { line + 1 + length after.now < 2 ^ 64 }
+    requires lines { line + 1 + length (contents_of after.now) < 2 ^ 64 }
     ensures { Gives (λ posting. posting) cause_in result
         (spec.posting_of holder context.now line content.now (contents_of after.now)) }
 {
@@ -202,7 +203,7 @@ fn read_rule_posting(
 ) -> Result<RulePosting, ReadFault>
     requires content { is_utf8 content.now ≡ true }
     requires after { is_utf8 after.now ≡ true }
-    requires lines { line + 1 + length after.now < 2 ^ 64 }
+    requires lines { line + 1 + length (contents_of after.now) < 2 ^ 64 }
     ensures { Gives (λ posting. posting) cause_in result
         (spec.rule_posting_of Auto context.now line content.now (contents_of after.now)) }
 {
@@ -216,7 +217,7 @@ fn read_rule_posting(
 
 /// How many line ends a text has.
 pub fn line_ends(text: &[u8]) -> usize
-    ensures { result ≡ count_by (λ b. b == 10) text.now }
+    ensures { result ≡ count_by (λ b. b == line_feed) text.now }
 {
     text.iter().filter(|b| **b == b'\n').count()
 }
@@ -234,7 +235,7 @@ fn read_each(
     line: u64,
 ) -> Result<List<Posting>, ReadFault>
     requires utf8 { is_utf8 text.now ≡ true }
-    requires lines { line + length text.now < 2 ^ 64 }
+    requires lines { line + length (contents_of text.now) < 2 ^ 64 }
     ensures { Gives (λ postings. postings) cause_in result (spec.each_of (spec.posting_of holder context.now) line (contents_of text.now)) }
 {
     let mut postings = Vec::with_capacity(alloc, USUAL_POSTINGS)?;
@@ -265,7 +266,7 @@ pub fn read_postings(
     line: u64,
 ) -> Result<List<Posting>, ReadFault>
     requires utf8 { is_utf8 text.now ≡ true }
-    requires lines { line + length text.now < 2 ^ 64 }
+    requires lines { line + length (contents_of text.now) < 2 ^ 64 }
     ensures { Gives (λ postings. postings) cause_in result (spec.postings_of context.now year line (contents_of text.now)) }
 {
     read_each(alloc, Holder::Entry(year), context, text, line)
@@ -280,7 +281,7 @@ pub fn read_periodic_postings(
     line: u64,
 ) -> Result<List<Posting>, ReadFault>
     requires utf8 { is_utf8 text.now ≡ true }
-    requires lines { line + length text.now < 2 ^ 64 }
+    requires lines { line + length (contents_of text.now) < 2 ^ 64 }
     ensures { Gives (λ postings. postings) cause_in result (spec.periodic_postings_of context.now line (contents_of text.now)) }
 {
     read_each(alloc, Holder::Periodic, context, text, line)
@@ -296,7 +297,7 @@ pub fn read_rule_postings(
     line: u64,
 ) -> Result<List<RulePosting>, ReadFault>
     requires utf8 { is_utf8 text.now ≡ true }
-    requires lines { line + length text.now < 2 ^ 64 }
+    requires lines { line + length (contents_of text.now) < 2 ^ 64 }
     ensures { Gives (λ postings. postings) cause_in result (spec.rule_postings_of context.now line (contents_of text.now)) }
 {
     let mut postings = Vec::new(alloc);

@@ -1,6 +1,7 @@
 //! Reads what stands behind the account of a posting: an amount or a factor, a cost, and an assertion.
 ghost use Rattle.std.specs.Prelude.{◌≡◌, true, false, IfOk, if◌then◌else◌, Ok};
 ghost use Rattle.std.specs.Str.{is_utf8};
+ghost use Rattle.hl_base.specs.Ascii.{equals};
 ghost use Rattle.hl_base.specs.Gives.{Gives};
 ghost use Rattle.entry_reader.specs.Causes.{cause_in};
 ghost use Rattle.entry_reader.specs.Amounts as amounts;
@@ -182,7 +183,7 @@ fn read_cost<'a>(
 
 /// Whether an assertion, by what follows its first sign, speaks of every symbol.
 fn is_only(text: &[u8]) -> bool
-    requires { begins text.now 61 ≡ true }
+    requires { begins text.now equals ≡ true }
     ensures { result ≡ amounts.is_only text.now }
 {
     begins(past_first(text), b'=')
@@ -190,7 +191,7 @@ fn is_only(text: &[u8]) -> bool
 
 /// What follows the one or two signs `=` of an assertion.
 fn after_equals(text: &[u8]) -> &[u8]
-    requires { begins text.now 61 ≡ true }
+    requires { begins text.now equals ≡ true }
     ensures value { result.now ≡ amounts.after_equals text.now }
     ensures utf8 { is_utf8 text.now ≡ true → is_utf8 result.now ≡ true }
 {
@@ -213,7 +214,7 @@ fn assertion_at<'a>(
     text: &'a [u8],
     line: u64,
 ) -> Result<(Assertion, &'a [u8]), ReadFault>
-    requires sign { begins text.now 61 ≡ true }
+    requires sign { begins text.now equals ≡ true }
     requires utf8 { is_utf8 text.now ≡ true }
     ensures value { Gives (λ x. (x.0, x.1.now)) cause_in result (amounts.assertion_at context.now line text.now) }
     ensures utf8 { IfOk result (λ x. is_utf8 x.1.now ≡ true) }

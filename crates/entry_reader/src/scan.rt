@@ -8,21 +8,10 @@ ghost use Rattle.entry_reader.specs.Heads as heads;
 ghost use Rattle.entry_reader.specs.Lines as spec;
 ghost use Rattle.entry_reader.specs.Symbols as symbols;
 
-use hl_base::{Memory, Text};
+pub use hl_base::is_white;
+use hl_base::{Memory, Text, is_digit, is_punctuation};
 use memchr::memchr;
 use std::alloc::Global;
-
-pub fn is_white(byte: u8) -> bool
-    ensures { result ≡ items.is_white byte }
-{
-    byte == b' ' || byte == b'\t' || byte == b'\r'
-}
-
-fn is_digit(byte: u8) -> bool
-    ensures { result ≡ numbers.is_digit byte }
-{
-    b'0' <= byte && byte <= b'9'
-}
 
 fn is_number_byte(byte: u8) -> bool
     ensures { result ≡ numbers.is_number_byte byte }
@@ -46,12 +35,6 @@ fn is_mark(byte: u8) -> bool
     ensures { result ≡ heads.is_mark byte }
 {
     byte == b'!' || byte == b'*'
-}
-
-fn is_punctuation(byte: u8) -> bool
-    ensures { result ≡ symbols.is_punctuation byte }
-{
-    matches!(byte, 33..=47 | 58..=64 | 91..=96 | 123..=126)
 }
 
 fn is_symbol_mark(byte: u8) -> bool

@@ -1,6 +1,7 @@
 //! The tags of comments.
 ghost use Rattle.std.specs.Prelude.{◌≡◌, ◌++◌, ◌<◌, ◌==◌, true, OnOk, option_map, length, codes};
 ghost use Rattle.std.specs.Str.{is_utf8, bytes_eq};
+ghost use Rattle.hl_base.specs.Ascii.{colon};
 ghost use Rattle.entry_reader.specs.Comments.{date_value};
 ghost use Rattle.entry_reader.specs.Lines.{has_byte};
 ghost use Rattle.entry_reader.specs.Tags as spec;
@@ -45,7 +46,7 @@ fn tag_value(text: &[u8]) -> &[u8]
 /// What follows the tag of the first colon.
 #[tactic(auto, using(crate::proofs::TagSteps::after_shorter))]
 fn after_tag(text: &[u8]) -> &[u8]
-    requires { has_byte 58 text.now ≡ true }
+    requires { has_byte colon text.now ≡ true }
     ensures value { result.now ≡ spec.after_tag text.now }
     ensures shorter { length result.now < length text.now }
     ensures utf8 { is_utf8 text.now ≡ true → is_utf8 result.now ≡ true }

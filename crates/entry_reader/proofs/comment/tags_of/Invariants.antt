@@ -11,4 +11,4 @@ invariant-loop-text l = record {
 }
 
 abbrev pub decreases-loop-text : goal.decreases-loop-text
-decreases-loop-text l = length l.rest
+decreases-loop-text l = length (contents_of l.rest)

@@ -9,7 +9,7 @@ use Rattle.entry_reader.proofs.posting.read_rule_postings.Given as goal
 abbrev pub invariant-loop-rest : goal.invariant-loop-rest
 invariant-loop-rest l = record {
   so_far : with_front l.postings.items (each_of (rule_posting_of holder.Auto l.context) l.next (contents_of l.rest)) ≡ each_of (rule_posting_of holder.Auto l.context) l.fn.line (contents_of l.text);
-  room : l.next + length l.rest ≤ l.fn.line + length l.text;
+  room : l.next + length (contents_of l.rest) ≤ l.fn.line + length (contents_of l.text);
   utf8 : is_utf8 l.rest ≡ true;
 }
 
