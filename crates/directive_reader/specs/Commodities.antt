@@ -1,6 +1,7 @@
 -- `commodity AMOUNT`; `commodity SYMBOL`, with an indented line `format AMOUNT` or nothing; and `D AMOUNT`.
 use Rattle.std.specs.Prelude.{ℕ, ◌+◌, Bool, ◌&&◌, ◌||◌, not, List, [], ◌∷◌, nat_lt, if◌then◌else◌, length, drop, codes, Option, Some, None, Result, Ok, Err}
 use Rattle.std.specs.Str.{bytes_eq}
+use Rattle.hl_base.specs.Ascii.{quote}
 use Rattle.hl_base.specs.Items.{is_white}
 use Rattle.book.specs.declared.amount.Amount.{Amount}
 use Rattle.book.specs.declared.directive.Directive.{Directive}
@@ -19,7 +20,7 @@ use Rattle.directive_reader.specs.Keywords.{has_word, after_word}
 
 -- a symbol stands there, in quotes or without
 abbrev pub is_symbol : List ℕ → Bool
-is_symbol text = nat_lt 0 (length (symbol_name text)) && (not (begins text 34) || has_byte 34 (drop 1 text))
+is_symbol text = nat_lt 0 (length (symbol_name text)) && (not (begins text quote) || has_byte quote (drop 1 text))
 
 -- and nothing but a comment follows it on its line
 abbrev pub is_symbol_alone : List ℕ → Bool

@@ -1,5 +1,6 @@
 -- Directives of names, of the year and of the decimal mark.
 use Rattle.std.specs.Prelude.{ℕ, ◌+◌, ◌-◌, ◌*◌, ◌&&◌, List, ◌∷◌, nat_lt, if◌then◌else◌, length, take, drop, Option, Some, None, Result, Ok, Err}
+use Rattle.hl_base.specs.Ascii.{comma, digit_zero, dot, equals}
 use Rattle.hl_num.specs.Reading.{is_digit}
 use Rattle.book.specs.declared.directive.Directive.{Directive}
 use Rattle.book.specs.declared.directive.Directive.TheVariants as directive
@@ -47,15 +48,15 @@ end_aliases_of line text after = closing line text after >>= λ done. Ok directi
 
 -- what stands before the first `=`, and what after it, up to a comment
 abbrev pub old_name : List ℕ → List ℕ
-old_name text = trimmed (before_byte 61 (before_comment text))
+old_name text = trimmed (before_byte equals (before_comment text))
 
 abbrev pub new_name : List ℕ → List ℕ
-new_name text = trimmed (after_byte 61 (before_comment text))
+new_name text = trimmed (after_byte equals (before_comment text))
 
 -- `alias OLD=NEW`; both are plain text
 unfoldable pub alias_of : ℕ → List ℕ → List (List ℕ) → Result Directive Fault
 alias_of line text after =
-    if has_byte 61 (before_comment text) && nat_lt 0 (length (old_name text))
+    if has_byte equals (before_comment text) && nat_lt 0 (length (old_name text))
     then (comments_only (line + 1) after >>= λ done. Ok (directive.Alias (old_name text) (new_name text)))
     else Err (fault_at line cause.Form)
 
@@ -80,7 +81,7 @@ tag_of line text after = do
 
 -- what a digit counts
 abbrev pub digit_of : ℕ → Option ℕ
-digit_of b = if is_digit b then Some (b - 48) else None
+digit_of b = if is_digit b then Some (b - digit_zero) else None
 
 -- the number of four digits
 abbrev pub number_of : Option ℕ → Option ℕ → Option ℕ → Option ℕ → Option ℕ
@@ -107,7 +108,7 @@ year_of line text after = year_with line (four_digits text) (after_digits text) 
 
 -- the mark that a text begins with, `.` or `,`
 abbrev pub mark_at : List ℕ → Option ℕ
-mark_at text = if begins text 46 then Some 46 else if begins text 44 then Some 44 else None
+mark_at text = if begins text dot then Some dot else if begins text comma then Some comma else None
 
 abbrev pub decimal_mark_with : ℕ → Option ℕ → List ℕ → List (List ℕ) → Result Directive Fault
 decimal_mark_with line None rest after = Err (fault_at line cause.Form)

@@ -1,5 +1,6 @@
 -- How the lines of a directive end: with a `;` comment on its line, and indented comment lines after it.
 use Rattle.std.specs.Prelude.{ℕ, ◌+◌, List, [], ◌∷◌, if◌then◌else◌, Result, Ok, Err}
+use Rattle.hl_base.specs.Ascii.{semicolon}
 use Rattle.book.specs.declared.fault.Fault.{Fault}
 use Rattle.book.specs.declared.fault.Cause.TheVariants as cause
 use Rattle.entry_reader.specs.Causes.{fault_at}
@@ -22,4 +23,4 @@ ending_at line text = if ends_line text then Ok (comment_at text) else Err (faul
 
 -- what a line says before its comment
 abbrev pub before_comment : List ℕ → List ℕ
-before_comment text = before_byte 59 text
+before_comment text = before_byte semicolon text

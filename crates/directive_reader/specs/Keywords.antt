@@ -1,6 +1,7 @@
 -- The words that the lines of directives and rules begin with.
 use Rattle.std.specs.Prelude.{ℕ, Bool, ◌&&◌, ◌||◌, List, nat_eq, if◌then◌else◌, length, drop, codes}
 use Rattle.std.specs.List.{starts_with}
+use Rattle.hl_base.specs.Ascii.{equals, tilde}
 use Rattle.hl_base.specs.Items.{begins_entry}
 use Rattle.entry_reader.specs.Heads.{ends_word}
 use Rattle.entry_reader.specs.Lines.{begins, after_white}
@@ -61,8 +62,8 @@ changing_word text =
 unfoldable pub keyword_at : List ℕ → Keyword × List ℕ
 keyword_at text =
     if has_word (codes "P") text then (keywords.Price, after_word (codes "P") text)
-    else if begins text 126 then (keywords.Periodic, behind text)
-    else if begins text 61 then (keywords.Auto, behind text)
+    else if begins text tilde then (keywords.Periodic, behind text)
+    else if begins text equals then (keywords.Auto, behind text)
     else if has_word (codes "D") text then (keywords.Default, after_word (codes "D") text)
     else if is_year_letter text then (keywords.Year, behind text)
     else changing_word text

@@ -1,6 +1,7 @@
 -- `P DATE [H:M[:S]] SYMBOL AMOUNT`.
 use Rattle.std.specs.Prelude.{ℕ, ◌+◌, ◌-◌, ◌*◌, Bool, false, ◌&&◌, ◌||◌, not, List, [], ◌∷◌, nat_le, if◌then◌else◌, drop, Result, Ok, Err}
 use Rattle.std.specs.List.{prefix_len, take_while}
+use Rattle.hl_base.specs.Ascii.{colon, digit_zero}
 use Rattle.hl_base.specs.Items.{is_white}
 use Rattle.hl_num.specs.Reading.{is_digit}
 use Rattle.book.specs.declared.directive.Price.{Price}
@@ -20,16 +21,16 @@ use Rattle.directive_reader.specs.Endings.{closing}
 abbrev pub is_part : ℕ → List ℕ → Bool
 is_part last [] = false
 is_part last (a ∷ []) = is_digit a
-is_part last (a ∷ b ∷ []) = is_digit a && is_digit b && nat_le (10 * (a - 48) + (b - 48)) last
+is_part last (a ∷ b ∷ []) = is_digit a && is_digit b && nat_le (10 * (a - digit_zero) + (b - digit_zero)) last
 is_part last (a ∷ b ∷ c ∷ rest) = false
 
 -- a minute, and perhaps a second after a colon
 abbrev pub is_after_hour : List ℕ → Bool
-is_after_hour text = is_part 59 (before_byte 58 text) && (not (has_byte 58 text) || is_part 59 (after_byte 58 text))
+is_after_hour text = is_part 59 (before_byte colon text) && (not (has_byte colon text) || is_part 59 (after_byte colon text))
 
 -- a time of day
 unfoldable pub is_time : List ℕ → Bool
-is_time word = has_byte 58 word && is_part 23 (before_byte 58 word) && is_after_hour (after_byte 58 word)
+is_time word = has_byte colon word && is_part 23 (before_byte colon word) && is_after_hour (after_byte colon word)
 
 -- the bytes of a word
 abbrev pub is_inked : ℕ → Bool

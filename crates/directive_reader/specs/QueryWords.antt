@@ -1,6 +1,7 @@
 -- The words of a query, as they stand in a rule.
 use Rattle.std.specs.Prelude.{ℕ, Bool, false, ◌&&◌, ◌||◌, not, List, [], ◌∷◌, ◌==◌, nat_lt, if◌then◌else◌, length}
 use Rattle.std.specs.List.{filter}
+use Rattle.hl_base.specs.Ascii.{quote}
 use Rattle.hl_base.specs.Items.{is_white}
 use Rattle.hl_base.specs.Lines.{onto}
 use Rattle.entry_reader.specs.Lines.{has_byte}
@@ -10,7 +11,7 @@ use Rattle.entry_reader.specs.Lines.{has_byte}
 unfoldable pub words_from : Bool → List ℕ → List (List ℕ)
 words_from inside [] = [] ∷ []
 words_from inside (b ∷ bs) =
-    if (b == 34) && (inside || has_byte 34 bs) then words_from (not inside) bs
+    if (b == quote) && (inside || has_byte quote bs) then words_from (not inside) bs
     else if not inside && is_white b then [] ∷ words_from false bs
     else onto b (words_from inside bs)
 
@@ -23,7 +24,7 @@ query_words text = filled (words_from false text)
 
 -- a byte that goes on with a word outside quotes
 abbrev pub is_plain : ℕ → Bool
-is_plain b = not (is_white b || (b == 34))
+is_plain b = not (is_white b || (b == quote))
 
 -- some bytes before the first of some words
 abbrev pub joins : List ℕ → List (List ℕ) → List (List ℕ)

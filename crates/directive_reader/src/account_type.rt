@@ -118,7 +118,7 @@ pub fn read_letter(
 ) -> Result<Option<u8>, ReadFault>
     requires own { is_utf8 own.now ≡ true }
     requires after { is_utf8 lines.now ≡ true }
-    requires room { line + 1 + length lines.now < 2 ^ 64 }
+    requires room { line + 1 + length (contents_of lines.now) < 2 ^ 64 }
     ensures { Gives (λ x. x) cause_in result (spec.letter_in line (own.now ∷ comments.comments_in (contents_of lines.now))) }
 {
     if let Some(letter) = said_in(alloc, own)? {

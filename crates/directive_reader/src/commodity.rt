@@ -88,7 +88,7 @@ fn find_format(
     line: u64,
 ) -> Result<Option<Amount>, ReadFault>
     requires utf8 { is_utf8 lines.now ≡ true }
-    requires room { line + length lines.now < 2 ^ 64 }
+    requires room { line + length (contents_of lines.now) < 2 ^ 64 }
     ensures { Gives (λ a. a) cause_in result (spec.format_in context.now symbol.now line (contents_of lines.now)) }
 {
     let mut rest = lines;
@@ -117,7 +117,7 @@ fn read_symbol_directive(
 ) -> Result<Directive, ReadFault>
     requires text { is_utf8 text.now ≡ true }
     requires after { is_utf8 lines.now ≡ true }
-    requires room { line + 1 + length lines.now < 2 ^ 64 }
+    requires room { line + 1 + length (contents_of lines.now) < 2 ^ 64 }
     ensures { Gives (λ d. d) cause_in result (spec.symbol_directive context.now line text.now (contents_of lines.now)) }
 {
     let (symbol, _) = cut_name(text);
@@ -135,7 +135,7 @@ fn read_amount_directive(
     line: u64,
 ) -> Result<Directive, ReadFault>
     requires text { is_utf8 text.now ≡ true }
-    requires room { line + 1 + length lines.now < 2 ^ 64 }
+    requires room { line + 1 + length (contents_of lines.now) < 2 ^ 64 }
     ensures { Gives (λ d. d) cause_in result (spec.amount_directive context.now line text.now (contents_of lines.now)) }
 {
     let (amount, rest) = amount_at(alloc, context, text, line)?;
@@ -154,7 +154,7 @@ pub fn read_commodity(
 ) -> Result<Directive, ReadFault>
     requires text { is_utf8 text.now ≡ true }
     requires after { is_utf8 lines.now ≡ true }
-    requires room { line + 1 + length lines.now < 2 ^ 64 }
+    requires room { line + 1 + length (contents_of lines.now) < 2 ^ 64 }
     ensures { Gives (λ d. d) cause_in result (spec.commodity_of context.now line text.now (contents_of lines.now)) }
 {
     if is_symbol_alone(text) {
@@ -174,7 +174,7 @@ pub fn read_default(
     line: u64,
 ) -> Result<Directive, ReadFault>
     requires text { is_utf8 text.now ≡ true }
-    requires room { line + 1 + length lines.now < 2 ^ 64 }
+    requires room { line + 1 + length (contents_of lines.now) < 2 ^ 64 }
     ensures { Gives (λ d. d) cause_in result (spec.default_of context.now line text.now (contents_of lines.now)) }
 {
     let (amount, rest) = amount_at(alloc, context, text, line)?;

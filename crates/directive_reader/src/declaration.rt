@@ -36,7 +36,7 @@ pub fn read_account_directive(
 ) -> Result<Directive, ReadFault>
     requires text { is_utf8 text.now ≡ true }
     requires after { is_utf8 lines.now ≡ true }
-    requires room { line + 1 + length lines.now < 2 ^ 64 }
+    requires room { line + 1 + length (contents_of lines.now) < 2 ^ 64 }
     ensures { Gives (λ d. d) cause_in result (spec.account_of context.now line text.now (contents_of lines.now)) }
 {
     let (written, rest) = cut_name(text);
@@ -56,7 +56,7 @@ pub fn read_apply(
     line: u64,
 ) -> Result<Directive, ReadFault>
     requires text { is_utf8 text.now ≡ true }
-    requires room { line + 1 + length lines.now < 2 ^ 64 }
+    requires room { line + 1 + length (contents_of lines.now) < 2 ^ 64 }
     ensures { Gives (λ d. d) cause_in result (spec.apply_of line text.now (contents_of lines.now)) }
 {
     let (name, rest) = cut_name(text);
@@ -75,7 +75,7 @@ pub fn read_end_apply(
     lines: &[u8],
     line: u64,
 ) -> Result<Directive, ReadFault>
-    requires room { line + 1 + length lines.now < 2 ^ 64 }
+    requires room { line + 1 + length (contents_of lines.now) < 2 ^ 64 }
     ensures { Gives (λ d. d) cause_in result (spec.end_apply_of context.now line text.now (contents_of lines.now)) }
 {
     if context.applied_count() == 0 {
@@ -88,7 +88,7 @@ pub fn read_end_apply(
 /// `end aliases`.
 #[tactic(auto, unfolding(crate::specs::Declarations::end_aliases_of))]
 pub fn read_end_aliases(text: &[u8], lines: &[u8], line: u64) -> Result<Directive, ReadFault>
-    requires room { line + 1 + length lines.now < 2 ^ 64 }
+    requires room { line + 1 + length (contents_of lines.now) < 2 ^ 64 }
     ensures { Gives (λ d. d) cause_in result (spec.end_aliases_of line text.now (contents_of lines.now)) }
 {
     check_closing(text, lines, line)?;
@@ -104,7 +104,7 @@ pub fn read_alias(
     line: u64,
 ) -> Result<Directive, ReadFault>
     requires text { is_utf8 text.now ≡ true }
-    requires room { line + 1 + length lines.now < 2 ^ 64 }
+    requires room { line + 1 + length (contents_of lines.now) < 2 ^ 64 }
     ensures { Gives (λ d. d) cause_in result (spec.alias_of line text.now (contents_of lines.now)) }
 {
     let names = before_comment(text);
@@ -141,7 +141,7 @@ pub fn read_payee(
     line: u64,
 ) -> Result<Directive, ReadFault>
     requires text { is_utf8 text.now ≡ true }
-    requires room { line + 1 + length lines.now < 2 ^ 64 }
+    requires room { line + 1 + length (contents_of lines.now) < 2 ^ 64 }
     ensures { Gives (λ d. d) cause_in result (spec.payee_of line text.now (contents_of lines.now)) }
 {
     let name = read_label(text, line)?;
@@ -153,7 +153,7 @@ pub fn read_payee(
 #[tactic(auto, unfolding(crate::specs::Declarations::tag_of))]
 pub fn read_tag(alloc: Global, text: &[u8], lines: &[u8], line: u64) -> Result<Directive, ReadFault>
     requires text { is_utf8 text.now ≡ true }
-    requires room { line + 1 + length lines.now < 2 ^ 64 }
+    requires room { line + 1 + length (contents_of lines.now) < 2 ^ 64 }
     ensures { Gives (λ d. d) cause_in result (spec.tag_of line text.now (contents_of lines.now)) }
 {
     let name = read_label(text, line)?;
@@ -187,7 +187,7 @@ fn four_digits(text: &[u8]) -> Option<u16>
 /// `Y YEAR`, `YYEAR` and `year YEAR`.
 #[tactic(auto, unfolding(crate::specs::Declarations::year_of))]
 pub fn read_year(text: &[u8], lines: &[u8], line: u64) -> Result<Directive, ReadFault>
-    requires room { line + 1 + length lines.now < 2 ^ 64 }
+    requires room { line + 1 + length (contents_of lines.now) < 2 ^ 64 }
     ensures { Gives (λ d. d) cause_in result (spec.year_of line text.now (contents_of lines.now)) }
 {
     let Some(year) = four_digits(text) else {
@@ -224,7 +224,7 @@ fn mark_at(text: &[u8]) -> Option<u8>
 /// `decimal-mark .` and `decimal-mark ,`.
 #[tactic(auto, unfolding(crate::specs::Declarations::decimal_mark_of))]
 pub fn read_decimal_mark(text: &[u8], lines: &[u8], line: u64) -> Result<Directive, ReadFault>
-    requires room { line + 1 + length lines.now < 2 ^ 64 }
+    requires room { line + 1 + length (contents_of lines.now) < 2 ^ 64 }
     ensures { Gives (λ d. d) cause_in result (spec.decimal_mark_of line text.now (contents_of lines.now)) }
 {
     let Some(mark) = mark_at(text) else {

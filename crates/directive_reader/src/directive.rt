@@ -31,7 +31,7 @@ fn read_directive(
 ) -> Result<Directive, ReadFault>
     requires text { is_utf8 text.now ≡ true }
     requires after { is_utf8 lines.now ≡ true }
-    requires room { line + 1 + length lines.now < 2 ^ 64 }
+    requires room { line + 1 + length (contents_of lines.now) < 2 ^ 64 }
     ensures { Gives (λ d. d) cause_in result (spec.directive_by keyword context.now line text.now (contents_of lines.now)) }
 {
     match keyword {
@@ -63,7 +63,7 @@ fn read_by(
 ) -> Result<Item, ReadFault>
     requires text { is_utf8 text.now ≡ true }
     requires after { is_utf8 lines.now ≡ true }
-    requires room { line + 1 + length lines.now < 2 ^ 64 }
+    requires room { line + 1 + length (contents_of lines.now) < 2 ^ 64 }
     ensures { Gives (λ item. item) cause_in result (spec.item_by keyword context.now line text.now (contents_of lines.now)) }
 {
     match keyword {
@@ -85,7 +85,7 @@ fn read_with(
 ) -> Result<Item, ReadFault>
     requires content { is_utf8 content.now ≡ true }
     requires after { is_utf8 lines.now ≡ true }
-    requires room { line + 1 + length lines.now < 2 ^ 64 }
+    requires room { line + 1 + length (contents_of lines.now) < 2 ^ 64 }
     ensures { Gives (λ item. item) cause_in result (spec.item_with context.now line content.now (contents_of lines.now)) }
 {
     let (keyword, text) = cut_keyword(content);
@@ -103,7 +103,7 @@ pub fn read_head_item(
     line: u64,
 ) -> Result<Item, ReadFault>
     requires utf8 { is_utf8 bytes.now ≡ true }
-    requires lines { line + length bytes.now < 2 ^ 64 }
+    requires lines { line + length (contents_of bytes.now) < 2 ^ 64 }
     ensures { Gives (λ item. item) cause_in result (spec.head_item context.now line (contents_of bytes.now)) }
 {
     if bytes.is_empty() {

@@ -48,7 +48,7 @@ pub fn read_ending(text: &[u8], line: u64) -> Result<&[u8], ReadFault>
 /// Whether all of some lines are comments, of which the first is the `line`-th; else the fault of the first that is none.
 #[tactic(auto, unfolding(crate::specs::Endings::comments_only))]
 pub fn check_comments(after: &[u8], line: u64) -> Result<(), ReadFault>
-    requires { line + length after.now < 2 ^ 64 }
+    requires { line + length (contents_of after.now) < 2 ^ 64 }
     ensures { Gives (λ done. done) cause_in result (spec.comments_only line (contents_of after.now)) }
 {
     let mut rest = after;
@@ -67,7 +67,7 @@ pub fn check_comments(after: &[u8], line: u64) -> Result<(), ReadFault>
 /// Whether nothing but comments follows on a line and on those after it; else the fault of the first that does.
 #[tactic(auto, unfolding(crate::specs::Endings::closing))]
 pub fn check_closing(text: &[u8], after: &[u8], line: u64) -> Result<(), ReadFault>
-    requires { line + 1 + length after.now < 2 ^ 64 }
+    requires { line + 1 + length (contents_of after.now) < 2 ^ 64 }
     ensures { Gives (λ done. done) cause_in result (spec.closing line text.now (contents_of after.now)) }
 {
     if ends_line(text) {

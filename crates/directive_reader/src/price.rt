@@ -18,6 +18,7 @@ use entry_reader::fault::fault_at;
 use entry_reader::scan::{after, after_white, before, cut_date, has, is_white, text_of};
 use entry_reader::symbol::cut_name;
 use entry_reader::{Context, ReadFault};
+use hl_base::is_digit;
 use hl_time::{Day, read_date};
 use std::alloc::Global;
 
@@ -39,12 +40,6 @@ fn read_day(text: &[u8], year: Option<u16>, line: u64) -> Result<(Day, &[u8]), R
             }
         }
     }
-}
-
-fn is_digit(byte: u8) -> bool
-    ensures { result ≡ is_digit byte }
-{
-    b'0' <= byte && byte <= b'9'
 }
 
 /// Whether a text is one or two digits of a number that isn't above the last one.
@@ -133,7 +128,7 @@ pub fn read_price(
     line: u64,
 ) -> Result<Price, ReadFault>
     requires text { is_utf8 text.now ≡ true }
-    requires room { line + 1 + length lines.now < 2 ^ 64 }
+    requires room { line + 1 + length (contents_of lines.now) < 2 ^ 64 }
     ensures { Gives (λ p. p) cause_in result (spec.price_of context.now line text.now (contents_of lines.now)) }
 {
     let (day, rest) = read_day(text, context.year(), line)?;

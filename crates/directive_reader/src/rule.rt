@@ -30,7 +30,7 @@ pub fn read_auto(
 ) -> Result<AutoRule, ReadFault>
     requires text { is_utf8 text.now ≡ true }
     requires after { is_utf8 lines.now ≡ true }
-    requires room { line + 1 + length lines.now < 2 ^ 64 }
+    requires room { line + 1 + length (contents_of lines.now) < 2 ^ 64 }
     ensures { Gives (λ r. r) cause_in result (spec.auto_of context.now line text.now (contents_of lines.now)) }
 {
     let postings = read_rule_postings(alloc, context, lines, line + 1)?;
@@ -112,7 +112,7 @@ pub fn read_periodic(
 ) -> Result<PeriodicRule, ReadFault>
     requires text { is_utf8 text.now ≡ true }
     requires after { is_utf8 lines.now ≡ true }
-    requires room { line + 1 + length lines.now < 2 ^ 64 }
+    requires room { line + 1 + length (contents_of lines.now) < 2 ^ 64 }
     ensures { Gives (λ r. r) cause_in result (spec.periodic_of context.now line text.now (contents_of lines.now)) }
 {
     let (written, rest) = cut_period(before_comment(text));

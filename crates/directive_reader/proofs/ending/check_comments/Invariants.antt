@@ -6,7 +6,7 @@ use Rattle.directive_reader.proofs.ending.check_comments.Given as goal
 abbrev pub invariant-loop-rest : goal.invariant-loop-rest
 invariant-loop-rest l = record {
   so_far : comments_only l.next (contents_of l.rest) ≡ comments_only l.fn.line (contents_of l.after);
-  room : l.next + length l.rest ≤ l.fn.line + length l.after;
+  room : l.next + length (contents_of l.rest) ≤ l.fn.line + length (contents_of l.after);
 }
 
 abbrev pub decreases-loop-rest : goal.decreases-loop-rest
