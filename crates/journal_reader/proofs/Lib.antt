@@ -1,3 +1,3 @@
 mod Digits
 mod LineEnds
-mod Whole
+pub mod Whole

@@ -13,6 +13,7 @@ use Rattle.entry_reader.specs.declared.fault.ReadFault.{ReadFault}
 use Rattle.entry_reader.specs.declared.fault.ReadFault.TheVariants as faults
 use Rattle.entry_reader.specs.Causes.{◌>>=◌, cause_in}
 use Rattle.entry_reader.specs.Contexts.{Context, context_of}
+use Rattle.entry_reader.proofs.Lines.{few_within}
 use Rattle.journal_reader.specs.Whole.{AreWithin}
 use Rattle.journal_reader.specs.Items.{reading, reading_from}
 
@@ -114,4 +115,4 @@ still_bound pieces i d text bytes old now lt h e =
 -- pieces that lie in a text that isn't too long
 pub within : (text : List ℕ) (pieces : List Piece) → length text + 1 < 2 ^ 64 → AllByRecursion (IsWithin (length text)) pieces → AreWithin text pieces
 within text [] short h = tt
-within text (p ∷ ps) short h = ((h.0.bytes, omega (arith, h.0.lines)), within text ps short h.1)
+within text (p ∷ ps) short h = ((h.0.bytes, omega (arith, h.0.lines, few_within p.len (drop p.at text))), within text ps short h.1)

@@ -2,11 +2,13 @@
 use Rattle.std.specs.Prelude.{ℕ, ◌+◌, ◌==◌, List, [], ◌∷◌, ◌++◌, nat_lt, Option, Result, Ok, Err, if◌then◌else◌, length, take, drop, count_by}
 use Rattle.std.specs.Str.{is_utf8}
 use Rattle.std.specs.Str.Lossy.{utf8_valid_len}
+use Rattle.hl_base.specs.Ascii.{line_feed}
 use Rattle.hl_base.specs.Lines.{first_line}
 use Rattle.hl_base.specs.Items.{kind_of, items_of}
 use Rattle.hl_base.specs.declared.items.Kind.{Kind}
 use Rattle.hl_base.specs.declared.items.Kind.TheVariants as kinds
 use Rattle.hl_base.specs.declared.items.Piece.{Piece}
+use Rattle.hl_base.specs.Limits.{entry_limit}
 use Rattle.book.specs.declared.item.Item.{Item}
 use Rattle.book.specs.declared.item.Item.TheVariants as item
 use Rattle.book.specs.declared.item.Placed.{Placed}
@@ -17,10 +19,6 @@ use Rattle.entry_reader.specs.Contexts.{Context, context_of}
 use Rattle.entry_reader.specs.Lines.{contents_of}
 use Rattle.entry_reader.specs.Entries.{entry_of}
 use Rattle.directive_reader.specs.Directives.{head_item}
-
--- the most bytes that an entry or a directive may have
-abbrev pub entry_limit : ℕ
-entry_limit = 65536
 
 -- what a piece of a kind says, in UTF-8
 abbrev pub said_by : Kind → Context → ℕ → List ℕ → Result Item Fault
@@ -34,7 +32,7 @@ said_by kinds.Head context line bytes =
 
 -- the line of the first byte that isn't UTF-8
 abbrev pub broken_line : ℕ → List ℕ → ℕ
-broken_line line bytes = line + count_by (λ b. b == 10) (take (utf8_valid_len bytes) bytes)
+broken_line line bytes = line + count_by (λ b. b == line_feed) (take (utf8_valid_len bytes) bytes)
 
 -- What the bytes of a piece say, of which the first is in the line-th line. Bytes that aren't UTF-8 come before a piece
 -- that is too long, and that before all else.

@@ -9,6 +9,7 @@ ghost use Rattle.book.specs.declared.fault.Cause.TheVariants.{Encoding};
 ghost use Rattle.entry_reader.specs.declared.fault.ReadFault.TheVariants.{Read};
 ghost use Rattle.entry_reader.specs.Causes as causes;
 ghost use Rattle.entry_reader.specs.Causes.{cause_in};
+ghost use Rattle.entry_reader.specs.Lines.{contents_of};
 ghost use Rattle.journal_reader.specs.Items as spec;
 
 use book::{Cause, Item};
@@ -19,17 +20,13 @@ use entry_reader::posting::line_ends;
 use entry_reader::scan::begins_digit;
 use entry_reader::{Context, ReadFault};
 use hl_base::line::{kind_of, line_at};
-use hl_base::{Kind, Steps};
+use hl_base::{ENTRY_LIMIT, Kind, Steps};
 use std::alloc::Global;
 use std::sync::ledger::Ledger;
 
-/// The most bytes that an entry or a directive may have.
-const ENTRY_LIMIT: usize = 65_536;
-
 /// The fault of bytes that aren't UTF-8, in the line of the first of them.
-#[tactic(auto, using(crate::proofs::LineEnds::few_ends))]
 fn check_utf8(bytes: &[u8], line: u64) -> Result<(), ReadFault>
-    requires { line + length bytes.now < 2 ^ 64 }
+    requires { line + length (contents_of bytes.now) < 2 ^ 64 }
     ensures ok { OnOk result (is_utf8 bytes.now ≡ true) }
     ensures broken { IfErr result (λ e. e ≡ Read (causes.fault_at (spec.broken_line line bytes.now) Encoding)) }
     ensures none { IfErr result (λ e. is_utf8 bytes.now ≡ false) }
@@ -61,7 +58,7 @@ fn kind_at(bytes: &[u8]) -> Kind
 /// What a piece in UTF-8 says.
 fn read_piece(alloc: Global, bytes: &[u8], context: &Context, line: u64) -> Result<Item, ReadFault>
     requires utf8 { is_utf8 bytes.now ≡ true }
-    requires lines { line + length bytes.now < 2 ^ 64 }
+    requires lines { line + length (contents_of bytes.now) < 2 ^ 64 }
     ensures { Gives (λ item. item) cause_in result (spec.said_by (items.kind_of (first_line bytes.now)) context.now line bytes.now) }
 {
     match kind_at(bytes) {
@@ -96,7 +93,7 @@ pub fn read_uncounted(
     context: &Context,
     line: u64,
 ) -> Result<Item, ReadFault>
-    requires { line + length bytes.now < 2 ^ 64 }
+    requires { line + length (contents_of bytes.now) < 2 ^ 64 }
     ensures { Gives (λ item. item) cause_in result (spec.reading context.now line bytes.now) }
 {
     check_utf8(bytes, line)?;
@@ -111,7 +108,7 @@ pub fn read_item<L: Ledger>(
     line: u64,
     steps: &mut Steps<L>,
 ) -> Result<Item, ReadFault>
-    requires { line + length bytes.now < 2 ^ 64 }
+    requires { line + length (contents_of bytes.now) < 2 ^ 64 }
     ensures value { Gives (λ item. item) cause_in result (spec.reading context.now line bytes.now) }
     ensures steps { steps.new ≡ record steps.old { bytes_read = steps.old.bytes_read + length bytes.now } }
 {
