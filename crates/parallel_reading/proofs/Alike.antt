@@ -8,6 +8,7 @@ use Rattle.hl_base.specs.Lines.{first_line}
 use Rattle.hl_base.specs.declared.items.Kind.{Kind}
 use Rattle.hl_base.specs.declared.items.Kind.TheVariants as kinds
 use Rattle.hl_base.specs.declared.items.Piece.{Piece}
+use Rattle.hl_base.specs.Limits.{entry_limit}
 use Rattle.hl_time.specs.Calendar.{year_of}
 use Rattle.book.specs.declared.directive.Directive.{Directive}
 use Rattle.book.specs.declared.fault.Fault.{Fault}
@@ -24,7 +25,7 @@ use Rattle.entry_reader.specs.Entries.{entry_of, entry_with, txn_from}
 use Rattle.entry_reader.specs.Heads.{head_of}
 use Rattle.entry_reader.specs.Lines.{contents_of}
 use Rattle.entry_reader.specs.Postings.{postings_of}
-use Rattle.journal_reader.specs.Items.{broken_line, entry_limit, reading, reading_from, said_by}
+use Rattle.journal_reader.specs.Items.{broken_line, reading, reading_from, said_by}
 use Rattle.parallel_reading.proofs.Runs.{Told, both_nothing, first_kept, with_first}
 use Rattle.parallel_reading.specs.Runs.{both, bytes_of, has_head, is_head, is_head_kind, items_at, read_alike}
 

@@ -14,6 +14,7 @@ use Rattle.entry_reader.specs.declared.fault.ReadFault.{ReadFault}
 use Rattle.entry_reader.specs.declared.fault.ReadFault.TheVariants as faults
 use Rattle.entry_reader.specs.Causes.{◌>>=◌, cause_in}
 use Rattle.entry_reader.specs.Contexts.{Context}
+use Rattle.entry_reader.proofs.Lines.{few_within}
 use Rattle.journal_reader.specs.Items.{reading}
 use Rattle.journal_reader.specs.Whole.{AreWithin}
 use Rattle.parallel_reading.specs.Runs.{both, bytes_of, first_part, has_head, is_head, items_at, read_alike, second_part}
@@ -193,7 +194,7 @@ both_read items more all first second h k e = ap (λ (r : Told). both r second) 
 -- pieces that lie in a text that isn't too long
 pub within : (text : List ℕ) (pieces : List Piece) → length text + 1 < 2 ^ 64 → AllByRecursion (IsWithin (length text)) pieces → AreWithin text pieces
 within text [] short h = tt
-within text (p ∷ ps) short h = ((h.0.bytes, omega (arith, h.0.lines)), within text ps short h.1)
+within text (p ∷ ps) short h = ((h.0.bytes, omega (arith, h.0.lines, few_within p.len (drop p.at text))), within text ps short h.1)
 
 -- ---- the bytes of two runs
 

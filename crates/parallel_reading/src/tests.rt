@@ -39,7 +39,6 @@ fn told(read: &Result<Items, ReadFault>) -> (usize, u64) {
 }
 
 /// What is told of a text of at most a megabyte.
-#[tactic(auto, using(crate::proofs::Runs::within))]
 fn read_whole<R: Threads + Sync, L: Ledger>(
     rt: &R,
     alloc: Global,
