@@ -4,9 +4,9 @@ use Rattle.time_logs.specs.declared.faults.LogFault.{LogFault}
 use Rattle.time_logs.specs.declared.faults.LogFault.TheVariants as faults
 
 -- the greatest number
-abbrev pub entry_limit : ℕ
-entry_limit = 100000
+abbrev pub most_entries : ℕ
+most_entries = 100000
 
 -- what is made of a number of transactions, where they aren't too many
 abbrev pub limited : {A : Type 0} → ℕ → A → Result A LogFault
-limited count made = if nat_lt entry_limit count then Err (faults.TooMany count entry_limit) else Ok made
+limited count made = if nat_lt most_entries count then Err (faults.TooMany count most_entries) else Ok made

@@ -4,6 +4,7 @@ ghost use Rattle.hl_time.specs.Calendar.{IsDay};
 ghost use Rattle.time_logs.specs.Bounds.{IsMoment};
 ghost use Rattle.time_logs.specs.Moments as spec;
 
+use hl_base::is_digit;
 use hl_time::{Day, read_date};
 use std::marker::Model;
 
@@ -45,12 +46,6 @@ impl Moment {
     {
         self.second
     }
-}
-
-pub fn is_digit(byte: u8) -> bool
-    ensures { result ≡ spec.is_digit byte }
-{
-    b'0' <= byte && byte <= b'9'
 }
 
 /// The number of two digits.

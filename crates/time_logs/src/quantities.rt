@@ -6,8 +6,8 @@ ghost use Rattle.time_logs.specs.Days.{hours_of};
 ghost use Rattle.time_logs.specs.Quantities as spec;
 
 use crate::amounts::hours_of;
-use crate::moments::is_digit;
 use entry_reader::scan::{after, before};
+use hl_base::{are_digits, is_digit};
 use hl_num::Dec;
 
 /// How many dots there are.
@@ -30,13 +30,6 @@ fn is_dots(text: &[u8]) -> bool
     ensures { result ≡ spec.is_dots text.now }
 {
     are_dots(text) && 1 <= dots_in(text)
-}
-
-/// Whether a text is digits alone.
-fn are_digits(text: &[u8]) -> bool
-    ensures { result ≡ list_all spec.is_digit text.now }
-{
-    text.iter().all(|byte| is_digit(*byte))
 }
 
 /// Whether a text is 1 to 12 digits, and nothing else.
