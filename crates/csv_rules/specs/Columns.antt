@@ -1,5 +1,6 @@
 -- The names of columns, and the fields that they assign.
 use Rattle.std.specs.Prelude.{ℕ, Bool, true, ◌+◌, ◌==◌, List, [], ◌∷◌, ◌++◌, map, Option, Some, None, if◌then◌else◌}
+use Rattle.hl_base.specs.Ascii.{comma}
 use Rattle.hl_base.specs.Lines.{onto}
 use Rattle.entry_reader.specs.Lines.{trimmed}
 use Rattle.csv_rules.specs.Words.{field_named}
@@ -15,7 +16,7 @@ pieces byte (b ∷ bs) = if b == byte then [] ∷ pieces byte bs else onto b (pi
 
 -- the names between commas, without the white space around them
 abbrev pub names_of : List ℕ → List (List ℕ)
-names_of text = map trimmed (pieces 44 text)
+names_of text = map trimmed (pieces comma text)
 
 abbrev pub assignment : EntryField → Value → Assignment
 assignment field value = record { field = field; value = value }

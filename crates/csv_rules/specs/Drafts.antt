@@ -1,5 +1,6 @@
 -- What the lines of a file of rules say together.
 use Rattle.std.specs.Prelude.{ℕ, Bool, true, false, List, [], ◌∷◌, ◌++◌, Option, Some, None}
+use Rattle.hl_base.specs.Ascii.{comma}
 use Rattle.csv_rules.specs.Columns.{columns_from}
 use Rattle.csv_rules.specs.declared.drafts.Draft.{Draft}
 use Rattle.csv_rules.specs.declared.forms.Form.{Form}
@@ -42,7 +43,7 @@ progress_of draft = record {
 -- what no line says
 abbrev pub start : Progress
 start = record {
-  settings = record { skipped = 0; separator = 44; mark = None; newest_first = false; reversed_days = false };
+  settings = record { skipped = 0; separator = comma; mark = None; newest_first = false; reversed_days = false };
   names = [];
   format = None;
   assignments = [];

@@ -1,5 +1,6 @@
 -- How dates are written, as `date-format` says.
 use Rattle.std.specs.Prelude.{ℕ, Bool, true, false, ◌==◌, List, [], ◌∷◌, Option, Some, None, option_map, if◌then◌else◌}
+use Rattle.hl_base.specs.Ascii.{minus, percent}
 use Rattle.csv_rules.specs.declared.kinds.DatePart.{DatePart}
 use Rattle.csv_rules.specs.declared.kinds.DatePart.TheVariants as parts
 use Rattle.csv_rules.specs.declared.formats.Before.{Before}
@@ -15,7 +16,7 @@ part_named b =
     else if b == 109 then Some parts.Month
     else if b == 98 then Some parts.MonthName
     else if b == 100 then Some parts.Day
-    else if b == 37 then Some (parts.Byte b)
+    else if b == percent then Some (parts.Byte b)
     else None
 
 -- the part that a letter behind `%-` stands for
@@ -28,8 +29,8 @@ known None = next.Unknown
 
 -- what a byte says behind others
 abbrev pub next_part : Before → ℕ → Next
-next_part before.Nothing b = if b == 37 then next.More before.Percent else next.Part (parts.Byte b)
-next_part before.Percent b = if b == 45 then next.More before.Dash else known (part_named b)
+next_part before.Nothing b = if b == percent then next.More before.Percent else next.Part (parts.Byte b)
+next_part before.Percent b = if b == minus then next.More before.Dash else known (part_named b)
 next_part before.Dash b = known (short_part b)
 
 abbrev pub is_done : Before → Bool

@@ -2,6 +2,7 @@
 use Rattle.std.specs.Prelude.{ℕ, Bool, true, false, ◌&&◌, ◌||◌, not, ◌==◌, List, [], ◌∷◌, drop, codes, Option, Some, None, option_map, if◌then◌else◌}
 use Rattle.std.specs.Option.{option_and_then}
 use Rattle.std.specs.Str.{is_utf8, bytes_eq}
+use Rattle.hl_base.specs.Ascii.{asterisk, colon, comma, dot, exclamation, hash, percent, semicolon, space, tab}
 use Rattle.hl_base.specs.Items.{is_white}
 use Rattle.entry_reader.specs.Lines.{begins, first_is, after_white}
 use Rattle.query_terms.specs.Patterns.{pattern_of}
@@ -24,7 +25,7 @@ use Rattle.csv_rules.specs.declared.kinds.Value.TheVariants as values
 
 -- it is blank, or begins with `#`, `;` or `*`
 abbrev pub is_ignored : List ℕ → Bool
-is_ignored content = bytes_eq content [] || begins content 35 || begins content 59 || begins content 42
+is_ignored content = bytes_eq content [] || begins content hash || begins content semicolon || begins content asterisk
 
 abbrev pub is_indented : List ℕ → Bool
 is_indented content = first_is is_white content
@@ -46,8 +47,8 @@ byte_of _ = None
 -- one byte, SPACE or TAB
 abbrev pub separator_of : List ℕ → Option ℕ
 separator_of text =
-    if bytes_eq text (codes "SPACE") then Some 32
-    else if bytes_eq text (codes "TAB") then Some 9
+    if bytes_eq text (codes "SPACE") then Some space
+    else if bytes_eq text (codes "TAB") then Some tab
     else byte_of text
 
 abbrev pub separator_form : List ℕ → Option Form
@@ -56,7 +57,7 @@ separator_form rest =
 
 -- `.` or `,`
 abbrev pub mark_of : List ℕ → Option ℕ
-mark_of text = if bytes_eq text (codes ".") then Some 46 else if bytes_eq text (codes ",") then Some 44 else None
+mark_of text = if bytes_eq text (codes ".") then Some dot else if bytes_eq text (codes ",") then Some comma else None
 
 abbrev pub mark_form : List ℕ → Option Form
 mark_form rest =
@@ -75,14 +76,14 @@ format_form rest =
 
 -- nothing, or a colon or white space before a value
 abbrev pub begins_value : List ℕ → Bool
-begins_value rest = bytes_eq rest [] || begins rest 58 || first_is is_white rest
+begins_value rest = bytes_eq rest [] || begins rest colon || first_is is_white rest
 
 -- what follows a mark and white space, where the text begins with the mark
 abbrev pub after_mark : ℕ → List ℕ → List ℕ
 after_mark mark text = if begins text mark then after_white (drop 1 text) else after_white text
 
 abbrev pub value_text : List ℕ → List ℕ
-value_text rest = after_mark 58 rest
+value_text rest = after_mark colon rest
 
 -- `FIELD`, `FIELD VALUE` or `FIELD: VALUE`
 abbrev pub assignment_of : EntryField → List ℕ → Option Assignment
@@ -93,7 +94,7 @@ assign_form field rest = option_map (λ a. forms.Assign a) (assignment_of field 
 
 -- a pattern looks at one column alone where `%` and a name stand before it
 abbrev pub names_column : List ℕ → Bool
-names_column text = begins text 37 && not (bytes_eq (name_at (drop 1 text)) [])
+names_column text = begins text percent && not (bytes_eq (name_at (drop 1 text)) [])
 
 abbrev pub column_at : List ℕ → Option (List ℕ)
 column_at text = if names_column text then Some (name_at (drop 1 text)) else None
@@ -114,7 +115,7 @@ sought joined negated text =
 abbrev pub condition_of : List ℕ → Option Condition
 condition_of text =
     let behind = after_mark 38 text in
-    sought (begins text 38) (begins behind 33) (after_mark 33 behind)
+    sought (begins text 38) (begins behind exclamation) (after_mark exclamation behind)
 
 -- `if`, or `if` and a pattern
 abbrev pub if_form : List ℕ → Option Form

@@ -3,6 +3,7 @@ use Rattle.std.specs.Prelude.{ℕ, ◌-◌, ◌^◌, min, Bool, false, ◌&&◌,
 use Rattle.std.specs.List.{prefix_len, list_all}
 use Rattle.std.specs.Str.{bytes_eq}
 use Rattle.std.specs.Str.Parse.{digits_value}
+use Rattle.hl_base.specs.Ascii.{minus, underscore}
 use Rattle.hl_time.specs.Words.{is_word}
 use Rattle.csv_rules.specs.declared.kinds.EntryField.{EntryField}
 use Rattle.csv_rules.specs.declared.kinds.EntryField.TheVariants as fields
@@ -16,7 +17,7 @@ is_letter b = (nat_le 65 b && nat_le b 90) || (nat_le 97 b && nat_le b 122)
 
 -- what may stand in the name of a column or a field: an ASCII letter or digit, `_` or `-`
 abbrev pub is_name_byte : ℕ → Bool
-is_name_byte b = is_digit b || is_letter b || (b == 95) || (b == 45)
+is_name_byte b = is_digit b || is_letter b || (b == underscore) || (b == minus)
 
 -- the name that a text begins with, which may be empty
 abbrev pub name_at : List ℕ → List ℕ

@@ -8,6 +8,7 @@ ghost use Rattle.csv_rules.specs.Words as spec;
 
 use crate::forms::Word;
 use crate::kinds::EntryField;
+use hl_base::is_digit;
 
 /// Whether two texts are the same.
 pub(crate) fn is_same(a: &[u8], b: &[u8]) -> bool
@@ -21,12 +22,6 @@ pub fn is_same_word(word: &[u8], name: &[u8]) -> bool
     ensures { result ≡ words.is_word word.now name.now }
 {
     word.eq_ignore_ascii_case(name)
-}
-
-fn is_digit(byte: u8) -> bool
-    ensures { result ≡ spec.is_digit byte }
-{
-    b'0' <= byte && byte <= b'9'
 }
 
 fn is_letter(byte: u8) -> bool
