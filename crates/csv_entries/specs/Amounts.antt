@@ -1,5 +1,6 @@
 -- The amounts of a record.
 use Rattle.std.specs.Prelude.{ℕ, Bool, true, false, not, ◌&&◌, ◌||◌, ◌-◌, ◌==◌, nat_le, nat_lt, unsigned_abs, List, [], ◌∷◌, length, take, drop, slice_index, Option, Some, None, option_map, Result, Ok, Err, if◌then◌else◌}
+use Rattle.hl_base.specs.Ascii.{close_round, minus, open_round, quote}
 use Rattle.hl_num.specs.Decimal.{negated}
 use Rattle.book.specs.declared.amount.Amount.{Amount}
 use Rattle.book.specs.declared.directive.Directive.TheVariants as directive
@@ -18,7 +19,7 @@ context None = context_of None []
 
 -- it stands in round brackets
 abbrev pub is_bracketed : List ℕ → Bool
-is_bracketed text = nat_le 2 (length text) && begins text 40 && (slice_index text (length text - 1) == 41)
+is_bracketed text = nat_le 2 (length text) && begins text open_round && (slice_index text (length text - 1) == close_round)
 
 abbrev pub without_last : List ℕ → List ℕ
 without_last text = take (length text - 1) text
@@ -28,7 +29,7 @@ inside text = stripped (without_last (drop 1 text))
 
 -- two minus signs at the front of an amount cancel
 abbrev pub without_two : List ℕ → List ℕ
-without_two text = if begins text 45 && begins (drop 1 text) 45 then drop 1 (drop 1 text) else text
+without_two text = if begins text minus && begins (drop 1 text) minus then drop 1 (drop 1 text) else text
 
 abbrev pub negated_amount : Amount → Amount
 negated_amount a = record a { value = negated a.value }
@@ -55,13 +56,13 @@ is_given text = nat_lt 0 (length text)
 
 -- a symbol in quotes has its second quote, and isn't empty
 abbrev pub is_quoted : List ℕ → List ℕ → Bool
-is_quoted text name = has_byte 34 (drop 1 text) && is_given name
+is_quoted text name = has_byte quote (drop 1 text) && is_given name
 
 -- all of a text is a symbol, as it would stand before a number
 abbrev pub is_symbol : List ℕ → Bool
 is_symbol text =
     not (is_given (after_symbol text)) && is_given (symbol_name text)
-    && (not (begins text 34) || is_quoted text (symbol_name text))
+    && (not (begins text quote) || is_quoted text (symbol_name text))
 
 -- the amount with a symbol left of it and without a space
 abbrev pub marked : List ℕ → Amount → Amount

@@ -1,6 +1,7 @@
 -- Which blocks apply to a record, and what fields are given.
 use Rattle.std.specs.Prelude.{ℕ, Bool, true, false, not, ◌&&◌, ◌||◌, List, [], ◌∷◌, Option, Some, None, unwrap_or, reverse, if◌then◌else◌}
 use Rattle.std.specs.List.{filter, find, flat_map, join_with_byte, list_any, list_all}
+use Rattle.hl_base.specs.Ascii.{comma}
 use Rattle.query_terms.specs.Patterns.{Known, finds}
 use Rattle.csv_entries.specs.Places.{is_field}
 use Rattle.csv_entries.specs.Values.{referred, text_of}
@@ -18,7 +19,7 @@ use Rattle.csv_entries.specs.declared.fields.Fields.{Fields}
 -- what a pattern looks at: one column, which is empty where none is meant, or all of them between commas
 abbrev pub looked_at : Option (List ℕ) → List (List ℕ) → List (List ℕ) → List ℕ
 looked_at (Some name) names columns = unwrap_or (referred name names columns) []
-looked_at None names columns = join_with_byte 44 columns
+looked_at None names columns = join_with_byte comma columns
 
 abbrev pub holds_by : Bool → Bool → Bool
 holds_by negated found = if negated then not found else found

@@ -2,6 +2,7 @@
 use Rattle.std.specs.Prelude.{ℕ, ◌-◌, Bool, false, not, ◌&&◌, ◌||◌, ◌==◌, int_lt, pos, nat_lt, List, [], ◌∷◌, ◌++◌, length, take, map, slice_index, codes, Option, Some, None, option_map, Result, Ok, Err, if◌then◌else◌}
 use Rattle.std.specs.List.{list_all, list_any}
 use Rattle.std.specs.Str.{is_utf8}
+use Rattle.hl_base.specs.Ascii.{carriage_return, line_feed, space}
 use Rattle.book.specs.Postings.{plain_posting}
 use Rattle.book.specs.declared.amount.Amount.{Amount}
 use Rattle.book.specs.declared.transaction.Mark.{Mark}
@@ -30,17 +31,17 @@ use Rattle.csv_entries.specs.declared.judging.Outcome.TheVariants as outcomes
 -- a line without the CR that belongs to its end
 abbrev pub without_return : List ℕ → List ℕ
 without_return line =
-    if nat_lt 0 (length line) && (slice_index line (length line - 1) == 13) then take (length line - 1) line else line
+    if nat_lt 0 (length line) && (slice_index line (length line - 1) == carriage_return) then take (length line - 1) line else line
 
 -- lines with a space in place of the end of each but the last
 abbrev pub spaced : List (List ℕ) → List ℕ
 spaced [] = []
 spaced (l ∷ []) = l
-spaced (l ∷ m ∷ ls) = without_return l ++ 32 ∷ spaced (m ∷ ls)
+spaced (l ∷ m ∷ ls) = without_return l ++ space ∷ spaced (m ∷ ls)
 
 -- line ends inside a text become spaces
 abbrev pub one_line : List ℕ → List ℕ
-one_line text = spaced (pieces 10 text)
+one_line text = spaced (pieces line_feed text)
 
 -- `amount` stands beside `amount-in` or `amount-out`
 abbrev pub has_both_kinds : Fields → Bool

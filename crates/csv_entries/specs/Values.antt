@@ -2,6 +2,7 @@
 use Rattle.std.specs.Prelude.{ℕ, ◌-◌, ◌==◌, List, [], ◌∷◌, ◌++◌, slice_get, Option, Some, None, unwrap_or, option_map, if◌then◌else◌}
 use Rattle.std.specs.List.{flat_map, position}
 use Rattle.std.specs.Str.{bytes_eq}
+use Rattle.hl_base.specs.Ascii.{percent}
 use Rattle.hl_time.specs.Words.{is_word}
 use Rattle.csv_entries.specs.Spaces.{stripped}
 use Rattle.csv_rules.specs.Columns.{pieces}
@@ -35,7 +36,7 @@ referred run names columns =
 
 abbrev pub put_column : List ℕ → Option (List ℕ) → List ℕ
 put_column piece (Some text) = text ++ after_name piece
-put_column piece None = 37 ∷ piece
+put_column piece None = percent ∷ piece
 
 -- what stands for a `%` and the text up to the next one
 abbrev pub piece_text : List (List ℕ) → List (List ℕ) → List ℕ → List ℕ
@@ -48,7 +49,7 @@ filled names columns (first ∷ more) = first ++ flat_map (piece_text names colu
 -- A written value with its columns put in: `%N` and `%NAME` by the longest run of the bytes of a name; any other `%`
 -- stays.
 abbrev pub expanded : List (List ℕ) → List (List ℕ) → List ℕ → List ℕ
-expanded names columns written = filled names columns (pieces 37 written)
+expanded names columns written = filled names columns (pieces percent written)
 
 -- the text of a value, without white space and line ends at its ends
 abbrev pub text_of : List (List ℕ) → List (List ℕ) → Value → List ℕ
