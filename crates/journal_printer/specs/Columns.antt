@@ -1,5 +1,6 @@
 -- Texts in columns.
 use Rattle.std.specs.Prelude.{ℕ, ◌-◌, max, false, List, [], ◌∷◌, ◌++◌, replicate, chars}
+use Rattle.hl_base.specs.Ascii.{space}
 use Rattle.unicode_width.specs.Width.{str_width}
 
 -- how many columns a text takes
@@ -13,8 +14,8 @@ widest (text ∷ texts) = max (width_of text) (widest texts)
 
 -- left aligned in a number of columns
 abbrev pub left_aligned : ℕ → List ℕ → List ℕ
-left_aligned width text = text ++ replicate (width - width_of text) 32
+left_aligned width text = text ++ replicate (width - width_of text) space
 
 -- right aligned in a number of columns
 abbrev pub right_aligned : ℕ → List ℕ → List ℕ
-right_aligned width text = replicate (width - width_of text) 32 ++ text
+right_aligned width text = replicate (width - width_of text) space ++ text

@@ -1,6 +1,7 @@
 -- A whole journal as it is printed.
 use Rattle.std.specs.Prelude.{ℕ, Bool, List, [], ◌∷◌, ◌++◌, filter, Option, Some, None}
 use Rattle.std.specs.List.{flat_map, slice_get}
+use Rattle.hl_base.specs.Ascii.{line_feed}
 use Rattle.book.specs.declared.amount.Amount.{Amount}
 use Rattle.book.specs.declared.amount.Written.{Written}
 use Rattle.book.specs.declared.style.Styles.{Styles}
@@ -18,7 +19,7 @@ styled styles a = (style_in styles a.symbol).shape
 -- the lines of a transaction and an empty line
 abbrev pub spaced_text : Shaping → Detail → Option Txn → List ℕ
 spaced_text shape detail None = []
-spaced_text shape detail (Some t) = txn_text shape detail t ++ (10 ∷ [])
+spaced_text shape detail (Some t) = txn_text shape detail t ++ (line_feed ∷ [])
 
 -- Some transactions by day and then by number, with an empty line after each.
 abbrev pub journal_text : Shaping → Detail → List Txn → List ℕ

@@ -1,6 +1,7 @@
 -- The texts of which the lines of a transaction are made.
 use Rattle.std.specs.Prelude.{ℕ, ◌==◌, min, max, Bool, true, false, List, [], ◌∷◌, ◌++◌, Option, Some, None, if◌then◌else◌, codes}
 use Rattle.std.specs.List.{flat_map}
+use Rattle.hl_base.specs.Ascii.{line_feed}
 use Rattle.hl_time.specs.Calendar.{last_day}
 use Rattle.hl_time.specs.Shown.{day_text}
 use Rattle.book.specs.declared.amount.Amount.{Amount}
@@ -24,17 +25,17 @@ Shaping = Amount → Written
 
 -- each LF of a comment begins a further line, indented
 abbrev pub comment_byte : ℕ → List ℕ
-comment_byte b = if b == 10 then 10 ∷ codes "    ; " else b ∷ []
+comment_byte b = if b == line_feed then line_feed ∷ codes "    ; " else b ∷ []
 
 -- what stands before the comment's first line, if that isn't empty
 abbrev pub comment_start : List ℕ → List ℕ
 comment_start [] = []
-comment_start (b ∷ bs) = if b == 10 then [] else codes "  ; "
+comment_start (b ∷ bs) = if b == line_feed then [] else codes "  ; "
 
 -- a comment behind what stands on the line, and the line's end: its first line, if that isn't empty, and then each
 -- further line of it on a line of its own
 abbrev pub comment_text : List ℕ → List ℕ
-comment_text comment = comment_start comment ++ flat_map comment_byte comment ++ (10 ∷ [])
+comment_text comment = comment_start comment ++ flat_map comment_byte comment ++ (line_feed ∷ [])
 
 -- ---- the head of a transaction
 
