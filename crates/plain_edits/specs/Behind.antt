@@ -1,6 +1,7 @@
 -- What an entry adds to what is made of a text behind which it is put, where it changes nothing else.
 use Rattle.std.specs.Prelude.{ℕ, ◌+◌, ◌-◌, Bool, true, false, not, ◌&&◌, List, [], ◌∷◌, ◌++◌, ◌==◌, nat_lt, nat_le, map, Option, Some, None, is_some, is_none, Result, Ok, Err, if◌then◌else◌, length, take, drop, slice_index}
 use Rattle.std.specs.List.{list_all, slice_get}
+use Rattle.hl_base.specs.Ascii.{line_feed}
 use Rattle.hl_base.specs.Items.{items_of}
 use Rattle.hl_base.specs.Lines.{lines_of}
 use Rattle.hl_base.specs.declared.items.Kind.{Kind}
@@ -24,7 +25,7 @@ use Rattle.plain_edits.specs.declared.addition.Addition.{Addition}
 -- ---- where an entry begins a piece of its own
 
 abbrev pub ends_line : List ℕ → Bool
-ends_line text = slice_index text (length text - 1) == 10
+ends_line text = slice_index text (length text - 1) == line_feed
 
 -- an empty line behind a piece of the kind begins another piece
 abbrev pub is_closed : Kind → Bool
@@ -42,7 +43,7 @@ abbrev pub last_piece : List Piece → Option Piece
 last_piece pieces = slice_get pieces (length pieces - 1)
 
 abbrev pub begins_empty : List ℕ → Bool
-begins_empty bytes = slice_index bytes 0 == 10
+begins_empty bytes = slice_index bytes 0 == line_feed
 
 -- the text ends with a line's end, its last item is an entry or a directive, and what is put behind it begins with an
 -- empty line

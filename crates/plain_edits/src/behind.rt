@@ -3,6 +3,7 @@ ghost use Rattle.std.specs.Prelude.{◌≡◌, ◌+◌, ◌<◌, ◌≤◌, ◌^
 ghost use Rattle.hl_base.specs.Items.{items_of};
 ghost use Rattle.hl_base.specs.Pieces.{bytes_in};
 ghost use Rattle.hl_base.specs.Gives.{Gives};
+ghost use Rattle.hl_base.specs.Limits.{text_limit};
 ghost use Rattle.entry_reader.specs.Causes.{cause_in};
 ghost use Rattle.plain_edits.specs.Behind as spec;
 ghost use Rattle.plain_edits.specs.Facts as known;
@@ -204,7 +205,7 @@ fn added_at<L: Ledger>(
     bytes: &[u8],
     steps: &mut Steps<L>,
 ) -> Result<Addition, NotAdded>
-    requires few { at + length bytes.now ≤ 16777216 }
+    requires few { at + length bytes.now ≤ text_limit }
     requires lines { end.now.lines ≤ at }
     ensures value { TellsOf (λ a. a) result (spec.added_behind (facts_of end.now) at bytes.now) (misread_in (facts_of end.now) bytes.now (items_of bytes.now)) }
     ensures few_places { IfOk result (λ a. a.moved.places ≤ 36) }
@@ -228,7 +229,7 @@ pub(crate) fn added_behind<L: Ledger>(
     steps: &mut Steps<L>,
 ) -> Result<Addition, NotAdded>
     requires cut { pieces.now ≡ items_of text.now }
-    requires few { length text.now + length bytes.now ≤ 16777216 }
+    requires few { length text.now + length bytes.now ≤ text_limit }
     requires lines { end.now.lines ≤ length text.now }
     ensures value { TellsOf (λ a. a) result (spec.plain_of (facts_of end.now) text.now bytes.now) (misread_of (facts_of end.now) text.now bytes.now) }
     ensures few_places { IfOk result (λ a. a.moved.places ≤ 36) }

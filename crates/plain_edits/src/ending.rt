@@ -3,6 +3,7 @@ ghost use Rattle.std.specs.Prelude.{◌≡◌, ◌+◌, ◌≤◌, IfOk, length}
 ghost use Rattle.hl_base.specs.Gives.{Gives};
 ghost use Rattle.hl_base.specs.Items.{items_of};
 ghost use Rattle.hl_base.specs.Lines.{lines_of};
+ghost use Rattle.hl_base.specs.Limits.{text_limit};
 ghost use Rattle.entry_reader.specs.Contexts.{context_of};
 ghost use Rattle.plain_edits.specs.Added.{facts_after};
 ghost use Rattle.plain_edits.specs.Facts.{facts_in, items_at};
@@ -74,7 +75,7 @@ impl TextEnd {
         steps: &mut Steps<L>,
     ) -> Result<Option<Addition>, BehindFault>
         requires cut { pieces.now ≡ items_of text.now }
-        requires few { length text.now + length bytes.now ≤ 16777216 }
+        requires few { length text.now + length bytes.now ≤ text_limit }
         requires lines { (facts_of self.now).lines ≤ length text.now }
         ensures value { Gives (λ o. o) cause_in result (put_behind (facts_of self.now) text.now bytes.now) }
         // A load of the whole gives what a load of the text gives, and this; or it has this fault.

@@ -1,10 +1,18 @@
-use Rattle.std.proofs.Common.{◌≡◌, ℕ, ◌+◌, List, length, ap, subst, ◌∙◌}
+use Rattle.std.proofs.Common.{◌≡◌, ℕ, ◌+◌, ◌≤◌, List, length, drop, ap, subst, ◌∙◌, arith}
 use Rattle.hl_base.specs.Gives.{Gives}
 use Rattle.book.specs.declared.item.Item.{Item}
 use Rattle.entry_reader.specs.Causes.{cause_in}
+use Rattle.entry_reader.specs.Lines.{contents_of}
+use Rattle.entry_reader.proofs.Lines.{few_within}
 use Rattle.journal_reader.specs.Items.{reading}
 use Rattle.plain_edits.proofs.Walking.{short}
 use Rattle.plain_edits.proofs.behind.said_behind.Goals as goal
+
+pub read_item-requires : goal.read_item-requires
+read_item-requires g c =
+    let piece = c.args.piece.now in
+    let few : length (contents_of c.bytes_of.result.now) ≤ piece.len = rw c.bytes_of.ensures (few_within piece.len (drop piece.at c.args.bytes.now)) in
+    omega (arith, few, c.requires.lines)
 
 pub returns-clause-value : goal.returns-clause-value
 returns-clause-value g c =
