@@ -6,6 +6,7 @@ use Rattle.std.proofs.lemmas.Bool.Decides.{Decides-ltb, nat_tests}
 use Rattle.std.proofs.lemmas.Option.{none-some}
 use Rattle.hl_base.specs.Items.{items_of}
 use Rattle.hl_base.specs.declared.change.Splice.{Splice}
+use Rattle.hl_base.specs.Limits.{item_limit, text_limit}
 use Rattle.book.specs.declared.fault.Fault.{Fault}
 use Rattle.book.specs.declared.item.Book.{Book}
 use Rattle.plain_edits.specs.Behind.{added_behind, goes_behind, plain_of}
@@ -24,7 +25,7 @@ use Rattle.live_journal.specs.declared.loading.Loaded.{Loaded}
 use Rattle.live_journal.specs.Faults.{misread_refusal}
 use Rattle.live_journal.specs.Journals.{Journal}
 use Rattle.live_journal.specs.Keeping.{IsKept}
-use Rattle.live_journal.specs.Loading.{book_from, book_of, fault_of, first_of, limit_fault, most_bytes, most_items, past_limit, reading_in, text_fault}
+use Rattle.live_journal.specs.Loading.{book_from, book_of, fault_of, first_of, limit_fault, past_limit, reading_in, text_fault}
 use Rattle.live_journal.specs.Reading.{IsMissed, are_misread, are_plain, is_at_end, is_told, known_from, most_read, refused_read, tried}
 use Rattle.live_journal.specs.Refusals.{TellsRefusal, refusal_in}
 use Rattle.live_journal.specs.Edits.{spliced}
@@ -32,21 +33,21 @@ use Rattle.live_journal.proofs.Putting.{known_is, left_true, right_true, spliced
 
 -- ---- the limits of a text
 
-past_bytes : (text : List ℕ) → most_bytes < length text → past_limit text ≡ None → ⊥
+past_bytes : (text : List ℕ) → text_limit < length text → past_limit text ≡ None → ⊥
 past_bytes text lt h =
-    let over : nat_lt most_bytes (length text) ≡ true = (Decides-ltb most_bytes (length text)).1 lt in
-    let items = cond (nat_lt most_items (length (items_of text))) (Some (most_items, length (items_of text))) None in
-    let past : past_limit text ≡ Some (most_bytes, length text) = ap (λ (b : Bool). cond b (Some (most_bytes, length text)) items) over in
-    none-some (most_bytes, length text) (sym h ∙ past)
+    let over : nat_lt text_limit (length text) ≡ true = (Decides-ltb text_limit (length text)).1 lt in
+    let items = cond (nat_lt item_limit (length (items_of text))) (Some (item_limit, length (items_of text))) None in
+    let past : past_limit text ≡ Some (text_limit, length text) = ap (λ (b : Bool). cond b (Some (text_limit, length text)) items) over in
+    none-some (text_limit, length text) (sym h ∙ past)
 
-of_items : (b : Bool) (past : ℕ × ℕ) (text : List ℕ) → most_items < length (items_of text) → cond b (Some past) (cond (nat_lt most_items (length (items_of text))) (Some (most_items, length (items_of text))) None) ≡ None → ⊥
+of_items : (b : Bool) (past : ℕ × ℕ) (text : List ℕ) → item_limit < length (items_of text) → cond b (Some past) (cond (nat_lt item_limit (length (items_of text))) (Some (item_limit, length (items_of text))) None) ≡ None → ⊥
 of_items true past text lt h = none-some past (sym h)
 of_items false past text lt h =
-    let over : nat_lt most_items (length (items_of text)) ≡ true = (Decides-ltb most_items (length (items_of text))).1 lt in
-    none-some (most_items, length (items_of text)) (sym h ∙ ap (λ (b : Bool). cond b (Some (most_items, length (items_of text))) None) over)
+    let over : nat_lt item_limit (length (items_of text)) ≡ true = (Decides-ltb item_limit (length (items_of text))).1 lt in
+    none-some (item_limit, length (items_of text)) (sym h ∙ ap (λ (b : Bool). cond b (Some (item_limit, length (items_of text))) None) over)
 
-past_items : (text : List ℕ) → most_items < length (items_of text) → past_limit text ≡ None → ⊥
-past_items text lt h = of_items (nat_lt most_bytes (length text)) (most_bytes, length text) text lt h
+past_items : (text : List ℕ) → item_limit < length (items_of text) → past_limit text ≡ None → ⊥
+past_items text lt h = of_items (nat_lt text_limit (length text)) (text_limit, length text) text lt h
 
 limits_kept : (past : Option (ℕ × ℕ)) (book : Result Book Fault) → first_of (limit_fault past ∷ text_fault book ∷ []) ≡ None → past ≡ None
 limits_kept None book h = refl
@@ -58,7 +59,7 @@ within year text h = limits_kept (past_limit text) (book_of year text) h
 
 -- ---- what isn't put behind a text
 
-pub too_many_bytes : (facts : Facts) (text bytes : List ℕ) → length text ≤ most_bytes → most_bytes < length text + length bytes → IsMissed facts text bytes
+pub too_many_bytes : (facts : Facts) (text bytes : List ℕ) → length text ≤ text_limit → text_limit < length text + length bytes → IsMissed facts text bytes
 too_many_bytes facts text bytes few lt = λ plain fits. past_bytes (text ++ bytes) (omega (arith, lt, length-append text bytes)) fits
 
 told_goes : (goes : Bool) (a : Option Addition) (fault : Option Fault) → (is_some (cond goes a None) || is_some (cond goes fault None)) ≡ true → goes ≡ true
@@ -70,7 +71,7 @@ goes_told : (facts : Facts) (text bytes : List ℕ) → is_told facts text bytes
 unfolding plain_of misread_of
 goes_told facts text bytes h = told_goes (goes_behind text bytes) (added_behind facts (length text) bytes) (misread_in facts bytes (items_of bytes)) h
 
-pub too_many_items : (facts : Facts) (text bytes : List ℕ) → most_items < length (items_of text) + length (items_of bytes) → IsMissed facts text bytes
+pub too_many_items : (facts : Facts) (text bytes : List ℕ) → item_limit < length (items_of text) + length (items_of bytes) → IsMissed facts text bytes
 too_many_items facts text bytes lt = λ told fits. past_items (text ++ bytes) (omega (arith, lt, count_behind text bytes (goes_told facts text bytes told))) fits
 
 neither_told : (a : Option Addition) (fault : Option Fault) → or_misread fault a ≡ Ok None → (is_some a || is_some fault) ≡ false
@@ -96,14 +97,14 @@ missed_where b facts text bytes seen (Err x) e h = tt
 
 -- ---- bytes that don't read
 
-fits_both : (text : List ℕ) → length text ≤ most_bytes → length (items_of text) ≤ most_items → past_limit text ≡ None
+fits_both : (text : List ℕ) → length text ≤ text_limit → length (items_of text) ≤ item_limit → past_limit text ≡ None
 fits_both text few many = grind (arith, nat_tests)
 
 refused_so : (past : Option (ℕ × ℕ)) (book : Result Book Fault) (fault : Fault) → past ≡ None → book ≡ Err fault → refusal_in (first_of (limit_fault past ∷ text_fault book ∷ [])) ≡ Some (refused.Load fault)
 refused_so past book fault none is = λ i. refusal_in (first_of (limit_fault (none i) ∷ text_fault (is i) ∷ []))
 
 -- they are refused with the fault of the whole, where this is within its limits
-pub misread_tells : (year : Option ℕ) (text bytes : List ℕ) (kept : Loaded) (why : BehindFault) → IsKept year text kept → length text + length bytes ≤ most_bytes → length kept.pieces + length (items_of bytes) ≤ most_items
+pub misread_tells : (year : Option ℕ) (text bytes : List ℕ) (kept : Loaded) (why : BehindFault) → IsKept year text kept → length text + length bytes ≤ text_limit → length kept.pieces + length (items_of bytes) ≤ item_limit
     → IfSome (cause_in why) (MisreadsAlways text bytes (facts_of kept.end)) → TellsRefusal (misread_refusal why) (fault_of year (text ++ bytes))
 misread_tells year text bytes kept behind.Memory k few many h = tt
 misread_tells year text bytes kept (behind.Load fault) k few many h =

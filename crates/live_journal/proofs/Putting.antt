@@ -9,6 +9,7 @@ use Rattle.hl_base.specs.Items.{items_of}
 use Rattle.hl_base.specs.Lines.{lines_of, onto}
 use Rattle.hl_base.specs.Pieces.{IsWithin}
 use Rattle.hl_base.specs.declared.items.Piece.{Piece}
+use Rattle.hl_base.specs.Limits.{item_limit, text_limit}
 use Rattle.book.specs.declared.item.Book.{Book}
 use Rattle.book.specs.declared.item.Placed.{Placed}
 use Rattle.book.specs.declared.style.Styles.{Styles}
@@ -30,7 +31,7 @@ use Rattle.live_journal.specs.declared.fault.EditFault.{EditFault}
 use Rattle.live_journal.specs.Edits.{spliced}
 use Rattle.live_journal.specs.Journals.{Journal}
 use Rattle.live_journal.specs.Keeping.{HasRoom, HasRoomFor, IsBehind, IsKept, IsMadeFrom, IsPutBehind, PutsBehind}
-use Rattle.live_journal.specs.Loading.{IsLoaded, fault_of, most_bytes, most_items}
+use Rattle.live_journal.specs.Loading.{IsLoaded, fault_of}
 use Rattle.live_journal.specs.Reading.{is_at_end}
 use Rattle.live_journal.specs.Refusals.{TellsRefusal}
 use Rattle.live_journal.proofs.Verdicts.{sound}
@@ -76,7 +77,7 @@ lines_within year text l h = omega (arith, ap (λ (f : Facts). f.lines) h.known,
 
 module _ (year : Option ℕ) (text bytes : List ℕ) (kept : Loaded) (b : Behind) (is : IsKept year text kept)
     (adds : (items : List Placed) (txns : List Txn) → IsKnown year text items txns (facts_of kept.end) → Adds year text bytes items txns (facts_of kept.end) b.addition)
-    (few : length (text ++ bytes) ≤ most_bytes) (many : length kept.pieces + length b.addition.pieces ≤ most_items) (room : HasRoom kept b) where
+    (few : length (text ++ bytes) ≤ text_limit) (many : length kept.pieces + length b.addition.pieces ≤ item_limit) (room : HasRoom kept b) where
   put_one : (l : Loaded) → IsKept year text l → IsPutBehind year (text ++ bytes) l b
   put_one l k =
       let facts = same_facts year text l kept k is in
@@ -109,11 +110,11 @@ module _ (year : Option ℕ) (text bytes : List ℕ) (kept : Loaded) (b : Behind
   put_all l k = put_one l k
 
 -- the same of an addition with room for it
-pub fitted_puts : (year : Option ℕ) (text bytes : List ℕ) (kept : Loaded) (a : Addition) (b : Behind) → IsKept year text kept → length (text ++ bytes) ≤ most_bytes → length kept.pieces + length (items_of bytes) ≤ most_items
+pub fitted_puts : (year : Option ℕ) (text bytes : List ℕ) (kept : Loaded) (a : Addition) (b : Behind) → IsKept year text kept → length (text ++ bytes) ≤ text_limit → length kept.pieces + length (items_of bytes) ≤ item_limit
     → goes_behind text bytes ≡ true → AddsAlways text bytes (facts_of kept.end) a → b.addition ≡ a → HasRoom kept b → PutsBehind year text (text ++ bytes) b
 fitted_puts year text bytes kept a b k few many goes adds is room =
     let cut = (adds year kept.items kept.book.txns (known_is year text kept k)).cut in
-    let more : length kept.pieces + length b.addition.pieces ≤ most_items =
+    let more : length kept.pieces + length b.addition.pieces ≤ item_limit =
     omega (arith, many, ap length cut, length-append (items_of text) a.pieces, count_behind text bytes goes, ap (λ (x : Addition). length x.pieces) is) in
     put_all year text bytes kept b k (subst (AddsAlways text bytes (facts_of kept.end)) (sym is) adds year) few more room
 
@@ -174,7 +175,7 @@ made_behind j year text new splice o b is y t e h =
 pub made_sound : (j : Journal) (new : List ℕ) (kept : Loaded) (b : Behind) → IsKept j.year j.text kept → PutsBehind j.year j.text new b → fault_of j.year new ≡ None
 made_sound j new kept b k h = sound j.year new (kept.pieces ++ b.addition.pieces) (kept.items ++ b.addition.items) (record { txns = kept.book.txns ++ b.addition.txns }) kept.styles (facts_after (facts_of kept.end) b.addition) (h kept k).loaded
 
-pub made_few : (j : Journal) (new : List ℕ) (kept : Loaded) (b : Behind) → IsKept j.year j.text kept → PutsBehind j.year j.text new b → length new ≤ most_bytes
+pub made_few : (j : Journal) (new : List ℕ) (kept : Loaded) (b : Behind) → IsKept j.year j.text kept → PutsBehind j.year j.text new b → length new ≤ text_limit
 made_few j new kept b k h = ((h kept k).loaded).few_bytes
 
 pub made_anew : (r : Result Made EditFault) (j : Journal) (year : Option ℕ) (new : List ℕ) → year ≡ j.year → IfOk r (λ made. (old : List ℕ) → IsMadeFrom year old new made) → IfOk r (IsMadeFrom j.year j.text new)

@@ -1,6 +1,7 @@
 -- The text that an edit makes, and the change of the old text by which it is made.
 use Rattle.std.specs.Prelude.{ℕ, ◌+◌, ◌-◌, Bool, true, false, ◌&&◌, ◌||◌, not, List, [], ◌∷◌, ◌++◌, ◌==◌, if◌then◌else◌, length, take, drop, slice_index, slice_get, codes, Option, Some, None}
 use Rattle.std.specs.List.{list_any}
+use Rattle.hl_base.specs.Ascii.{line_feed}
 use Rattle.hl_base.specs.Lines.{lines_of}
 use Rattle.hl_base.specs.Items.{closes_block, items_of}
 use Rattle.hl_base.specs.declared.items.Kind.{Kind}
@@ -12,11 +13,11 @@ use Rattle.live_journal.specs.declared.edit.Edit.TheVariants.{Add, Change, Repla
 
 -- it ends with LF
 abbrev pub ends_line : List ℕ → Bool
-ends_line text = slice_index text (length text - 1) == 10
+ends_line text = slice_index text (length text - 1) == line_feed
 
 -- the LF that a text lacks: it isn't empty, and doesn't end with one
 abbrev pub line_end : List ℕ → List ℕ
-line_end text = if (length text == 0) || ends_line text then [] else 10 ∷ []
+line_end text = if (length text == 0) || ends_line text then [] else line_feed ∷ []
 
 abbrev pub ended : List ℕ → List ℕ
 ended text = text ++ line_end text
@@ -41,11 +42,11 @@ has_open_block text = is_open text (last_piece (items_of text))
 
 -- the line that ends a block which was left open
 abbrev pub block_end : List ℕ → List ℕ
-block_end text = if has_open_block text then codes "end comment" ++ (10 ∷ []) else []
+block_end text = if has_open_block text then codes "end comment" ++ (line_feed ∷ []) else []
 
 -- the blank line between a text that isn't empty and what is added to it
 abbrev pub blank_line : List ℕ → List ℕ
-blank_line text = if length text == 0 then [] else 10 ∷ []
+blank_line text = if length text == 0 then [] else line_feed ∷ []
 
 -- what is put behind a text where an entry is added to it
 abbrev pub added : List ℕ → List ℕ → List ℕ

@@ -4,6 +4,7 @@ use Rattle.std.specs.List.{AllByRecursion}
 use Rattle.hl_base.specs.Items.{items_of}
 use Rattle.hl_base.specs.Pieces.{IsWithin, bytes_in}
 use Rattle.hl_base.specs.declared.items.Piece.{Piece}
+use Rattle.hl_base.specs.Limits.{item_limit, text_limit}
 use Rattle.book.specs.declared.item.Placed.{Placed}
 use Rattle.book.specs.declared.item.Book.{Book}
 use Rattle.book.specs.declared.style.Styles.{Styles}
@@ -20,18 +21,11 @@ use Rattle.live_journal.specs.declared.fault.OpenFault.{OpenFault}
 use Rattle.live_journal.specs.declared.fault.OpenFault.TheVariants as unopened
 use Rattle.live_journal.specs.Journals.{Journal}
 
--- the most bytes and items that a text may have
-abbrev pub most_bytes : ℕ
-most_bytes = 16777216
-
-abbrev pub most_items : ℕ
-most_items = 200000
-
 -- the limit that a text is past, with its size: its bytes are judged before its items
 abbrev pub past_limit : List ℕ → Option (ℕ × ℕ)
 past_limit text =
-    if nat_lt most_bytes (length text) then Some (most_bytes, length text)
-    else if nat_lt most_items (length (items_of text)) then Some (most_items, length (items_of text))
+    if nat_lt text_limit (length text) then Some (text_limit, length text)
+    else if nat_lt item_limit (length (items_of text)) then Some (item_limit, length (items_of text))
     else None
 
 -- the items of a text that begins in a year
@@ -84,8 +78,8 @@ Tells e fault = IfSome (open_cause e) (λ told. fault ≡ Some told)
 
 -- the pieces of a text that is within the limits
 pub record IsCut (text : List ℕ) (pieces : List Piece) : Type 0 where
-  pub few_bytes : length text ≤ most_bytes
-  pub few_items : length (items_of text) ≤ most_items
+  pub few_bytes : length text ≤ text_limit
+  pub few_items : length (items_of text) ≤ item_limit
   pub cut : pieces ≡ items_of text
   pub within : AllByRecursion (IsWithin (length text)) pieces
   pub readable : AreWithin text pieces
@@ -93,8 +87,8 @@ pub record IsCut (text : List ℕ) (pieces : List Piece) : Type 0 where
 
 -- what is made of a text: its pieces, items, book and styles, and what is known of it for entries behind it
 pub record IsLoaded (year : Option ℕ) (text : List ℕ) (pieces : List Piece) (items : List Placed) (book : Book) (styles : Styles) (facts : Facts) : Type 0 where
-  pub few_bytes : length text ≤ most_bytes
-  pub few_items : length (items_of text) ≤ most_items
+  pub few_bytes : length text ≤ text_limit
+  pub few_items : length (items_of text) ≤ item_limit
   pub cut : pieces ≡ items_of text
   pub within : AllByRecursion (IsWithin (length text)) pieces
   pub read : reading_in year text ≡ Ok items

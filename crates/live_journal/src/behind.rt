@@ -1,17 +1,18 @@
 //! An entry that is put behind the text, without a load of the whole.
 ghost use Rattle.std.specs.Prelude.{◌≡◌, ◌+◌, ◌<◌, ◌≤◌, ◌++◌, None, Option, IfErr, IfOk, IfSome, OnOk, ℕ, length, nat_lt, true};
 ghost use Rattle.std.specs.Prelude as lists;
+ghost use Rattle.hl_base.specs.Limits.{item_limit, text_limit};
 ghost use Rattle.plain_edits.specs.Words.{facts_of};
 ghost use Rattle.live_journal.specs.Edits as edits;
 ghost use Rattle.live_journal.specs.Keeping.{HasRoom, HasRoomFor, IsBehind, IsKept, IsMadeFrom, PutsBehind};
-ghost use Rattle.live_journal.specs.Loading.{fault_of, most_bytes, most_items};
+ghost use Rattle.live_journal.specs.Loading.{fault_of};
 ghost use Rattle.live_journal.specs.Reading.{IsMissed, is_at_end, tried};
 ghost use Rattle.live_journal.specs.Refusals.{TellsRefusal};
 
 use crate::fault::EditFault;
-use crate::loading::{Loaded, MOST_BYTES, MOST_ITEMS, load_text};
+use crate::loading::{Loaded, load_text};
 use book::{Placed, Txn};
-use hl_base::{List, Memory, Piece, Splice, Steps, cut_items};
+use hl_base::{ITEM_LIMIT, List, Memory, Piece, Splice, Steps, TEXT_LIMIT, cut_items};
 use plain_edits::{Addition, Room, put_items};
 use std::alloc::Global;
 use std::sync::ledger::Ledger;
@@ -51,19 +52,19 @@ fn with_room(alloc: Global, loaded: &Loaded, addition: Addition) -> Result<Behin
 /// Whether a text with more pieces has more than it may have.
 #[tactic(auto, using(crate::proofs::Limits::past_from))]
 fn are_too_many(pieces: &List<Piece>, more: &List<Piece>) -> bool
-    requires { length pieces.now ≤ 200000 }
-    ensures { result ≡ nat_lt most_items (length pieces.now + length more.now) }
+    requires { length pieces.now ≤ item_limit }
+    ensures { result ≡ nat_lt item_limit (length pieces.now + length more.now) }
 {
-    more.len() as u64 > MOST_ITEMS - pieces.len() as u64
+    more.len() as u64 > ITEM_LIMIT - pieces.len() as u64
 }
 
 /// Whether a text with bytes behind it has more than it may have.
 #[tactic(auto, using(crate::proofs::Limits::past_from))]
 fn is_too_long(text: &[u8], bytes: &[u8]) -> bool
-    requires { length text.now ≤ 16777216 }
-    ensures { result ≡ nat_lt most_bytes (length text.now + length bytes.now) }
+    requires { length text.now ≤ text_limit }
+    ensures { result ≡ nat_lt text_limit (length text.now + length bytes.now) }
 {
-    bytes.len() as u64 > MOST_BYTES - text.len() as u64
+    bytes.len() as u64 > TEXT_LIMIT - text.len() as u64
 }
 
 /// What bytes add that are put behind a text which begins in a year, or the fault that the whole has where they don't read;
@@ -140,7 +141,7 @@ pub(crate) fn loaded_anew<L: Ledger>(
 ) -> Result<Made, EditFault>
     ensures made { IfOk result (λ made. (old : lists.List ℕ) → IsMadeFrom year old new.now made) }
     ensures loads { OnOk result (fault_of year new.now ≡ None) }
-    ensures few { OnOk result (length new.now ≤ 16777216) }
+    ensures few { OnOk result (length new.now ≤ text_limit) }
     ensures fault { IfErr result (λ e. TellsRefusal e (fault_of year new.now)) }
     ensures read { steps.new.bytes_read ≤ steps.old.bytes_read + length new.now }
     ensures others { steps.new ≡ record steps.old { bytes_read = steps.new.bytes_read } }

@@ -2,6 +2,7 @@
 ghost use Rattle.std.specs.Prelude.{◌≡◌, ◌+◌, ◌-◌, ◌*◌, ◌^◌, ◌<◌, ◌≤◌, ℕ, List, false, if◌then◌else◌, IfErr, IfOk, None, Ok, OnErr, OnOk, length};
 ghost use Rattle.std.specs.Str.{bytes_eq};
 ghost use Rattle.hl_base.specs.Gives.{Gives};
+ghost use Rattle.hl_base.specs.Limits.{text_limit};
 ghost use Rattle.book.specs.Bounds.{TurnoverFits};
 ghost use Rattle.book.specs.Postings.{postings_of};
 ghost use Rattle.book.specs.Style.{style_of};
@@ -89,7 +90,7 @@ impl Live {
     /// The text, which has at most 16,777,216 bytes.
     pub fn text(&self) -> &[u8]
         ensures text { result.now ≡ self.now.text }
-        ensures few { length result.now ≤ 16777216 }
+        ensures few { length result.now ≤ text_limit }
     {
         self.text.as_slice()
     }
@@ -136,7 +137,7 @@ impl Live {
         requires { new.now ≡ edits.spliced self.now.text splice.now }
         ensures made { IfOk result (IsMadeFrom self.now.year self.now.text new.now) }
         ensures loads { OnOk result (fault_of self.now.year new.now ≡ None) }
-        ensures few { OnOk result (length new.now ≤ 16777216) }
+        ensures few { OnOk result (length new.now ≤ text_limit) }
         ensures fault { IfErr result (λ e. TellsRefusal e (fault_of self.now.year new.now)) }
         ensures read { OnOk result (steps.new.bytes_read ≤ steps.old.bytes_read + most_read self.now splice.now new.now) }
         ensures refused { OnErr result (steps.new.bytes_read ≤ steps.old.bytes_read + refused_read self.now splice.now new.now) }
@@ -163,7 +164,7 @@ impl Live {
         ensures change { IfOk result (λ plan. edits.spliced self.old.text plan.splice ≡ plan.text) }
         ensures inside { IfOk result (λ plan. plan.splice.at + plan.splice.removed ≤ length self.old.text) }
         ensures from { IfOk result (λ plan. plan.from ≡ self.old) }
-        ensures few { IfOk result (λ plan. length plan.text ≤ 16777216) }
+        ensures few { IfOk result (λ plan. length plan.text ≤ text_limit) }
         ensures stays { self.new ≡ self.old }
         // An edit that puts bytes behind the text which change nothing else reads these bytes alone.
         ensures read { IfOk result (λ plan. steps.new.bytes_read ≤ steps.old.bytes_read + most_read self.old plan.splice plan.text) }

@@ -13,18 +13,12 @@ use crate::entries::entries_of;
 use crate::fault::OpenFault;
 use balancing::{CheckFault, check};
 use book::{Book, Items, Placed, Styles};
-use hl_base::{List, Piece, Steps, cut_items};
+use hl_base::{ITEM_LIMIT, List, Piece, Steps, TEXT_LIMIT, cut_items};
 use journal_reader::{ReadFault, read_items};
 use plain_edits::TextEnd;
 use std::alloc::Global;
 use std::sync::ledger::Ledger;
 use std::thread::Threads;
-
-/// The most bytes that a text may have.
-pub(crate) const MOST_BYTES: u64 = 16_777_216;
-
-/// The most items that a text may have.
-pub(crate) const MOST_ITEMS: u64 = 200_000;
 
 /// What is made of a text, and what is kept of its end.
 #[derive(Drop)]
@@ -37,19 +31,20 @@ pub(crate) struct Loaded {
 }
 
 /// The pieces of a text that is within the limits: its bytes are judged before its items.
+#[tactic(auto, using(journal_reader::proofs::Whole::within))]
 fn cut_within(alloc: Global, text: &[u8]) -> Result<List<Piece>, OpenFault>
     ensures cut { IfOk result (IsCut text.now) }
     ensures fault { IfErr result (λ e. Tells e (limit_fault (past_limit text.now))) }
 {
     let size = text.len() as u64;
-    if size > MOST_BYTES {
-        let limit = MOST_BYTES;
+    if size > TEXT_LIMIT {
+        let limit = TEXT_LIMIT;
         return Err(OpenFault::TooLarge { limit, size });
     }
     let pieces = cut_items(alloc, text)?;
     let count = pieces.len() as u64;
-    if count > MOST_ITEMS {
-        let limit = MOST_ITEMS;
+    if count > ITEM_LIMIT {
+        let limit = ITEM_LIMIT;
         return Err(OpenFault::TooLarge { limit, size: count });
     }
     Ok(pieces)
