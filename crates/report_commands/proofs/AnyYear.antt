@@ -11,6 +11,7 @@ use Rattle.hl_base.specs.Lines.{first_line}
 use Rattle.hl_base.specs.declared.items.Kind.{Kind}
 use Rattle.hl_base.specs.declared.items.Kind.TheVariants as kinds
 use Rattle.hl_base.specs.declared.items.Piece.{Piece}
+use Rattle.hl_base.specs.Limits.{entry_limit}
 use Rattle.hl_time.specs.Calendar.{year_of}
 use Rattle.hl_time.specs.Date.{date_of, full_date, is_digit_at, is_separator, month_day, part_length, year_digits, year_value}
 use Rattle.book.specs.declared.directive.Directive.{Directive}
@@ -39,7 +40,7 @@ use Rattle.directive_reader.specs.Prices.{price_of}
 use Rattle.directive_reader.specs.Rules.{auto_of, periodic_of}
 use Rattle.directive_reader.specs.declared.keyword.Keyword.{Keyword}
 use Rattle.directive_reader.specs.declared.keyword.Keyword.TheVariants as keywords
-use Rattle.journal_reader.specs.Items.{broken_line, entry_limit, items_in, reading, reading_from, said_by}
+use Rattle.journal_reader.specs.Items.{broken_line, items_in, reading, reading_from, said_by}
 use Rattle.report_commands.specs.declared.asked.Asked.{Asked}
 use Rattle.report_commands.specs.Reports.{Report, report_over, report_read}
 

@@ -26,6 +26,7 @@ use Rattle.entry_reader.specs.Comments.{is_comment, comments_in}
 use Rattle.entry_reader.specs.Contexts.{Context, context_of}
 use Rattle.entry_reader.specs.Lines.{contents_of, first_is, after_white}
 use Rattle.hl_base.specs.Items.{is_white}
+use Rattle.hl_base.specs.Limits.{entry_limit}
 use Rattle.entry_reader.specs.Heads.{head_of, mark_at}
 use Rattle.entry_reader.specs.Accounts.{account_at, account_len}
 use Rattle.entry_reader.specs.Postings.{Numbers, posting_of, rule_posting_of, rule_posting_with, with_comments, own_day, posting_line, posting_from, ending_of, says_much, numbers_at, each_of, postings_of}
@@ -36,7 +37,7 @@ use Rattle.directive_reader.specs.Prices.{price_of}
 use Rattle.directive_reader.specs.Rules.{auto_of, periodic_of}
 use Rattle.directive_reader.specs.declared.keyword.Keyword.{Keyword}
 use Rattle.directive_reader.specs.declared.keyword.Keyword.TheVariants as keywords
-use Rattle.journal_reader.specs.Items.{entry_limit, items_in, reading, reading_from, said_by}
+use Rattle.journal_reader.specs.Items.{items_in, reading, reading_from, said_by}
 use Rattle.balancing.specs.Solves.{is_unmarked, are_unmarked}
 
 -- what a result may hold
