@@ -10,6 +10,7 @@ use Rattle.hl_base.specs.Lines.{first_line}
 use Rattle.hl_base.specs.declared.items.Kind.{Kind}
 use Rattle.hl_base.specs.declared.items.Kind.TheVariants as kinds
 use Rattle.hl_base.specs.declared.items.Piece.{Piece}
+use Rattle.hl_base.specs.Limits.{entry_limit}
 use Rattle.hl_num.specs.Reading.{is_mark}
 use Rattle.hl_time.specs.Calendar.{year_of}
 use Rattle.book.specs.declared.amount.Amount.{Amount}
@@ -43,7 +44,7 @@ use Rattle.entry_reader.specs.Heads.{ends_word, head_of}
 use Rattle.entry_reader.specs.Lines.{after_byte, after_white, begins, contents_of, first_is, has_byte}
 use Rattle.entry_reader.specs.Postings.{ends_line, postings_of}
 use Rattle.entry_reader.specs.Symbols.{symbol_name}
-use Rattle.journal_reader.specs.Items.{broken_line, entry_limit, items_in, reading, reading_from, said_by}
+use Rattle.journal_reader.specs.Items.{broken_line, items_in, reading, reading_from, said_by}
 use Rattle.written_logs.proofs.Lines.{all_parts}
 use Rattle.closed_journals.proofs.Digits.{IsDecided}
 use Rattle.closed_journals.proofs.Entered.{AmountIs, AreTold, postings_give}

@@ -6,6 +6,7 @@ use Rattle.std.specs.Str.{is_utf8}
 use Rattle.std.proofs.lemmas.Bool.{false≢true}
 use Rattle.hl_base.specs.Items.{items_of}
 use Rattle.hl_base.specs.Lines.{lines_of}
+use Rattle.hl_base.specs.Limits.{item_limit}
 use Rattle.hl_time.specs.Calendar.{IsDay, last_day}
 use Rattle.book.specs.Bounds.{TurnoverFits}
 use Rattle.book.specs.Postings.{postings_of}
@@ -28,7 +29,7 @@ use Rattle.book_care.specs.declared.faults.CloseFault.{CloseFault}
 use Rattle.book_care.proofs.Settling.{settles}
 use Rattle.book_care.proofs.Summing.{closing_even, lines_in, lines_in-opposite}
 use Rattle.book_commands.specs.FaultLines.{close_line}
-use Rattle.book_commands.specs.Texts.{Making, judged_text, made_loaded, made_read, most_items}
+use Rattle.book_commands.specs.Texts.{Making, judged_text, made_loaded, made_read}
 use Rattle.book_commands.specs.Works.{close_by, close_made, close_outcome, closed_over, entry_text, judge, pair_text}
 use Rattle.book_commands.specs.declared.work.CloseAsked.{CloseAsked}
 use Rattle.book_commands.specs.declared.work.Work.TheVariants as works
@@ -308,7 +309,7 @@ by_count false refusal r outcome h = h
 judged_is : (make : Making) (year : Option ℕ) (text : List ℕ) (outcome : Outcome) → judged_text make year text ≡ Ok outcome → IsMade make year text outcome
 judged_is make year text outcome h =
     by_items make year text (items_in year text) outcome refl
-    (by_count (nat_lt most_items (length (items_of text))) (refused 7 (limit_line (length (items_of text)) most_items)) (made_read make (items_in year text)) outcome h)
+    (by_count (nat_lt item_limit (length (items_of text))) (refused 7 (limit_line (length (items_of text)) item_limit)) (made_read make (items_in year text)) outcome h)
 
 -- why there was no refusal
 record IsOutput (closed : Closed) (output : List ℕ) : Type 0 where

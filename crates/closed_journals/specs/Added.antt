@@ -1,7 +1,9 @@
 -- Closing entries that are added to the text of which they are made.
 use Rattle.std.specs.Prelude.{◌≡◌, ◌<◌, ℕ, suc, ◌+◌, ◌⊎◌, true, false, List, [], ◌∷◌, ◌++◌, length, codes, Option, Some, None, Ok, Err}
+use Rattle.hl_base.specs.Ascii.{line_feed}
 use Rattle.hl_base.specs.Items.{items_of}
 use Rattle.hl_base.specs.declared.items.Piece.{Piece}
+use Rattle.hl_base.specs.Limits.{entry_limit}
 use Rattle.book.specs.declared.amount.Written.{Written}
 use Rattle.book.specs.declared.fault.Cause.TheVariants as cause
 use Rattle.book.specs.declared.fault.Fault.{Fault}
@@ -90,7 +92,7 @@ pub record Closes (closed : Closed) (year : Option ℕ) (text : List ℕ) : Type
 
 -- the text of an entry, but for the empty line behind it, is over 65,536 bytes
 abbrev pub IsLong : Closed → Txn → Type 0
-IsLong closed entry = 65536 + 1 < length (entry_text (context_at_end closed.items) entry)
+IsLong closed entry = entry_limit + 1 < length (entry_text (context_at_end closed.items) entry)
 
 -- Its fault is that it is out of range, or that one of the two entries is too long, where it is over 65,536 bytes.
 pub record IsRefused (closed : Closed) (entries : Txn × Txn) (year : Option ℕ) (text : List ℕ) : Type 0 where
@@ -120,8 +122,8 @@ pub record IsClosed (day : ℕ) (year : Option ℕ) (asked : CloseAsked) (text o
 pub record IsOver (year : Option ℕ) (text whole : List ℕ) : Type 0 where
   pub item : Piece
   pub last : last_piece (items_of text) ≡ Some item
-  pub size : item.len ≡ 65536
-  pub line : line_end text ≡ 10 ∷ []
+  pub size : item.len ≡ entry_limit
+  pub line : line_end text ≡ line_feed ∷ []
   pub fails : Fails year whole (record { line = item.line; cause = cause.TooLong })
 
 -- What becomes of a text to which the entries are added as any entry is: behind a line's end where the last line lacks one,

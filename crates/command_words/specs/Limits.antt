@@ -2,6 +2,7 @@
 use Rattle.std.specs.Prelude.{ℕ, ◌-◌, ◌^◌, min, ◌&&◌, nat_le, List, Bool, true, false, Option, Some, None, if◌then◌else◌, ◌==◌, [], ◌∷◌}
 use Rattle.std.specs.List.{list_all}
 use Rattle.std.specs.Str.Parse.{digits_value}
+use Rattle.hl_base.specs.Ascii.{digit_zero}
 use Rattle.hl_num.specs.Reading.{is_digit}
 
 -- the greatest number that is told
@@ -17,7 +18,7 @@ digits_in greatest text = if list_all is_digit text then number_within greatest 
 
 abbrev pub begins_with_zero : List ℕ → Bool
 begins_with_zero [] = false
-begins_with_zero (byte ∷ bytes) = byte == 48
+begins_with_zero (byte ∷ bytes) = byte == digit_zero
 
 -- the number that a text writes: digits of which the first isn't 0, from 1 to a greatest one
 abbrev pub number_in : ℕ → List ℕ → Option ℕ

@@ -5,20 +5,10 @@ ghost use Rattle.std.specs.Str.Parse.{digits_value};
 ghost use Rattle.hl_num.specs.Reading.{is_digit};
 ghost use Rattle.command_words.specs.Limits as spec;
 
+use hl_base::are_digits;
+
 /// The greatest limit of a store, in bytes.
 pub(crate) const MOST_LIMIT: u64 = 1_099_511_627_776;
-
-fn is_digit(byte: u8) -> bool
-    ensures { result ≡ is_digit byte }
-{
-    byte.is_ascii_digit()
-}
-
-fn are_digits(text: &[u8]) -> bool
-    ensures { result ≡ list_all is_digit text.now }
-{
-    text.iter().all(|byte| is_digit(*byte))
-}
 
 /// The number of some digits, or the greatest that is told.
 fn digits_number(text: &[u8]) -> u64

@@ -1,6 +1,7 @@
 //! The lines that say why a command is refused.
 ghost use Rattle.std.specs.Prelude.{◌≡◌, ◌++◌, ◌∷◌, [], IfOk};
 ghost use Rattle.std.specs.String.{string_bytes};
+ghost use Rattle.hl_base.specs.Ascii.{line_feed};
 ghost use Rattle.refusals.specs.Errors as spec;
 
 use crate::refusal::PatternOf;
@@ -14,7 +15,7 @@ use std::string::ToString;
 
 /// A line of one text.
 fn ended(mut line: String) -> Result<Bytes, Memory>
-    ensures { IfOk result (λ bytes. bytes ≡ string_bytes line ++ (10 ∷ [])) }
+    ensures { IfOk result (λ bytes. bytes ≡ string_bytes line ++ (line_feed ∷ [])) }
 {
     line.push_str("\n")?;
     Ok(Bytes::from_vec(line.into_bytes()))

@@ -3,13 +3,14 @@ use Rattle.std.proofs.Common.{ℕ, zero, suc, ◌≡◌, ◌+◌, ◌*◌, ◌�
 use Rattle.std.specs.Prelude.{nat_lt}
 use Rattle.std.proofs.lemmas.Bool.Decides.{nat_tests}
 use Rattle.hl_base.specs.Items.{items_of}
+use Rattle.hl_base.specs.Limits.{item_limit, text_limit}
 use Rattle.book.specs.declared.fault.Fault.{Fault}
 use Rattle.book.specs.declared.item.Book.{Book}
 use Rattle.book.specs.declared.transaction.Txn.{Txn}
 use Rattle.balancing.specs.Load.{load}
 use Rattle.balancing.specs.Solves.{Solves}
 use Rattle.balancing.proofs.Solving.{solves_loads}
-use Rattle.live_journal.specs.Loading.{book_from, book_of, first_of, limit_fault, most_bytes, most_items, past_limit, text_fault}
+use Rattle.live_journal.specs.Loading.{book_from, book_of, first_of, limit_fault, past_limit, text_fault}
 use Rattle.sample_text.specs.Sample.{entry_of as text_of, sample_text}
 use Rattle.sample_journals.specs.Journal.{found_from, Loads}
 use Rattle.sample_journals.proofs.Cut.{entries_split, placed, sample_items, sample_read, texts, txns_are}
@@ -43,10 +44,10 @@ within n most h = grind (arith, nat_tests)
 none_past : (a b : Bool) (x y : Option (ℕ × ℕ)) → a ≡ false → b ≡ false → cond a x (cond b y None) ≡ None
 none_past a b x y ea eb = rw (ea, eb) refl
 
-within_limits : (text : List ℕ) → length text ≤ most_bytes → length (items_of text) ≤ most_items → past_limit text ≡ None
+within_limits : (text : List ℕ) → length text ≤ text_limit → length (items_of text) ≤ item_limit → past_limit text ≡ None
 within_limits text few_bytes few_items =
-    none_past (nat_lt most_bytes (length text)) (nat_lt most_items (length (items_of text))) (Some (most_bytes, length text)) (Some (most_items, length (items_of text)))
-    (within (length text) most_bytes few_bytes) (within (length (items_of text)) most_items few_items)
+    none_past (nat_lt text_limit (length text)) (nat_lt item_limit (length (items_of text))) (Some (text_limit, length text)) (Some (item_limit, length (items_of text)))
+    (within (length text) text_limit few_bytes) (within (length (items_of text)) item_limit few_items)
 
 sound_by : (limit : Option (ℕ × ℕ)) (r : Result Book Fault) (b : Book) → limit ≡ None → r ≡ Ok b → first_of (limit_fault limit ∷ text_fault r ∷ []) ≡ None
 sound_by limit r b el er = rw (el, er) refl

@@ -1,6 +1,7 @@
 -- The journal that the text of a sample is.
 use Rattle.std.specs.Prelude.{◌≡◌, ◌≤◌, ℕ, zero, suc, ℤ, pos, neg_ℤ, ◌+◌, ◌*◌, ◌/◌, ◌%◌, ◌==◌, Bool, true, false, List, [], ◌∷◌, ◌++◌, length, codes, Option, Some, None, Ok}
 use Rattle.std.specs.Fmt.{decimal}
+use Rattle.hl_base.specs.Ascii.{dot}
 use Rattle.hl_base.specs.Items.{items_of}
 use Rattle.hl_num.specs.Decimal.{Decimal}
 use Rattle.book.specs.declared.amount.Amount.{Amount}
@@ -25,7 +26,7 @@ euros cents = record { mantissa = cents; places = 2 }
 
 -- two decimals behind a point, and the symbol behind a space
 abbrev pub with_point : Written
-with_point = record { left = false; spaced = true; mark = Some 46; group = None; first = 3; rest = 3 }
+with_point = record { left = false; spaced = true; mark = Some dot; group = None; first = 3; rest = 3 }
 
 abbrev pub amount_of : ℤ → Amount
 amount_of cents = record { symbol = codes "EUR"; value = euros cents; shape = with_point }

@@ -2,6 +2,7 @@
 use Rattle.std.specs.Prelude.{ℕ, Bool, false, true, ◌==◌, if◌then◌else◌, List, [], ◌∷◌, codes, map, Option, Some, None, Result, Ok, Err}
 use Rattle.std.specs.Borrow.{Bor}
 use Rattle.std.specs.Str.{bytes_eq}
+use Rattle.hl_base.specs.Ascii.{digit_zero}
 use Rattle.clap.specs.Words.{App, Kinds, Row, Rule, fault_of, first_of, first_value, matches_of, new_app, new_rule, with_rule}
 use Rattle.clap.specs.declared.error.kind.ErrorKind.{ErrorKind}
 use Rattle.clap.specs.declared.error.kind.ErrorKind.TheVariants as kind
@@ -100,7 +101,7 @@ said_by words = said_or_usage (rows_by words)
 
 abbrev pub begins_with_zero : List ℕ → Bool
 begins_with_zero [] = false
-begins_with_zero (byte ∷ bytes) = byte == 48
+begins_with_zero (byte ∷ bytes) = byte == digit_zero
 
 -- a number from 1 to a greatest one, in decimal digits of which the first isn't 0
 abbrev pub plain_number : ℕ → List ℕ → Option ℕ

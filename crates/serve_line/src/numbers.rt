@@ -6,19 +6,7 @@ ghost use Rattle.hl_num.specs.Reading.{is_digit};
 ghost use Rattle.command_words.specs.Limits as limits;
 ghost use Rattle.serve_line.specs.Words as spec;
 
-use hl_base::Text;
-
-fn is_digit(byte: u8) -> bool
-    ensures { result ≡ is_digit byte }
-{
-    byte.is_ascii_digit()
-}
-
-fn are_digits(text: &[u8]) -> bool
-    ensures { result ≡ list_all is_digit text.now }
-{
-    text.iter().all(|byte| is_digit(*byte))
-}
+use hl_base::{Text, are_digits};
 
 /// The number of some digits, or the greatest that is told.
 fn digits_number(text: &[u8]) -> u64

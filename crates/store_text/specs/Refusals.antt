@@ -1,6 +1,7 @@
 -- Why a store isn't read, opened or made, and how that is said.
 use Rattle.std.specs.Prelude.{ℕ, List, [], ◌∷◌, ◌++◌, codes, Option, Some, None, Result, Ok, Err}
 use Rattle.std.specs.Fmt.{decimal}
+use Rattle.hl_base.specs.Ascii.{line_feed}
 use Rattle.hl_base.specs.declared.shelf.ShelfFault.{ShelfFault}
 use Rattle.hl_base.specs.declared.shelf.ShelfFault.TheVariants as shelf
 use Rattle.text_store.specs.declared.fault.StoreFault.{StoreFault}
@@ -82,7 +83,7 @@ status_of _ = 8
 
 -- a line with its end
 abbrev pub ended : List ℕ → List ℕ
-ended line = line ++ (10 ∷ [])
+ended line = line ++ (line_feed ∷ [])
 
 abbrev pub full_line : ℕ → ℕ → List ℕ
 full_line size limit = ended (codes "error: full: " ++ decimal size ++ codes " of " ++ decimal limit)

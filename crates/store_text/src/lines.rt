@@ -2,6 +2,7 @@
 ghost use Rattle.std.specs.Prelude.{◌≡◌, IfOk, ◌++◌, ◌∷◌, []};
 ghost use Rattle.std.specs.Fmt.{decimal};
 ghost use Rattle.std.specs.String.{string_bytes};
+ghost use Rattle.hl_base.specs.Ascii.{line_feed};
 ghost use Rattle.store_text.specs.Refusals as spec;
 
 use crate::refusal::StoreRefusal;
@@ -11,7 +12,7 @@ use std::string::ToString;
 
 /// A line of one text.
 fn ended(mut line: String) -> Result<Bytes, Memory>
-    ensures { IfOk result (λ bytes. bytes ≡ string_bytes line ++ (10 ∷ [])) }
+    ensures { IfOk result (λ bytes. bytes ≡ string_bytes line ++ (line_feed ∷ [])) }
 {
     line.push_str("\n")?;
     Ok(Bytes::from_vec(line.into_bytes()))

@@ -4,7 +4,8 @@ use Rattle.std.proofs.lemmas.Bool.Decides.{nat_tests}
 use Rattle.hl_base.specs.Causes.{Rose}
 use Rattle.hl_base.specs.Items.{items_of}
 use Rattle.hl_base.specs.declared.disk.Disk.{Ghosts}
-use Rattle.live_journal.specs.Loading.{book_of, fault_of, first_of, limit_fault, most_bytes, most_items, text_fault}
+use Rattle.hl_base.specs.Limits.{item_limit, text_limit}
+use Rattle.live_journal.specs.Loading.{book_of, fault_of, first_of, limit_fault, text_fault}
 use Rattle.live_journal.specs.declared.fault.OpenFault.{OpenFault}
 use Rattle.live_journal.specs.declared.fault.OpenFault.TheVariants as unopened
 use Rattle.text_store.specs.Stores.{Keeps, fault_count}
@@ -36,7 +37,7 @@ few_by false many x y rest e = refl
 
 few_bytes : (text : List ℕ) → fault_of None text ≡ None → length text ≤ 16777216
 few_bytes text e =
-    let within = few_by (nat_lt most_bytes (length text)) (nat_lt most_items (length (items_of text))) (most_bytes, length text) (most_items, length (items_of text))
+    let within = few_by (nat_lt text_limit (length text)) (nat_lt item_limit (length (items_of text))) (text_limit, length text) (item_limit, length (items_of text))
     (text_fault (book_of None text)) e in
     grind (arith, nat_tests)
 

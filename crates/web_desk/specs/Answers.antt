@@ -2,6 +2,7 @@
 use Rattle.std.specs.Prelude.{ℕ, Bool, true, false, List, [], ◌∷◌, ◌++◌, length, ◌==◌, Option, Some, None, Result, Ok, Err, if◌then◌else◌, codes}
 use Rattle.std.specs.Option.{unwrap_or}
 use Rattle.std.specs.Fmt.{decimal}
+use Rattle.hl_base.specs.Ascii.{carriage_return, line_feed}
 use Rattle.http.specs.StatusCode.{reason_phrase}
 use Rattle.csv_rules.specs.declared.faults.RulesFault.{RulesFault}
 use Rattle.csv_rules.specs.declared.faults.RulesFault.TheVariants as rules_fault
@@ -26,7 +27,7 @@ use Rattle.desk.specs.Entries.{Entry}
 use Rattle.web_desk.specs.Lines.{ended, body_of}
 
 abbrev pub crlf : List ℕ
-crlf = 13 ∷ 10 ∷ []
+crlf = carriage_return ∷ line_feed ∷ []
 
 -- the phrase of a status
 unfoldable pub phrase_of : ℕ → List ℕ

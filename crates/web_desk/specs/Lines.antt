@@ -1,6 +1,7 @@
 -- The lines in which replies say what was done or why not. Each ends with LF.
 use Rattle.std.specs.Prelude.{ℕ, List, [], ◌∷◌, ◌++◌, codes}
 use Rattle.std.specs.Fmt.{decimal}
+use Rattle.hl_base.specs.Ascii.{line_feed}
 use Rattle.book.specs.FaultLine.{fault_line}
 use Rattle.csv_rules.specs.declared.faults.RulesFault.{RulesFault}
 use Rattle.csv_rules.specs.declared.faults.RulesFault.TheVariants as rules_fault
@@ -22,7 +23,7 @@ use Rattle.report_commands.specs.declared.fault.WordsFault.{WordsFault}
 use Rattle.report_commands.specs.declared.fault.WordsFault.TheVariants as words
 
 abbrev pub ended : List ℕ → List ℕ
-ended line = line ++ (10 ∷ [])
+ended line = line ++ (line_feed ∷ [])
 
 -- a text, a number, a text and a number
 abbrev pub two_numbers : List ℕ → ℕ → List ℕ → ℕ → List ℕ

@@ -4,6 +4,7 @@ use Rattle.std.specs.List.{list_any, list_all, slice_split}
 use Rattle.std.specs.Char.{to_ascii_lowercase, is_ascii_digit}
 use Rattle.std.specs.Str.{bytes_eq}
 use Rattle.std.specs.Str.Parse.{digits_value}
+use Rattle.hl_base.specs.Ascii.{comma, digit_zero, space, tab}
 use Rattle.httparse.specs.Grammar.{RequestHead}
 use Rattle.httparse.specs.Spans.{name_and_value}
 
@@ -31,7 +32,7 @@ values_of name fields = map (λ field. field.1) (filter (λ field. is_word name 
 abbrev pub starts_well : List ℕ → Bool
 starts_well [] = false
 starts_well (d ∷ []) = true
-starts_well (d ∷ e ∷ ds) = nat_lt 48 d
+starts_well (d ∷ e ∷ ds) = nat_lt digit_zero d
 
 -- decimal digits without a leading zero
 abbrev pub is_number : List ℕ → Bool
@@ -57,7 +58,7 @@ body_length fields = unless_coded (values_of transfer_encoding fields) (said_by 
 
 -- what stands between the words of a field Connection: a comma, a space or a tab
 abbrev pub is_between : ℕ → Bool
-is_between b = b == 44 || b == 32 || b == 9
+is_between b = b == comma || b == space || b == tab
 
 -- the word close is among the words of a value
 abbrev pub has_close : List ℕ → Bool

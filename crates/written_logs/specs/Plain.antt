@@ -2,6 +2,7 @@
 use Rattle.std.specs.Prelude.{◌≡◌, ℕ, ◌^◌, ◌<◌, ◌≤◌, Bool, true, false, not, List, ◌==◌, length, map}
 use Rattle.std.specs.List.{flat_map, list_all, suffix_len, AllByRecursion}
 use Rattle.std.specs.Str.{is_utf8}
+use Rattle.hl_base.specs.Ascii.{line_feed, semicolon}
 use Rattle.hl_base.specs.Items.{is_white}
 use Rattle.hl_time.specs.Calendar.{IsDay}
 use Rattle.book.specs.declared.transaction.Posting.{Posting}
@@ -21,13 +22,13 @@ pub record IsAccount (account : List ℕ) : Type 0 where
   pub utf8 : is_utf8 account ≡ true
   pub parts : has_parts account ≡ true
   pub whole : account_len account ≡ length account
-  pub line : lacks 10 account ≡ true
+  pub line : lacks line_feed account ≡ true
 
 -- A description: in UTF-8, on one line, without a `;`, no code or mark, and without white space at its ends.
 pub record IsDescription (text : List ℕ) : Type 0 where
   pub utf8 : is_utf8 text ≡ true
-  pub line : lacks 10 text ≡ true
-  pub remark : lacks 59 text ≡ true
+  pub line : lacks line_feed text ≡ true
+  pub remark : lacks semicolon text ≡ true
   pub plain : reads_otherwise text ≡ false
   pub first : first_is is_white text ≡ false
   pub last : suffix_len is_white text ≡ 0

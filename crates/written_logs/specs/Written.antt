@@ -1,6 +1,8 @@
 -- Transactions as a journal's text, and as they are read from it.
 use Rattle.std.specs.Prelude.{◌≡◌, ◌≤◌, ℕ, ◌+◌, List, [], ◌∷◌, ◌++◌, length, Option, Ok}
 use Rattle.std.specs.List.{flat_map, AllByRecursion}
+use Rattle.hl_base.specs.Ascii.{line_feed}
+use Rattle.hl_base.specs.Limits.{entry_limit}
 use Rattle.hl_num.specs.Decimal.{Decimal}
 use Rattle.book.specs.declared.item.Placed.{Placed}
 use Rattle.book.specs.declared.transaction.Posting.{Posting}
@@ -20,7 +22,7 @@ IsOwn shape = (value : Decimal) → shape (hours value) ≡ (hours value).shape
 
 -- the lines of each transaction, with an empty line after them
 abbrev pub journal_of : Shaping → Detail → List Txn → List ℕ
-journal_of shape detail txns = flat_map (λ t. txn_text shape detail t ++ (10 ∷ [])) txns
+journal_of shape detail txns = flat_map (λ t. txn_text shape detail t ++ (line_feed ∷ [])) txns
 
 -- the same posting in another line
 abbrev pub numbered_posting : ℕ → Posting → Posting
@@ -42,7 +44,7 @@ numbered line (t ∷ ts) = numbered_txn line t ∷ numbered (line + 1 + length t
 
 -- no entry is over 65,536 bytes
 abbrev pub AreShort : Shaping → Detail → List Txn → Type 0
-AreShort shape detail txns = AllByRecursion (λ t. length (txn_text shape detail t) ≤ 65536) txns
+AreShort shape detail txns = AllByRecursion (λ t. length (txn_text shape detail t) ≤ entry_limit) txns
 
 -- A text reads, and its transactions are these.
 pub record Reads (year : Option ℕ) (text : List ℕ) (txns : List Txn) : Type 0 where
