@@ -2,6 +2,7 @@
 use Rattle.std.specs.Prelude.{ℕ, ◌+◌, List, [], ◌∷◌, ◌++◌, map, find, Option, Some, None, Result, Ok, Err}
 use Rattle.std.specs.List.{flat_map}
 use Rattle.std.specs.Str.{bytes_eq}
+use Rattle.hl_base.specs.Ascii.{line_feed}
 use Rattle.hl_base.specs.declared.change.Latest.{Latest}
 use Rattle.book.specs.declared.fault.Fault.{Fault}
 use Rattle.book.specs.declared.item.Placed.{Placed}
@@ -79,7 +80,7 @@ entry_text context txn = txn_text (entry_shape context) detail.Written txn
 -- entries as they are printed in a context, with a blank line between them
 abbrev pub entries_text : Context → List Txn → List ℕ
 entries_text context [] = []
-entries_text context (txn ∷ txns) = entry_text context txn ++ flat_map (λ next. 10 ∷ entry_text context next) txns
+entries_text context (txn ∷ txns) = entry_text context txn ++ flat_map (λ next. line_feed ∷ entry_text context next) txns
 
 -- ---- what is remembered
 

@@ -33,18 +33,20 @@ impl<D: Disk> Desk<D> {
         (self.live.revision(), self.requests, self.refused)
     }
 
-    /// Gives both disks back, the first and the second.
+    /// Gives both disks back, the first and the second. The program ends behind the last answer of a machine, so its
+    /// journal isn't taken apart first: its memory is left to that end.
     pub fn close(self) -> (D, D)
         ensures { result ≡ disks self.store }
     {
         let Desk {
             store,
-            live: _,
+            live,
             latest: _,
             allow: _,
             requests: _,
             refused: _,
         } = self;
+        std::mem::forget(live);
         store.close()
     }
 }
