@@ -1,6 +1,7 @@
 -- What a text makes, or why it is refused.
 use Rattle.std.proofs.Common.{◌≡◌, inl, ℕ, Bool, false, List, Option, Result, Ok, Err, IfOk, IfErr, nat_lt, length, if◌then◌else◌, refl, ap, sym, ◌∙◌, subst}
 use Rattle.hl_base.specs.Items.{items_of}
+use Rattle.hl_base.specs.Limits.{item_limit}
 use Rattle.book.specs.Bounds.{TurnoverFits}
 use Rattle.book.specs.Postings.{postings_of}
 use Rattle.book.specs.declared.fault.Fault.{Fault}
@@ -20,7 +21,7 @@ use Rattle.refusals.specs.declared.refusal.Refusal.TheVariants as refusal
 use Rattle.book_commands.specs.Answers.{Finds, IsQuiet, MakerStays, RefusesText, Telling, TellsMaker}
 use Rattle.book_commands.specs.Journals.{IsBookIn, IsCheckedIn, IsCheckedOf, IsJournalIn, IsJournalOf, IsKeptOf, IsWholeOf}
 use Rattle.book_commands.specs.Reported.{told_report}
-use Rattle.book_commands.specs.Texts.{Making, fault_refusal, judged_text, made_loaded, made_read, most_items}
+use Rattle.book_commands.specs.Texts.{Making, fault_refusal, judged_text, made_loaded, made_read}
 use Rattle.book_commands.specs.Works.{report_made}
 use Rattle.book_commands.specs.declared.journal.Checked.{Checked}
 use Rattle.book_commands.specs.declared.journal.Journal.{Journal}
@@ -67,21 +68,21 @@ unbooked r year text items e h make =
     subst F (sym e) (h make)
 
 -- few items
-pub within_items : (r : Refusal) (text : List ℕ) (year : Option ℕ) → nat_lt most_items (length (items_of text)) ≡ false
+pub within_items : (r : Refusal) (text : List ℕ) (year : Option ℕ) → nat_lt item_limit (length (items_of text)) ≡ false
     → ((make : Making) → RefusesText r (made_read make (items_in year text)))
     → (make : Making) → RefusesText r (judged_text make year text)
 within_items r text year few h make =
-    let many = refused 7 (limit_line (length (items_of text)) most_items) in
+    let many = refused 7 (limit_line (length (items_of text)) item_limit) in
     let F : Bool → Type 0 = λ b. RefusesText r (if b then Err many else made_read make (items_in year text)) in
     subst F (sym few) (h make)
 
-pub items_refused : (year : Option ℕ) (text : List ℕ) (r : Result (List Placed) Refusal) → nat_lt most_items (length (items_of text)) ≡ false
+pub items_refused : (year : Option ℕ) (text : List ℕ) (r : Result (List Placed) Refusal) → nat_lt item_limit (length (items_of text)) ≡ false
     → IfErr r (λ why. (make : Making) → RefusesText why (made_read make (items_in year text)))
     → IfErr r (λ why. (make : Making) → RefusesText why (judged_text make year text))
 items_refused year text (Ok items) few h = tt
 items_refused year text (Err r) few h = within_items r text year few h
 
-pub refused_in : {A : Type 0} (year : Option ℕ) (text : List ℕ) (items : List Placed) (r : Result A Refusal) → nat_lt most_items (length (items_of text)) ≡ false
+pub refused_in : {A : Type 0} (year : Option ℕ) (text : List ℕ) (items : List Placed) (r : Result A Refusal) → nat_lt item_limit (length (items_of text)) ≡ false
     → items_in year text ≡ Ok items
     → IfErr r (λ why. (make : Making) → RefusesText why (made_loaded make items (load items)))
     → IfErr r (λ why. (make : Making) → RefusesText why (judged_text make year text))
@@ -136,10 +137,10 @@ whole_is year text items journal is e =
     }
 
 -- a text that loads is answered by what is made of its items and their book
-made_is : (make : Making) (year : Option ℕ) (text : List ℕ) (items : List Placed) (book : Book) → nat_lt most_items (length (items_of text)) ≡ false
+made_is : (make : Making) (year : Option ℕ) (text : List ℕ) (items : List Placed) (book : Book) → nat_lt item_limit (length (items_of text)) ≡ false
     → items_in year text ≡ Ok items → load items ≡ Ok book → judged_text make year text ≡ Ok (make items book)
 made_is make year text items book few e l =
-    let many = refused 7 (limit_line (length (items_of text)) most_items) in
+    let many = refused 7 (limit_line (length (items_of text)) item_limit) in
     let over = made_read make (items_in year text) in
     let first : judged_text make year text ≡ over = ap (λ (b : Bool). if b then Err many else over) few in
     let second : over ≡ made_loaded make items (load items) = ap (λ (read : Result (List Placed) Fault). made_read make read) e in
@@ -150,7 +151,7 @@ found_is : (r : Result (List ℕ) Refusal) (a b : Judged) → a ≡ b → Finds 
 found_is r a b e h = subst (λ (t : Judged). Finds r t) (sym e) h
 
 -- what is asked of a text is what is asked of the journal that it makes
-pub journal_found : (make : Making) (year : Option ℕ) (text : List ℕ) (journal : Journal) (r : Result (List ℕ) Refusal) → nat_lt most_items (length (items_of text)) ≡ false
+pub journal_found : (make : Making) (year : Option ℕ) (text : List ℕ) (journal : Journal) (r : Result (List ℕ) Refusal) → nat_lt item_limit (length (items_of text)) ≡ false
     → IsJournalIn year text journal → ((items : List Placed) → IsJournalOf items journal → Finds r (Ok (make items journal.book)))
     → Finds r (judged_text make year text)
 journal_found make year text journal r few is found =
@@ -158,7 +159,7 @@ journal_found make year text journal r few is found =
     (made_is make year text is.items journal.book few is.read is.made.book) (found is.items is.made)
 
 -- or of the names that it declares and its book
-pub checked_found : (make : Making) (year : Option ℕ) (text : List ℕ) (checked : Checked) (r : Result (List ℕ) Refusal) → nat_lt most_items (length (items_of text)) ≡ false
+pub checked_found : (make : Making) (year : Option ℕ) (text : List ℕ) (checked : Checked) (r : Result (List ℕ) Refusal) → nat_lt item_limit (length (items_of text)) ≡ false
     → IsCheckedIn year text checked → ((items : List Placed) → IsCheckedOf items checked → Finds r (Ok (make items checked.book)))
     → Finds r (judged_text make year text)
 checked_found make year text checked r few is found =
@@ -166,13 +167,13 @@ checked_found make year text checked r few is found =
     (made_is make year text is.items checked.book few is.read is.made.book) (found is.items is.made)
 
 -- or of its items and their book
-pub kept_found : (make : Making) (year : Option ℕ) (text : List ℕ) (kept : Kept) (r : Result (List ℕ) Refusal) → nat_lt most_items (length (items_of text)) ≡ false
+pub kept_found : (make : Making) (year : Option ℕ) (text : List ℕ) (kept : Kept) (r : Result (List ℕ) Refusal) → nat_lt item_limit (length (items_of text)) ≡ false
     → IsKeptOf year text kept → Finds r (Ok (make kept.items kept.book)) → Finds r (judged_text make year text)
 kept_found make year text kept r few is found =
     found_is r (judged_text make year text) (Ok (make kept.items kept.book)) (made_is make year text kept.items kept.book few is.read is.book) found
 
 -- or of its items and what they make
-pub whole_found : (make : Making) (year : Option ℕ) (text : List ℕ) (whole : Whole) (r : Result (List ℕ) Refusal) → nat_lt most_items (length (items_of text)) ≡ false
+pub whole_found : (make : Making) (year : Option ℕ) (text : List ℕ) (whole : Whole) (r : Result (List ℕ) Refusal) → nat_lt item_limit (length (items_of text)) ≡ false
     → IsWholeOf year text whole → Finds r (Ok (make whole.items whole.journal.book)) → Finds r (judged_text make year text)
 whole_found make year text whole r few is found =
     found_is r (judged_text make year text) (Ok (make whole.items whole.journal.book))
@@ -226,9 +227,9 @@ told_read : (asked : Asked) (day : ℕ) (items : Result (List Placed) Fault)
 told_read asked day (Ok items) = told_loaded asked day items (load items)
 told_read asked day (Err fault) = refl
 
-pub report_judged : (asked : Asked) (day : ℕ) (year : Option ℕ) (text : List ℕ) → nat_lt most_items (length (items_of text)) ≡ false
+pub report_judged : (asked : Asked) (day : ℕ) (year : Option ℕ) (text : List ℕ) → nat_lt item_limit (length (items_of text)) ≡ false
     → judged_text (report_made asked day) year text ≡ told_report (report_over asked day year text)
 report_judged asked day year text few =
-    let many = refused 7 (limit_line (length (items_of text)) most_items) in
+    let many = refused 7 (limit_line (length (items_of text)) item_limit) in
     let over = made_read (report_made asked day) (items_in year text) in
     ap (λ (b : Bool). if b then Err many else over) few ∙ told_read asked day (items_in year text)

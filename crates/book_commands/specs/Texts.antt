@@ -1,6 +1,7 @@
 -- What is answered to a text that has to load first.
 use Rattle.std.specs.Prelude.{ℕ, List, nat_lt, Option, Result, Ok, Err, if◌then◌else◌, length}
 use Rattle.hl_base.specs.Items.{items_of}
+use Rattle.hl_base.specs.Limits.{item_limit}
 use Rattle.book.specs.declared.fault.Fault.{Fault}
 use Rattle.book.specs.declared.item.Book.{Book}
 use Rattle.book.specs.declared.item.Placed.{Placed}
@@ -9,10 +10,6 @@ use Rattle.balancing.specs.Load.{load}
 use Rattle.journal_reader.specs.Items.{items_in}
 use Rattle.refusals.specs.Errors.{fault_status, limit_line}
 use Rattle.refusals.specs.Outcomes.{Judged, Outcome, refused}
-
--- the most items that a text may have
-abbrev pub most_items : ℕ
-most_items = 200000
 
 -- what is answered over the items of a text and their book
 abbrev pub Making : Type 0
@@ -34,5 +31,5 @@ made_read make (Err fault) = Err (fault_refusal fault)
 -- year for dates without one, if there is one, and loaded.
 abbrev pub judged_text : Making → Option ℕ → List ℕ → Judged
 judged_text make year text =
-    if nat_lt most_items (length (items_of text)) then Err (refused 7 (limit_line (length (items_of text)) most_items))
+    if nat_lt item_limit (length (items_of text)) then Err (refused 7 (limit_line (length (items_of text)) item_limit))
     else made_read make (items_in year text)

@@ -2,6 +2,8 @@
 use Rattle.std.specs.Prelude.{ℕ, ◌≤◌, length, Bool, List, [], ◌∷◌, ◌++◌, Option, Some, None, Result, Ok, Err}
 use Rattle.std.specs.List.{flat_map}
 use Rattle.std.specs.Option.{option_or}
+use Rattle.hl_base.specs.Ascii.{line_feed}
+use Rattle.hl_base.specs.Limits.{text_limit}
 use Rattle.book.specs.declared.item.Book.{Book}
 use Rattle.book.specs.declared.item.Placed.{Placed}
 use Rattle.book.specs.declared.transaction.Txn.{Txn}
@@ -43,7 +45,7 @@ use Rattle.book_commands.specs.declared.work.Work.TheVariants as works
 
 -- a transaction as an entry that is read in a context, and an empty line
 abbrev pub entry_text : Context → Txn → List ℕ
-entry_text context txn = txn_text (entry_shape context) detail.Written txn ++ (10 ∷ [])
+entry_text context txn = txn_text (entry_shape context) detail.Written txn ++ (line_feed ∷ [])
 
 abbrev pub entries_text : Context → List Txn → List ℕ
 entries_text context txns = flat_map (entry_text context) txns
@@ -158,4 +160,4 @@ IsWorkable other = Unit {0}
 -- a text of which more is asked than itself has its limit
 abbrev pub IsWithin : Work → List ℕ → Type 0
 IsWithin works.Text text = Unit {0}
-IsWithin other text = length text ≤ 16777216
+IsWithin other text = length text ≤ text_limit

@@ -1,5 +1,6 @@
 //! The entries that close accounts and open them again, as text.
 ghost use Rattle.std.specs.Prelude.{◌≡◌, ◌≤◌, ◌<◌, ℕ, List, Ok, IfOk, length};
+ghost use Rattle.hl_base.specs.Limits.{text_limit};
 ghost use Rattle.hl_time.specs.Calendar.{IsDay, last_day};
 ghost use Rattle.book.specs.Bounds.{TurnoverFits};
 ghost use Rattle.book.specs.Postings.{postings_of};
@@ -116,7 +117,7 @@ pub(crate) fn close_on<R: Threads + Sync, M: Maker, L: Ledger>(
     maker: &mut M,
     steps: &mut Steps<L>,
 ) -> Result<Bytes, Refusal>
-    requires size { length text.now ≤ 16777216 }
+    requires size { length text.now ≤ text_limit }
     requires day { IsDay today.day.0 }
     ensures found { Finds result (judged_text (spec.close_made asked.now today.day.0) today.year text.now) }
     ensures kind { IsOfReport result }

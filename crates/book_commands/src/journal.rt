@@ -1,6 +1,7 @@
 //! What a text makes that is loaded.
 ghost use Rattle.std.specs.Prelude.{◌≡◌, ◌≤◌, Ok, false, IfOk, IfErr, OnOk, nat_lt, length};
 ghost use Rattle.hl_base.specs.Items.{items_of};
+ghost use Rattle.hl_base.specs.Limits.{item_limit, text_limit};
 ghost use Rattle.book.specs.Bounds.{TurnoverFits};
 ghost use Rattle.book.specs.Postings.{postings_of};
 ghost use Rattle.balancing.specs.Load.{load};
@@ -8,12 +9,12 @@ ghost use Rattle.journal_reader.specs.Items.{items_in};
 ghost use Rattle.journal_reader.specs.Whole.{AreWithin};
 ghost use Rattle.book_commands.specs.Answers.{RefusesText};
 ghost use Rattle.book_commands.specs.Journals.{IsCheckedIn, IsCheckedOf, IsBookIn, IsJournalIn, IsJournalOf, IsKeptOf, IsWholeOf};
-ghost use Rattle.book_commands.specs.Texts.{Making, judged_text, made_loaded, made_read, most_items};
+ghost use Rattle.book_commands.specs.Texts.{Making, judged_text, made_loaded, made_read};
 
 use balancing::{CheckFault, check};
 use book::{Book, Items, Styles};
 use book_care::Declarations;
-use hl_base::{Piece, Steps, cut_items};
+use hl_base::{ITEM_LIMIT, Piece, Steps, cut_items};
 use journal_reader::ReadFault;
 use parallel_reading::read_items;
 use prices::Prices;
@@ -22,9 +23,6 @@ use refusals::{Refusal, past_limit, refuse_fault};
 use std::alloc::Global;
 use std::sync::ledger::Ledger;
 use std::thread::Threads;
-
-/// The most items that a text may have.
-const MOST_ITEMS: u64 = 200_000;
 
 /// What the items of a text make: their book, and the styles, types of accounts and prices that they say.
 #[derive(Drop)]
@@ -100,16 +98,16 @@ fn load_items<R: Threads + Sync, L: Ledger>(
     year: Option<u16>,
     steps: &mut Steps<L>,
 ) -> Result<Items, Refusal>
-    requires size { length text.now ≤ 16777216 }
-    ensures few { OnOk result (nat_lt most_items (length (items_of text.now)) ≡ false) }
+    requires size { length text.now ≤ text_limit }
+    ensures few { OnOk result (nat_lt item_limit (length (items_of text.now)) ≡ false) }
     ensures items { IfOk result (λ items. items_in year text.now ≡ Ok items) }
     ensures refused { IfErr result (λ r. (make : Making)
         → RefusesText r (judged_text make year text.now)) }
 {
     let pieces = cut_items(alloc, text)?;
     let count = pieces.len() as u64;
-    if count > MOST_ITEMS {
-        let line = past_limit(alloc, count, MOST_ITEMS)?;
+    if count > ITEM_LIMIT {
+        let line = past_limit(alloc, count, ITEM_LIMIT)?;
         return Err(Refusal::Line { status: 7, line });
     }
     read(rt, alloc, text, pieces.as_slice(), year, steps)
@@ -141,8 +139,8 @@ pub(crate) fn load_journal<R: Threads + Sync, L: Ledger>(
     year: Option<u16>,
     steps: &mut Steps<L>,
 ) -> Result<Journal, Refusal>
-    requires size { length text.now ≤ 16777216 }
-    ensures few { OnOk result (nat_lt most_items (length (items_of text.now)) ≡ false) }
+    requires size { length text.now ≤ text_limit }
+    ensures few { OnOk result (nat_lt item_limit (length (items_of text.now)) ≡ false) }
     ensures journal { IfOk result (λ journal. IsJournalIn year text.now journal) }
     ensures refused { IfErr result (λ r. (make : Making)
         → RefusesText r (judged_text make year text.now)) }
@@ -170,8 +168,8 @@ pub(crate) fn load_checked<R: Threads + Sync, L: Ledger>(
     year: Option<u16>,
     steps: &mut Steps<L>,
 ) -> Result<Checked, Refusal>
-    requires size { length text.now ≤ 16777216 }
-    ensures few { OnOk result (nat_lt most_items (length (items_of text.now)) ≡ false) }
+    requires size { length text.now ≤ text_limit }
+    ensures few { OnOk result (nat_lt item_limit (length (items_of text.now)) ≡ false) }
     ensures checked { IfOk result (λ checked. IsCheckedIn year text.now checked) }
     ensures refused { IfErr result (λ r. (make : Making)
         → RefusesText r (judged_text make year text.now)) }
@@ -188,8 +186,8 @@ fn load_book<R: Threads + Sync, L: Ledger>(
     year: Option<u16>,
     steps: &mut Steps<L>,
 ) -> Result<Book, Refusal>
-    requires size { length text.now ≤ 16777216 }
-    ensures few { OnOk result (nat_lt most_items (length (items_of text.now)) ≡ false) }
+    requires size { length text.now ≤ text_limit }
+    ensures few { OnOk result (nat_lt item_limit (length (items_of text.now)) ≡ false) }
     ensures book { IfOk result (λ book. IsBookIn year text.now book) }
     ensures refused { IfErr result (λ r. (make : Making)
         → RefusesText r (judged_text make year text.now)) }
@@ -207,8 +205,8 @@ pub(crate) fn load_kept<R: Threads + Sync, L: Ledger>(
     year: Option<u16>,
     steps: &mut Steps<L>,
 ) -> Result<Kept, Refusal>
-    requires size { length text.now ≤ 16777216 }
-    ensures few { OnOk result (nat_lt most_items (length (items_of text.now)) ≡ false) }
+    requires size { length text.now ≤ text_limit }
+    ensures few { OnOk result (nat_lt item_limit (length (items_of text.now)) ≡ false) }
     ensures kept { IfOk result (λ kept. IsKeptOf year text.now kept) }
     ensures refused { IfErr result (λ r. (make : Making)
         → RefusesText r (judged_text make year text.now)) }
@@ -227,8 +225,8 @@ pub(crate) fn load_whole<R: Threads + Sync, L: Ledger>(
     year: Option<u16>,
     steps: &mut Steps<L>,
 ) -> Result<Whole, Refusal>
-    requires size { length text.now ≤ 16777216 }
-    ensures few { OnOk result (nat_lt most_items (length (items_of text.now)) ≡ false) }
+    requires size { length text.now ≤ text_limit }
+    ensures few { OnOk result (nat_lt item_limit (length (items_of text.now)) ≡ false) }
     ensures whole { IfOk result (λ whole. IsWholeOf year text.now whole) }
     ensures refused { IfErr result (λ r. (make : Making)
         → RefusesText r (judged_text make year text.now)) }

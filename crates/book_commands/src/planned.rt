@@ -1,5 +1,6 @@
 //! The answer of a report to a text with what its rules make, or beside their goals.
 ghost use Rattle.std.specs.Prelude.{◌≤◌, Ok, length};
+ghost use Rattle.hl_base.specs.Limits.{text_limit};
 ghost use Rattle.hl_time.specs.Calendar.{IsDay};
 ghost use Rattle.refusals.specs.Refusing.{IsOfReport};
 ghost use Rattle.report_options.specs.Options.{IsValid};
@@ -62,7 +63,7 @@ pub(crate) fn planned_on<R: Threads + Sync, M: Maker, L: Ledger>(
     maker: &mut M,
     steps: &mut Steps<L>,
 ) -> Result<Bytes, Refusal>
-    requires size { length text.now ≤ 16777216 }
+    requires size { length text.now ≤ text_limit }
     requires day { IsDay today.day.0 }
     requires valid { IsValid asked.now.options }
     ensures found { Finds result (judged_text (report_made asked.now today.day.0) today.year text.now) }

@@ -1,5 +1,6 @@
 //! The answer of a report to a text.
 ghost use Rattle.std.specs.Prelude.{◌≡◌, ◌≤◌, List, Ok, false, length};
+ghost use Rattle.hl_base.specs.Limits.{text_limit};
 ghost use Rattle.hl_time.specs.Calendar.{IsDay};
 ghost use Rattle.book.specs.declared.item.Placed.{Placed};
 ghost use Rattle.plan_commands.specs.Reports.{asks_rules};
@@ -64,7 +65,7 @@ fn plain_on<R: Threads + Sync, M: Maker, L: Ledger>(
     maker: &mut M,
     steps: &mut Steps<L>,
 ) -> Result<Bytes, Refusal>
-    requires size { length text.now ≤ 16777216 }
+    requires size { length text.now ≤ text_limit }
     requires day { IsDay today.day.0 }
     requires valid { IsValid asked.now.options }
     requires plain { asks_rules asked.now.options ≡ false }
@@ -90,7 +91,7 @@ pub(crate) fn report_on<R: Threads + Sync, M: Maker, L: Ledger>(
     maker: &mut M,
     steps: &mut Steps<L>,
 ) -> Result<Bytes, Refusal>
-    requires size { length text.now ≤ 16777216 }
+    requires size { length text.now ≤ text_limit }
     requires day { IsDay today.day.0 }
     requires valid { IsValid asked.now.options }
     ensures found { Finds result (judged_text (report_made asked.now today.day.0) today.year text.now) }

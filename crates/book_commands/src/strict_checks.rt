@@ -1,5 +1,6 @@
 //! Checks of a journal in their order.
 ghost use Rattle.std.specs.Prelude.{◌≡◌, ◌≤◌, List, None, Ok, IfErr, OnOk, length};
+ghost use Rattle.hl_base.specs.Limits.{text_limit};
 ghost use Rattle.book.specs.declared.item.Placed.{Placed};
 ghost use Rattle.book_care.specs.Breaks.{IsFault};
 ghost use Rattle.refusals.specs.Refusing.{IsOfReport};
@@ -55,7 +56,7 @@ pub(crate) fn strict_on<R: Threads + Sync, L: Ledger>(
     year: Option<u16>,
     steps: &mut Steps<L>,
 ) -> Result<Bytes, Refusal>
-    requires size { length text.now ≤ 16777216 }
+    requires size { length text.now ≤ text_limit }
     ensures found { Finds result (judged_text (spec.strict_made checks.now) year text.now) }
     ensures kind { IsOfReport result }
     ensures quiet { IsQuiet result }
