@@ -5,6 +5,7 @@ use Rattle.hl_base.specs.declared.disk.Disk.{Ghosts as Disks}
 use Rattle.hl_base.specs.declared.outside.Source.{Ghosts as Inputs}
 use Rattle.hl_base.specs.declared.outside.Sink.{Ghosts as Outputs}
 use Rattle.hl_base.specs.declared.shelf.Shelf.{Ghosts as Shelves}
+use Rattle.hl_base.specs.Limits.{text_limit}
 use Rattle.hl_time.specs.declared.day.Day.{Day}
 use Rattle.query_terms.specs.declared.making.Maker.{Ghosts as Makers}
 use Rattle.live_journal.specs.Loading.{fault_of}
@@ -36,7 +37,7 @@ use Rattle.command_line.specs.Complete.{AnswersWell, CompletesStored, IsDone, No
 use Rattle.command_line.specs.Files.{LoadsFile, ReadsShelf}
 use Rattle.command_line.specs.Runs.{ReadsText}
 use Rattle.command_line.specs.Scenes.{OutputsStay, Scene, SourceRose, scene, soundness, text_in}
-use Rattle.command_line.specs.Sources.{file_within, most_bytes}
+use Rattle.command_line.specs.Sources.{file_within}
 use Rattle.command_line.specs.StoreRuns.{Ends, RunsStored}
 use Rattle.command_line.specs.StoreTasks.{AddedAfter, EditedBy, ImportedAfter, ImportedWith, InitsStore, MadeAfter, ToldEdit, ToldLine, ToldMaking, most_imported}
 use Rattle.command_line.specs.declared.outside.Outside.{Outside}
@@ -173,9 +174,9 @@ module _ {J O E S D M : Type 0} (j : Inputs J) (o : Outputs O) (e : Outputs E) (
   -- ---- init
 
   init_source : (origin : Origin) (old mid : Outside J O E S M) (read : Result (List ℕ) Refusal) → (IsStore origin → ⊥)
-      → ReadsShelf s most_bytes origin old.shelf mid.shelf read → SameShelf s old.shelf mid.shelf
+      → ReadsShelf s text_limit origin old.shelf mid.shelf read → SameShelf s old.shelf mid.shelf
   init_source origins.Input old mid read plain shelf = same_at s old.shelf mid.shelf shelf
-  init_source (origins.File name) old mid read plain shelf = same_loaded s most_bytes name old.shelf mid.shelf read shelf
+  init_source (origins.File name) old mid read plain shelf = same_loaded s text_limit name old.shelf mid.shelf read shelf
   init_source (origins.Store name) old mid read plain shelf = absurd (plain tt)
 
   source_unread : (origin : Origin) (old mid : Outside J O E S M) (text : List ℕ) (x : Refusal) → (IsStore origin → ⊥) → ReadsText origin (refused x) (sc old) (sc mid)

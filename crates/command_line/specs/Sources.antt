@@ -1,5 +1,6 @@
 -- The text of the input, of a file or of a store.
 use Rattle.std.specs.Prelude.{ℕ, ◌+◌, Bool, true, false, ◌&&◌, List, nat_lt, Option, Some, None, Result, Ok, Err, if◌then◌else◌, length}
+use Rattle.hl_base.specs.Limits.{text_limit}
 use Rattle.hl_time.specs.Calendar.{year_of}
 use Rattle.book_commands.specs.Works.{judge}
 use Rattle.book_commands.specs.declared.work.Work.{Work}
@@ -12,14 +13,10 @@ use Rattle.store_text.specs.Refusals.{line_of, status_of, text_in as text_of_sto
 use Rattle.store_text.specs.Shelved.{image_under}
 use Rattle.store_text.specs.declared.refusal.StoreRefusal.{StoreRefusal}
 
--- the most bytes that a text may have
-abbrev pub most_bytes : ℕ
-most_bytes = 16777216
-
 -- A text as it is read: one of too many bytes is told as one byte above the limit.
 abbrev pub within_bytes : List ℕ → Result (List ℕ) Outcome
 within_bytes text =
-    if nat_lt most_bytes (length text) then Err (refused 7 (limit_line (most_bytes + 1) most_bytes)) else Ok text
+    if nat_lt text_limit (length text) then Err (refused 7 (limit_line (text_limit + 1) text_limit)) else Ok text
 
 -- the bytes under a name, at most so many, where there are some; of too many one above the limit is told
 abbrev pub file_within : ℕ → List ℕ → Option (List ℕ) → Result (List ℕ) Outcome
@@ -29,7 +26,7 @@ file_within most name (Some bytes) =
 
 -- the text under a name
 abbrev pub text_under : List ℕ → Option (List ℕ) → Result (List ℕ) Outcome
-text_under name file = file_within most_bytes name file
+text_under name file = file_within text_limit name file
 
 -- the text of a store of this name, or why it has none
 abbrev pub text_stored : List ℕ → Result (List ℕ) StoreRefusal → Result (List ℕ) Outcome
@@ -53,7 +50,7 @@ has_limit _ = true
 
 abbrev pub judge_within : ℕ → Option ℕ → Work → List ℕ → Judged
 judge_within day year work text =
-    if has_limit work && nat_lt most_bytes (length text) then Err (refused 7 (limit_line (length text) most_bytes))
+    if has_limit work && nat_lt text_limit (length text) then Err (refused 7 (limit_line (length text) text_limit))
     else judge day year work text
 
 -- what is judged of a text that was read, and before it the refusal of what is there in place of one

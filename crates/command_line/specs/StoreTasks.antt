@@ -2,6 +2,7 @@
 use Rattle.std.specs.Prelude.{◌≡◌, ◌≢◌, ◌⊎◌, ℕ, List, [], Result, Ok, Err}
 use Rattle.hl_base.specs.declared.disk.Disk.{Ghosts as Disks}
 use Rattle.hl_base.specs.declared.shelf.Shelf.{Ghosts as Shelves}
+use Rattle.hl_base.specs.Limits.{text_limit}
 use Rattle.hl_time.specs.declared.day.Day.{Day}
 use Rattle.query_terms.specs.declared.making.Maker.{Ghosts as Makers}
 use Rattle.desk.specs.declared.reply.Reply.{Reply}
@@ -21,7 +22,6 @@ use Rattle.command_line.specs.Answers.{IsStatus, status_of}
 use Rattle.command_line.specs.Files.{LoadsFile, ReadsShelf}
 use Rattle.command_line.specs.Runs.{ReadsText}
 use Rattle.command_line.specs.Scenes.{Scene}
-use Rattle.command_line.specs.Sources.{most_bytes}
 use Rattle.command_line.specs.declared.outside.Outside.{Outside}
 
 -- the most bytes of a file that is imported, and of its rules
@@ -73,7 +73,7 @@ pub record InitsStore {J O E S D M : Type 0} (sc : Outside J O E S M → Scene) 
   pub mid : Outside J O E S M
   pub read : Result (List ℕ) Refusal
   pub reads : ReadsText what.source read (sc old) (sc mid)
-  pub shelf : ReadsShelf s most_bytes what.source old.shelf mid.shelf read
+  pub shelf : ReadsShelf s text_limit what.source old.shelf mid.shelf read
   pub makes : MadeAfter s g what read mid.shelf new.shelf r
   pub rest : new ≡ record mid { shelf = new.shelf }
 

@@ -2,6 +2,7 @@
 use Rattle.std.specs.Prelude.{◌≡◌, ◌⊎◌, ℕ, List, [], Option, Result, Ok, Err, OnErr, length}
 use Rattle.hl_base.specs.declared.disk.Disk.{Ghosts as Disks}
 use Rattle.hl_base.specs.declared.shelf.Shelf.{Ghosts as Shelves}
+use Rattle.hl_base.specs.Limits.{text_limit}
 use Rattle.hl_time.specs.declared.day.Day.{Day}
 use Rattle.query_terms.specs.declared.making.Maker.{Ghosts as Makers}
 use Rattle.desk.specs.declared.request.Allow.{Allow}
@@ -24,7 +25,6 @@ use Rattle.command_line.specs.Answers.{Says, line_of, status_of}
 use Rattle.command_line.specs.Files.{LoadsFile}
 use Rattle.command_line.specs.Runs.{ReadsText}
 use Rattle.command_line.specs.Scenes.{Scene, Soundness}
-use Rattle.command_line.specs.Sources.{most_bytes}
 use Rattle.command_line.specs.StoreTasks.{RefusedAs}
 use Rattle.command_line.specs.declared.outside.Outside.{Outside}
 
@@ -103,7 +103,7 @@ pub record TalkedFile {J O E S D M : Type 0} (sc : Outside J O E S M → Scene) 
   pub mid : Outside J O E S M
   pub read : Result (List ℕ) Refusal
   pub reads : ReadsText (origins.File name) read (sc old) (sc mid)
-  pub shelf : LoadsFile s most_bytes name old.shelf mid.shelf read
+  pub shelf : LoadsFile s text_limit name old.shelf mid.shelf read
   pub rest : mid ≡ record old { shelf = mid.shelf }
   pub talks : TalkedAfter sc m level day read mid new r
 

@@ -1,5 +1,6 @@
 //! What a command answers to the text of the input, of a file or of a store, before anything is written.
 ghost use Rattle.std.specs.Prelude.{◌≡◌, ◌≢◌, ◌&&◌, Err, false, length, nat_lt};
+ghost use Rattle.hl_base.specs.Limits.{text_limit};
 ghost use Rattle.hl_time.specs.Calendar.{IsDay};
 ghost use Rattle.refusals.specs.Errors.{limit_line};
 ghost use Rattle.refusals.specs.Refusing.{IsOfReport, IsOfText, Refuses};
@@ -7,13 +8,13 @@ ghost use Rattle.book_commands.specs.Answers.{Finds, TellsWork, told_by};
 ghost use Rattle.book_commands.specs.Works.{IsWorkable, judge};
 ghost use Rattle.command_line.specs.Runs.{AnswersText};
 ghost use Rattle.command_line.specs.Scenes.{SourceIsSound, scene, soundness};
-ghost use Rattle.command_line.specs.Sources.{default_year, has_limit, judge_within, most_bytes};
+ghost use Rattle.command_line.specs.Sources.{default_year, has_limit, judge_within};
 
 use crate::outside::Outside;
-use crate::source::{MOST_BYTES, read_text};
+use crate::source::read_text;
 use book_commands::{Today, Work, answer_text};
 use command_words::{Origin, TextTask};
-use hl_base::{Bytes, Shelf, Sink, Source, Steps};
+use hl_base::{Bytes, Shelf, Sink, Source, Steps, TEXT_LIMIT};
 use hl_time::{Day, civil_of};
 use query::Maker;
 use refusals::{Refusal, past_limit};
@@ -44,17 +45,17 @@ fn has_limit(work: &Work) -> bool
 
 /// Whether a text has more bytes than it may have.
 fn is_past_limit(work: &Work, text: &[u8]) -> bool
-    ensures { result ≡ (has_limit work.now && nat_lt most_bytes (length text.now)) }
+    ensures { result ≡ (has_limit work.now && nat_lt text_limit (length text.now)) }
 {
-    has_limit(work) && text.len() as u64 > MOST_BYTES
+    has_limit(work) && text.len() as u64 > TEXT_LIMIT
 }
 
 /// The refusal of a text with so many bytes.
 fn past_bytes(alloc: Global, count: u64) -> Refusal
-    ensures line { Refuses result 7 (limit_line count most_bytes) }
+    ensures line { Refuses result 7 (limit_line count text_limit) }
     ensures kind { IsOfText result }
 {
-    match past_limit(alloc, count, MOST_BYTES) {
+    match past_limit(alloc, count, TEXT_LIMIT) {
         Ok(line) => Refusal::Line { status: 7, line },
         Err(_) => Refusal::Memory,
     }
@@ -72,7 +73,7 @@ fn answer_within<M: Maker, R: Threads + Sync, L: Ledger>(
 ) -> Result<Bytes, Refusal>
     requires day { IsDay day.0 }
     requires valid { IsWorkable task.now.work }
-    requires within { (has_limit task.now.work && nat_lt most_bytes (length text.now)) ≡ false }
+    requires within { (has_limit task.now.work && nat_lt text_limit (length text.now)) ≡ false }
     ensures found { Finds result
         (judge day.0 (default_year task.now.origin day.0) task.now.work text.now) }
     ensures kind { IsOfReport result }

@@ -1,9 +1,10 @@
 //! The text that a command is over.
 ghost use Rattle.std.specs.Prelude.{◌≡◌, ◌≢◌, ◌≤◌, ℕ, List, Some, [], Err, IfOk, IfErr, IfSome, OnOk, IsTrue, None, ◌<◌, length};
 ghost use Rattle.hl_base.specs.Causes.{Rose};
+ghost use Rattle.hl_base.specs.Limits.{text_limit};
 ghost use Rattle.command_line.specs.Answers.{FindsText, IsOfInput};
 ghost use Rattle.command_line.specs.Files.{IsFile, ReadsShelf};
-ghost use Rattle.command_line.specs.Sources.{most_bytes, within_bytes};
+ghost use Rattle.command_line.specs.Sources.{within_bytes};
 ghost use Rattle.command_line.specs.Runs.{ReadsText};
 ghost use Rattle.command_line.specs.Scenes.{SourceIsSound, scene, soundness};
 
@@ -11,22 +12,19 @@ use crate::files::load_file;
 use crate::outside::Outside;
 use crate::stored::load_store;
 use command_words::Origin;
-use hl_base::{Bytes, ReadAllFault, Shelf, Sink, Source, read_all};
+use hl_base::{Bytes, ReadAllFault, Shelf, Sink, Source, TEXT_LIMIT, read_all};
 use query::Maker;
 use refusals::{Refusal, past_limit};
 use std::alloc::Global;
 
-/// The most bytes that a text may have.
-pub(crate) const MOST_BYTES: u64 = 16_777_216;
-
 /// The refusal of a text with more bytes than it may have.
 fn too_long(alloc: Global) -> Refusal
-    ensures refused { (text : List ℕ) → 16777216 < length text
+    ensures refused { (text : List ℕ) → text_limit < length text
         → FindsText (Err result) (within_bytes text) }
     ensures input { IsOfInput result }
     ensures read { result ≢ Refusal.ReadFault }
 {
-    match past_limit(alloc, MOST_BYTES + 1, MOST_BYTES) {
+    match past_limit(alloc, TEXT_LIMIT + 1, TEXT_LIMIT) {
         Ok(line) => Refusal::Line { status: 7, line },
         Err(_) => Refusal::Memory,
     }
@@ -40,7 +38,7 @@ fn read_input<J: Source>(alloc: Global, input: &mut J) -> Result<Bytes, Refusal>
     ensures rose { result ≡ Err Refusal.ReadFault → Rose (J.faults input.old) (J.faults input.new) }
     ensures sound { J.IsSound input.old → result ≢ Err Refusal.ReadFault }
 {
-    match read_all(alloc, input, MOST_BYTES) {
+    match read_all(alloc, input, TEXT_LIMIT) {
         Ok(text) => Ok(text),
         Err(ReadAllFault::TooLong { .. }) => Err(too_long(alloc)),
         Err(ReadAllFault::ReadFault) => Err(Refusal::ReadFault),
@@ -62,12 +60,12 @@ pub fn read_text<J: Source, O: Sink, E: Sink, S: Shelf, M: Maker>(
     ensures output { outside.new.streams.output ≡ outside.old.streams.output }
     ensures err { outside.new.err ≡ outside.old.err }
     ensures maker { outside.new.maker ≡ outside.old.maker }
-    ensures shelf { ReadsShelf S.Shelf most_bytes origin.now outside.old.shelf outside.new.shelf result }
+    ensures shelf { ReadsShelf S.Shelf text_limit origin.now outside.old.shelf outside.new.shelf result }
     ensures file { IsFile origin.now → outside.new ≡ record outside.old { shelf = outside.new.shelf } }
 {
     match origin {
         Origin::Input => read_input(alloc, &mut outside.streams.input),
-        Origin::File(name) => load_file(alloc, name, MOST_BYTES, &mut outside.shelf),
+        Origin::File(name) => load_file(alloc, name, TEXT_LIMIT, &mut outside.shelf),
         Origin::Store(name) => load_store(alloc, name, &mut outside.shelf),
     }
 }

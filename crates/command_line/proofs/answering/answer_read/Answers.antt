@@ -1,9 +1,10 @@
 use Rattle.std.proofs.Common.{Err, length, sym, ◌∙◌}
+use Rattle.hl_base.specs.Limits.{text_limit}
 use Rattle.refusals.specs.Errors.{limit_line}
 use Rattle.book_commands.specs.Answers.{WorkRule, told_by}
 use Rattle.book_commands.specs.Works.{words_of}
 use Rattle.book_commands.proofs.Answering.{quiet_maker, told_kind, told_quiet}
-use Rattle.command_line.specs.Sources.{default_year, most_bytes}
+use Rattle.command_line.specs.Sources.{default_year}
 use Rattle.command_line.proofs.Limits.{past_found, within_found}
 use Rattle.command_line.proofs.Talking.{unasked}
 use Rattle.command_line.proofs.answering.answer_read.Goals as goal
@@ -25,7 +26,7 @@ returns-then-is_past_limit-clause-maker g c =
     let now = c.args.maker.now in
     let t = told_by maker now now in
     quiet_maker day (words_of task.work) (WorkRule day (default_year task.origin day) task.work c.args.text.now t) t (Err c.past_bytes.result)
-    (told_quiet c.past_bytes.result 7 (limit_line (length c.args.text.now) most_bytes) c.past_bytes.ensures.line)
+    (told_quiet c.past_bytes.result 7 (limit_line (length c.args.text.now) text_limit) c.past_bytes.ensures.line)
     (unasked (maker.refusals now) (maker.last_refused now))
 
 pub returns-clause-found : goal.returns-clause-found

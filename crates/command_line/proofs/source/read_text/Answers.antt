@@ -1,8 +1,8 @@
 use Rattle.std.proofs.Common.{refl, sym, subst}
+use Rattle.hl_base.specs.Limits.{text_limit}
 use Rattle.command_words.specs.declared.task.Origin.{Origin}
 use Rattle.command_line.specs.Files.{IsFile, ReadsShelf}
 use Rattle.command_line.specs.Scenes.{scene, soundness}
-use Rattle.command_line.specs.Sources.{most_bytes}
 use Rattle.command_line.proofs.Reporting.{file_reads, file_sound, input_reads, store_reads, store_sound}
 use Rattle.command_line.proofs.Talking.{unasked}
 use Rattle.command_line.proofs.source.read_text.Goals as goal
@@ -49,15 +49,15 @@ returns-in-File-clause-sound g c =
 pub returns-in-Input-clause-shelf : goal.returns-in-Input-clause-shelf
 returns-in-Input-clause-shelf g c =
     let shelf = c.args.outside.now.shelf in
-    subst (λ (o : Origin). ReadsShelf g.S.Shelf most_bytes o shelf shelf c.read_input.result) (sym c.in-Input.is) refl
+    subst (λ (o : Origin). ReadsShelf g.S.Shelf text_limit o shelf shelf c.read_input.result) (sym c.in-Input.is) refl
 
 pub returns-in-File-clause-shelf : goal.returns-in-File-clause-shelf
 returns-in-File-clause-shelf g c =
-    subst (λ (o : Origin). ReadsShelf g.S.Shelf most_bytes o c.args.outside.now.shelf c.load_file.new.shelf c.load_file.result) (sym c.in-File.is) c.load_file.ensures
+    subst (λ (o : Origin). ReadsShelf g.S.Shelf text_limit o c.args.outside.now.shelf c.load_file.new.shelf c.load_file.result) (sym c.in-File.is) c.load_file.ensures
 
 pub returns-in-Store-clause-shelf : goal.returns-in-Store-clause-shelf
 returns-in-Store-clause-shelf g c =
-    subst (λ (o : Origin). ReadsShelf g.S.Shelf most_bytes o c.args.outside.now.shelf c.load_store.new.shelf c.load_store.result) (sym c.in-Store.is)
+    subst (λ (o : Origin). ReadsShelf g.S.Shelf text_limit o c.args.outside.now.shelf c.load_store.new.shelf c.load_store.result) (sym c.in-Store.is)
     c.load_store.ensures.goes_on
 
 pub returns-in-Input-clause-file : goal.returns-in-Input-clause-file
