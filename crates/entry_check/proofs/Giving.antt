@@ -8,16 +8,18 @@ use Rattle.book.specs.declared.amount.Assertion.{Assertion}
 use Rattle.book.specs.declared.transaction.Posting.{Posting}
 use Rattle.book.specs.declared.transaction.Txn.{Txn}
 use Rattle.entry_balance.specs.Values.{Value}
+use Rattle.entry_balance.specs.Tally.{turnover_fits}
 use Rattle.entry_balance.specs.Entry.{moved, moved_by, plain_amount, is_assignable, has_assignment, is_assignment, with_postings, assignment_fault, cause_alone, has_two_missing, fits_alone, unbalanced_by, unbalanced_sums}
 use Rattle.book.specs.declared.fault.Cause.TheVariants as cause
 use Rattle.entry_balance.proofs.Adding.{false-from}
-use Rattle.entry_balance.proofs.Covers.{Covers, covered-fits, covers_same, covers_left, covers_both}
+use Rattle.entry_balance.proofs.Covers.{Covers, covered-fits, covers_same, covers_both}
 use Rattle.assertions.specs.Assertions.{held_in}
 use Rattle.assertions.proofs.Balanced.{covers_held}
 use Rattle.balancing.specs.Assigned.{assigned_posting}
 use Rattle.balancing.specs.Giving.{given_with, fits_after}
-use Rattle.entry_check.specs.Checked.{Told, held_after, assigned_after, made_posting, made_postings, made, AreBeyond}
-use Rattle.entry_check.proofs.Holding.{beyond_more}
+use Rattle.entry_check.specs.Checked.{Told, held_after, assigned_after, made_posting, made_postings, made, wanted_fits}
+use Rattle.entry_check.specs.Ranging.{are_in_range}
+use Rattle.entry_check.proofs.Within.{out_first, out_last}
 
 -- ---- one posting
 
@@ -44,31 +46,20 @@ module _ (told : Told) (done : List Posting) (p : Posting) where
     pub made_is : (a : Amount) → a ≡ plain_amount (assigned_after told done p w) → given_with p (Some a) ≡ made_posting told done p p.amount p.wanted
     made_is a is = ap (λ (x : Amount). given_with p (Some x)) is ∙ sym made_assigned
 
-    -- what is assigned is out of range, so what is moved is
-    pub assigned_beyond : fits_after (held_after told w.below p.account w.amount.symbol done) w.amount ≡ false → AreBeyond told (done ++ made_posting told done p p.amount p.wanted ∷ [])
-    assigned_beyond range = record {
-      below = w.below;
-      account = p.account;
-      symbol = w.amount.symbol;
-      range = false-from _ (λ fits. false≢true (sym range ∙ covered-fits (before ∷ moved (done ++ q ∷ [])) ((before ∷ held_in w.below p.account done) ++ value ∷ []) covers fits));
-    }
-      where
-        before : Value
-        before = (w.amount.symbol, told w.below p.account w.amount.symbol)
-
-        value : Value
-        value = assigned_after told done p w
-
-        q : Posting
-        q = made_posting told done p p.amount p.wanted
-
-        all : moved (done ++ q ∷ []) ≡ moved done ++ value ∷ []
-        all = flat_map-append moved_by done (q ∷ []) ∙ ap (λ (vs : List Value). moved done ++ vs) (ap (λ (x : Posting). moved (x ∷ [])) made_assigned)
-
-        covers : Covers (before ∷ moved (done ++ q ∷ [])) ((before ∷ held_in w.below p.account done) ++ value ∷ [])
-        covers = subst (λ (vs : List Value). Covers (before ∷ vs) ((before ∷ held_in w.below p.account done) ++ value ∷ [])) (sym all)
-            (covers_both (before ∷ held_in w.below p.account done) (before ∷ moved done) (value ∷ []) (value ∷ [])
-            (covers_both (before ∷ []) (before ∷ []) (held_in w.below p.account done) (moved done) (covers_same (before ∷ [])) (covers_held w.below p.account done)) (covers_same (value ∷ [])))
+    -- what is assigned is out of range, so what is moved is beside what is asked for
+    pub assigned_beyond : fits_after (held_after told w.below p.account w.amount.symbol done) w.amount ≡ false → are_in_range told (done ++ made_posting told done p p.amount p.wanted ∷ []) ≡ false
+    assigned_beyond range =
+        let before : Value = (w.amount.symbol, told w.below p.account w.amount.symbol) in
+        let value : Value = assigned_after told done p w in
+        let q : Posting = assigned_posting p value in
+        let all : moved (done ++ q ∷ []) ≡ moved done ++ value ∷ [] = flat_map-append moved_by done (q ∷ []) in
+        let covers : Covers (before ∷ moved (done ++ q ∷ [])) ((before ∷ held_in w.below p.account done) ++ value ∷ []) =
+        subst (λ (vs : List Value). Covers (before ∷ vs) ((before ∷ held_in w.below p.account done) ++ value ∷ [])) (sym all)
+        (covers_both (before ∷ held_in w.below p.account done) (before ∷ moved done) (value ∷ []) (value ∷ [])
+        (covers_both (before ∷ []) (before ∷ []) (held_in w.below p.account done) (moved done) (covers_same (before ∷ [])) (covers_held w.below p.account done)) (covers_same (value ∷ []))) in
+        let out : turnover_fits (before ∷ moved (done ++ q ∷ [])) ≡ false = false-from _ (λ fits. false≢true (sym range ∙ covered-fits (before ∷ moved (done ++ q ∷ [])) ((before ∷ held_in w.below p.account done) ++ value ∷ []) covers fits)) in
+        let asked : wanted_fits told p.account p.wanted (done ++ q ∷ []) ≡ false = ap (λ (o : Option Assertion). wanted_fits told p.account o (done ++ q ∷ [])) wanted ∙ out in
+        subst (λ (x : Posting). are_in_range told (done ++ x ∷ []) ≡ false) (sym made_assigned) (out_last told done q asked)
 
 pub none-is : {X : Type 0} (o : Option X) → is_some o ≡ false → o ≡ None
 none-is None h = refl
@@ -86,21 +77,19 @@ made-append told done (x ∷ xs) ys =
 pub made-push : (told : Told) (xs : List Posting) (x : Posting) → made_postings told [] (xs ++ x ∷ []) ≡ made_postings told [] xs ++ made_posting told (made_postings told [] xs) x x.amount x.wanted ∷ []
 made-push told xs x = made-append told [] xs (x ∷ [])
 
--- through one posting what is moved is out of range, so all is
-pub through_beyond : (told : Told) (xs all rest : List Posting) (x : Posting) → all ≡ xs ++ x ∷ rest → AreBeyond told (made_postings told [] xs ++ made_posting told (made_postings told [] xs) x x.amount x.wanted ∷ []) → AreBeyond told (made_postings told [] all)
+-- through one posting they are out of range, so all are
+pub through_beyond : (told : Told) (xs all rest : List Posting) (x : Posting) → all ≡ xs ++ x ∷ rest → are_in_range told (made_postings told [] xs ++ made_posting told (made_postings told [] xs) x x.amount x.wanted ∷ []) ≡ false → are_in_range told (made_postings told [] all) ≡ false
 through_beyond told xs all rest x is beyond =
     let done = made_postings told [] xs in
     let q = made_posting told done x x.amount x.wanted in
     let later = made_postings told (done ++ q ∷ []) rest in
     let whole : made_postings told [] all ≡ (done ++ q ∷ []) ++ later =
     ap (made_postings told []) is ∙ made-append told [] xs (x ∷ rest) ∙ sym (append_assoc done (q ∷ []) later) in
-    subst (AreBeyond told) (sym whole)
-    (beyond_more told (done ++ q ∷ []) ((done ++ q ∷ []) ++ later)
-    (subst (λ (vs : List Value). Covers vs (moved (done ++ q ∷ []))) (sym (flat_map-append moved_by (done ++ q ∷ []) later)) (covers_left (moved (done ++ q ∷ [])) (moved later))) beyond)
+    subst (λ (ps : List Posting). are_in_range told ps ≡ false) (sym whole) (out_first told (done ++ q ∷ []) later beyond)
 
 -- ---- the transaction
 
-made_here : (told : Told) (t : Txn) → is_assignable t.postings ≡ true → made told t ≡ with_postings t (made_postings told [] t.postings)
+pub made_here : (told : Told) (t : Txn) → is_assignable t.postings ≡ true → made told t ≡ with_postings t (made_postings told [] t.postings)
 made_here told t h = ap (λ (b : Bool). cond b (with_postings t (made_postings told [] t.postings)) t) h
 
 pub made_stays : (told : Told) (t : Txn) → is_assignable t.postings ≡ false → t ≡ made told t
@@ -109,8 +98,8 @@ made_stays told t h = sym (ap (λ (b : Bool). cond b (with_postings t (made_post
 pub made_with : (told : Told) (t : Txn) (ps : List Posting) → is_assignable t.postings ≡ true → ps ≡ made_postings told [] t.postings → with_postings t ps ≡ made told t
 made_with told t ps h is = ap (with_postings t) is ∙ sym (made_here told t h)
 
-pub made_beyond : (told : Told) (t : Txn) → is_assignable t.postings ≡ true → AreBeyond told (made_postings told [] t.postings) → AreBeyond told (made told t).postings
-made_beyond told t h beyond = subst (λ (x : Txn). AreBeyond told x.postings) (sym (made_here told t h)) beyond
+pub made_beyond : (told : Told) (t : Txn) → is_assignable t.postings ≡ true → are_in_range told (made_postings told [] t.postings) ≡ false → are_in_range told (made told t).postings ≡ false
+made_beyond told t h beyond = subst (λ (x : Txn). are_in_range told x.postings ≡ false) (sym (made_here told t h)) beyond
 
 -- no assignment is left
 unassigned_one : (told : Told) (done : List Posting) (p : Posting) → is_assignment (made_posting told done p p.amount p.wanted) ≡ false
@@ -121,7 +110,7 @@ unassigned_one told done p = by p.amount p.wanted refl refl
     by None None is_a is_w = λ i. is_none (is_a i) && is_some (is_w i)
     by None (Some w) is_a is_w = refl
 
-unassigned : (told : Told) (done ps : List Posting) → has_assignment (made_postings told done ps) ≡ false
+pub unassigned : (told : Told) (done ps : List Posting) → has_assignment (made_postings told done ps) ≡ false
 unassigned told done [] = refl
 unassigned told done (p ∷ ps) =
     let q = made_posting told done p p.amount p.wanted in

@@ -10,13 +10,13 @@ use Rattle.entry_balance.specs.Values.{Value}
 use Rattle.entry_balance.specs.Tally.{no_sum, total_of, turnover_fits}
 use Rattle.entry_balance.specs.Entry.{moved}
 use Rattle.entry_balance.proofs.Adding.{false-from}
-use Rattle.entry_balance.proofs.Covers.{Covers, covered-fits, covers_same, covers_right, covers_both}
+use Rattle.entry_balance.proofs.Covers.{covered-fits, covers_same, covers_both}
 use Rattle.entry_balance.proofs.Turnover.{numbers-here, plus_none}
 use Rattle.assertions.specs.Assertions.{held_in}
 use Rattle.assertions.proofs.Balanced.{covers_held}
 use Rattle.balancing.specs.Giving.{value_after, fits_after}
 use Rattle.balancing.proofs.Adding.{total-append, sums_fit, difference_fits}
-use Rattle.entry_check.specs.Checked.{Told, held_after, AreBeyond}
+use Rattle.entry_check.specs.Checked.{Told, held_after}
 
 one_value : (s : List ℕ) (d : Decimal) → total_of s ((s, d) ∷ []) ≡ d
 one_value s d = ap (fold plus no_sum) (numbers-here s d []) ∙ plus_none d
@@ -34,15 +34,10 @@ module _ (told : Told) (below : Bool) (account symbol : List ℕ) (done : List P
       ∙ ap (λ (d : Decimal). add_fits d (total_of symbol (held_in below account done))) (sym (one_value symbol (told below account symbol)))
       ∙ sums_fit symbol ((symbol, told below account symbol) ∷ []) (held_in below account done) fits))
 
-  -- the sum is out of range, so all that is moved is
-  pub held_beyond : turnover_fits (held_after told below account symbol done) ≡ false → AreBeyond told done
-  held_beyond range = record {
-    below = below;
-    account = account;
-    symbol = symbol;
-    range = false-from _ (λ fits. false≢true (sym range ∙ covered-fits ((symbol, told below account symbol) ∷ moved done) (held_after told below account symbol done)
-        (covers_both ((symbol, told below account symbol) ∷ []) ((symbol, told below account symbol) ∷ []) (held_in below account done) (moved done) (covers_same ((symbol, told below account symbol) ∷ [])) (covers_held below account done)) fits));
-  }
+  -- the sum is out of range, so it is beside all that is moved
+  pub held_beyond : turnover_fits (held_after told below account symbol done) ≡ false → turnover_fits ((symbol, told below account symbol) ∷ moved done) ≡ false
+  held_beyond range = false-from _ (λ fits. false≢true (sym range ∙ covered-fits ((symbol, told below account symbol) ∷ moved done) (held_after told below account symbol done)
+      (covers_both ((symbol, told below account symbol) ∷ []) ((symbol, told below account symbol) ∷ []) (held_in below account done) (moved done) (covers_same ((symbol, told below account symbol) ∷ [])) (covers_held below account done)) fits))
 
 module _ (told : Told) (w : Amount) (below : Bool) (account : List ℕ) (done : List Posting) (held : Decimal) (is_held : held ≡ total_of w.symbol (held_after told below account w.symbol done)) where
   pub value_held : (value : Decimal) → value ≡ plus w.value (negated held) → value ≡ value_after (held_after told below account w.symbol done) w
@@ -50,25 +45,3 @@ module _ (told : Told) (w : Amount) (below : Bool) (account : List ℕ) (done : 
 
   pub value_beyond : add_fits w.value (negated held) ≡ false → fits_after (held_after told below account w.symbol done) w ≡ false
   value_beyond differs = false-from _ (λ fits. false≢true (sym differs ∙ ap (λ (d : Decimal). add_fits w.value (negated d)) is_held ∙ difference_fits (held_after told below account w.symbol done) w fits))
-
--- postings that move more are out of range too
-pub beyond_more : (told : Told) (ps qs : List Posting) → Covers (moved qs) (moved ps) → AreBeyond told ps → AreBeyond told qs
-beyond_more told ps qs covers b = record {
-  below = b.below;
-  account = b.account;
-  symbol = b.symbol;
-  range = false-from _ (λ fits. false≢true (sym b.range ∙ covered-fits ((b.symbol, told b.below b.account b.symbol) ∷ moved qs) ((b.symbol, told b.below b.account b.symbol) ∷ moved ps)
-      (covers_both ((b.symbol, told b.below b.account b.symbol) ∷ []) ((b.symbol, told b.below b.account b.symbol) ∷ []) (moved ps) (moved qs) (covers_same ((b.symbol, told b.below b.account b.symbol) ∷ [])) covers) fits));
-}
-
--- postings that are out of range by themselves
-pub beyond_alone : (told : Told) (ps : List Posting) → turnover_fits (moved ps) ≡ false → AreBeyond told ps
-beyond_alone told ps range = record {
-  below = false;
-  account = [];
-  symbol = [];
-  range = false-from _ (λ fits. false≢true (sym range ∙ covered-fits (([], told false [] []) ∷ moved ps) (moved ps) (covers_after ([], told false [] []) (moved ps)) fits));
-}
-  where
-    covers_after : (v : Value) (vs : List Value) → Covers (v ∷ vs) vs
-    covers_after v vs = covers_right (v ∷ []) vs

@@ -9,16 +9,17 @@ use Rattle.book.specs.SumsBefore.{is_assigned}
 use Rattle.entry_balance.specs.Values.{Value}
 use Rattle.entry_balance.specs.Entry.{moved, moved_by}
 use Rattle.entry_balance.proofs.Adding.{take_past}
-use Rattle.entry_balance.proofs.Covers.{Covers, covers_none, covers_same, covers_left, covers_both}
+use Rattle.entry_balance.proofs.Covers.{Covers, covers_none, covers_same, covers_both}
 use Rattle.assertions.specs.Assertions.{or_else_fault}
 use Rattle.assertions.specs.Kept.{Keeping, IsBalance}
 use Rattle.balancing.specs.Parts.{is_found, is_in}
 use Rattle.balancing.specs.declared.groups.Part.TheVariants as part
 use Rattle.balancing.proofs.Balanced.{filter-append, take_drop}
 use Rattle.balancing.proofs.Ranged.{covers_swap, covers_through}
-use Rattle.entry_check.specs.Checked.{Told, Others, failure_after, first_failing, in_order, AreBeyond}
+use Rattle.entry_check.specs.Checked.{Told, Others, failure_after, first_failing, in_order}
 use Rattle.entry_check.specs.Failing.{IsJudged, AreJudged, IsPast}
-use Rattle.entry_check.proofs.Holding.{beyond_more}
+use Rattle.entry_check.specs.Ranging.{are_in_range}
+use Rattle.entry_check.proofs.Within.{asked_some, asked_both, out_more, out_first}
 
 pub past_none : (told : Told) (others : Others) (done : List Posting) (f : Posting → Bool) (ps : List Posting) (own below : Keeping) → IsBalance done own below → IsPast told others done f ps 0 own below
 past_none told others done f ps own below h = record {
@@ -64,12 +65,11 @@ module _ (told : Told) (others : Others) (done : List Posting) (f : Posting → 
     kept = λ none. absurd (let never : ⊥ = cc in never);
   }
 
-  pub past_beyond : f p ≡ true → AreBeyond told (so_far ++ p ∷ []) → AreBeyond told (done ++ filter f ps)
+  pub past_beyond : f p ≡ true → are_in_range told (so_far ++ p ∷ []) ≡ false → are_in_range told (done ++ filter f ps) ≡ false
   past_beyond e beyond =
       let whole : (so_far ++ p ∷ []) ++ later ≡ done ++ filter f ps =
       append_assoc so_far (p ∷ []) later ∙ append_assoc done (filter f (take i ps)) (p ∷ later) ∙ ap (λ (qs : List Posting). done ++ qs) (ap (λ (qs : List Posting). filter f (take i ps) ++ qs) (sym (left_by true e)) ∙ sym (filter-append f (take i ps) (drop i ps)) ∙ ap (filter f) (take_drop ps i)) in
-      subst (AreBeyond told) whole (beyond_more told (so_far ++ p ∷ []) ((so_far ++ p ∷ []) ++ later)
-      (subst (λ (vs : List Value). Covers vs (moved (so_far ++ p ∷ []))) (sym (flat_map-append moved_by (so_far ++ p ∷ []) later)) (covers_left (moved (so_far ++ p ∷ [])) (moved later))) beyond)
+      subst (λ (qs : List Posting). are_in_range told qs ≡ false) whole (out_first told (so_far ++ p ∷ []) later beyond)
 
 pub past_end : (told : Told) (others : Others) (done : List Posting) (f : Posting → Bool) (ps : List Posting) (i : ℕ) (own below : Keeping) → length ps ≤ i → IsPast told others done f ps i own below → AreJudged told others done (filter f ps) own below None
 past_end told others done f ps i own below more h = record {
@@ -107,12 +107,14 @@ split_covers (p ∷ ps) =
     ]
 
 -- in whatever order, they are out of range
-pub order_beyond : (told : Told) (ps : List Posting) → AreBeyond told (in_order ps) → AreBeyond told ps
+pub order_beyond : (told : Told) (ps : List Posting) → are_in_range told (in_order ps) ≡ false → are_in_range told ps ≡ false
 order_beyond told ps = by (list_any is_assigned ps)
   where
-    by : (b : Bool) → AreBeyond told (cond b (filter (is_in part.ButFound) ps ++ filter (is_in part.Found) ps) ps) → AreBeyond told ps
-    by true h = beyond_more told (filter (is_in part.ButFound) ps ++ filter (is_in part.Found) ps) ps
-        (subst (λ (vs : List Value). Covers (moved ps) vs) (sym (flat_map-append moved_by (filter (is_in part.ButFound) ps) (filter (is_in part.Found) ps))) (split_covers ps)) h
+    by : (b : Bool) → are_in_range told (cond b (filter (is_in part.ButFound) ps ++ filter (is_in part.Found) ps) ps) ≡ false → are_in_range told ps ≡ false
+    by true h = out_more told (filter (is_in part.ButFound) ps ++ filter (is_in part.Found) ps) ps (record {
+      moves = subst (λ (vs : List Value). Covers (moved ps) vs) (sym (flat_map-append moved_by (filter (is_in part.ButFound) ps) (filter (is_in part.Found) ps))) (split_covers ps);
+      asks = λ xs k. asked_both told xs (filter (is_in part.ButFound) ps) (filter (is_in part.Found) ps) (asked_some told xs (is_in part.ButFound) ps k) (asked_some told xs (is_in part.Found) ps k);
+    }) h
     by false h = h
 
 -- ---- two parts, one after the other
@@ -135,9 +137,6 @@ both_failing told others xs ys own below own' below' fault first second =
 pub one_failing : (told : Told) (others : Others) (xs ys : List Posting) (own below : Keeping) (fault : Fault) → AreJudged told others [] xs own below (Some fault) → Some fault ≡ first_failing told others [] (xs ++ ys)
 one_failing told others xs ys own below fault first =
     ap (λ (f : Option Fault). or_else_fault f (first_failing told others xs ys)) first.is ∙ sym (failing-append told others [] xs ys)
-
-pub first_beyond : (told : Told) (xs ys : List Posting) → AreBeyond told xs → AreBeyond told (xs ++ ys)
-first_beyond told xs ys = beyond_more told xs (xs ++ ys) (subst (λ (vs : List Value). Covers vs (moved xs)) (sym (flat_map-append moved_by xs ys)) (covers_left (moved xs) (moved ys)))
 
 pub whole_failing : (told : Told) (others : Others) (ps : List Posting) (own below : Keeping) (fault : Option Fault) → list_any is_assigned ps ≡ false → AreJudged told others [] (filter (is_in part.All) ps) own below fault → fault ≡ first_failing told others [] (in_order ps)
 whole_failing told others ps own below fault none judged = judged.is ∙ ap (first_failing told others []) (in_order_whole ps none)

@@ -1,5 +1,7 @@
 pub mod Asked
 pub mod Shortened
 pub mod Holding
+pub mod Within
 pub mod Giving
 pub mod Judging
+pub mod Beyond

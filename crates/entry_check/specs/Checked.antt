@@ -1,6 +1,6 @@
 -- One transaction by the sums of the accounts before it: its assignments, its assertions, and what is wrong with it.
-use Rattle.std.specs.Prelude.{◌≡◌, ℕ, Bool, false, List, [], ◌∷◌, ◌++◌, filter, Option, Some, None, Result, Ok, Err, ◌⊎◌, if◌then◌else◌}
-use Rattle.std.specs.List.{list_any}
+use Rattle.std.specs.Prelude.{◌≡◌, ℕ, Bool, true, false, List, [], ◌∷◌, ◌++◌, filter, Option, Some, None, Result, Ok, Err, ◌⊎◌, if◌then◌else◌}
+use Rattle.std.specs.List.{list_all, list_any}
 use Rattle.std.specs.Option.{option_map}
 use Rattle.hl_num.specs.Decimal.{Decimal}
 use Rattle.book.specs.declared.amount.Amount.{Amount}
@@ -107,17 +107,36 @@ checked told others t =
 
 -- ---- the bound
 
--- what an account holds before the transaction and all that some postings move are together out of range
-pub record AreBeyond (told : Told) (ps : List Posting) : Type 0 where
-  pub below : Bool
-  pub account : List ℕ
-  pub symbol : List ℕ
-  pub range : turnover_fits ((symbol, told below account symbol) ∷ moved ps) ≡ false
+-- what an assertion of an account asks for before the transaction, and all that some postings move, stay within the
+-- bound together
+abbrev pub wanted_fits : Told → List ℕ → Option Assertion → List Posting → Bool
+wanted_fits told account None ps = true
+wanted_fits told account (Some w) ps = turnover_fits ((w.amount.symbol, told w.below account w.amount.symbol) ∷ moved ps)
+
+-- the same of each assertion and assignment of some postings
+abbrev pub asked_fit : Told → List Posting → List Posting → Bool
+asked_fit told ps asking = list_all (λ p. wanted_fits told p.account p.wanted ps) asking
+
+-- two missing amounts, or a day where an amount is assigned, are looked for before sums are
+abbrev pub comes_first : Option Cause → Bool
+comes_first (Some cause.TwoMissing) = true
+comes_first (Some cause.NotAllowed) = true
+comes_first _ = false
+
+-- A sum that one of a transaction's assertions or assignments asks for before it is out of range together with all that
+-- it moves; and nothing is wrong with it that comes first.
+pub record IsBeyond (told : Told) (t : Txn) : Type 0 where
+  pub first : comes_first (cause_alone (made told t).postings) ≡ false
+  pub range : asked_fit told (settled (made told t)).postings (settled (made told t)).postings ≡ false
 
 -- What the answer to a check says: the transaction or its fault; or that sums are out of range, which then are.
 abbrev pub IsChecked : Told → Others → Txn → Result Txn CheckFault → Type 0
 IsChecked told others t (Ok txn) = checked told others t ≡ Ok txn
 IsChecked told others t (Err (check.Journal fault)) =
     (checked told others t ≡ Err fault)
-    ⊎ ((fault ≡ record { line = t.line; cause = cause.Range }) × AreBeyond told (settled (made told t)).postings)
+    ⊎ ((fault ≡ record { line = t.line; cause = cause.Range }) × IsBeyond told t)
 IsChecked told others t (Err check.Memory) = Unit {0}
+
+-- the answer that sums are out of range
+abbrev pub out_of_range : Txn → Result Txn CheckFault
+out_of_range t = Err (check.Journal (record { line = t.line; cause = cause.Range }))

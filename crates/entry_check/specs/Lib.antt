@@ -1,4 +1,5 @@
 pub mod Checked
 pub mod Failing
 pub mod Making
+pub mod Ranging
 pub mod Steps

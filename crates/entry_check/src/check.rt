@@ -5,7 +5,8 @@ ghost use Rattle.book.specs.declared.transaction.Txn.{Txn};
 ghost use Rattle.entry_balance.specs.Entry.{cause_alone, has_assignment, settled};
 ghost use Rattle.entry_balance.specs.Settled.{IsSettled};
 ghost use Rattle.entry_balance.specs.Tally.{IsRange};
-ghost use Rattle.entry_check.specs.Checked.{told_before, others_before, first_failing, in_order, made, judged, checked, AreBeyond, IsChecked};
+ghost use Rattle.entry_check.specs.Checked.{told_before, others_before, first_failing, in_order, made, judged, checked, IsChecked, out_of_range};
+ghost use Rattle.entry_check.specs.Ranging.{are_in_range};
 ghost use Rattle.entry_check.specs.Steps.{IsOneChecked};
 
 use crate::failure::first_failing;
@@ -23,8 +24,9 @@ use std::sync::ledger::Ledger;
 /// where all its postings are of its day, and none of them, found ones too, is of another symbol and on an account of
 /// which an assertion wants one symbol only, or under it where subaccounts count. The sums that are told enter with as
 /// few decimals as they need, so a found number may have fewer decimals than in the journal. `Range` comes only where a
-/// cost or the transaction alone is out of range, or where a sum before it and all that it moves together are. Counts
-/// one checked transaction.
+/// cost or the transaction alone is out of range, or where a sum that one of its assertions or assignments asks for and
+/// all that it moves together are; never where two amounts are missing or an assignment can't be made. Counts one checked
+/// transaction.
 pub fn check_one<S: Sums, L: Ledger>(
     alloc: Global,
     txn: Txn,
@@ -48,7 +50,7 @@ pub fn check_one<S: Sums, L: Ledger>(
     }
 }
 
-/// The transaction that is checked, or its fault. `Range` where sums before it and what it moves are out of range.
+/// The transaction that is checked, or its fault. `Range` where it is so alone, or by a sum that it asks for.
 fn check_sums<S: Sums, L: Ledger>(
     alloc: Global,
     txn: Txn,
@@ -58,8 +60,7 @@ fn check_sums<S: Sums, L: Ledger>(
     ensures answer { IfOk result (λ answer. answer
         ≡ checked (told_before (S.txns sums.now) (S.place sums.now)) (others_before (S.txns sums.now) (S.place sums.now)) txn) }
     ensures range { IfErr result (λ e. IsRange e
-        → AreBeyond (told_before (S.txns sums.now) (S.place sums.now))
-        (settled (made (told_before (S.txns sums.now) (S.place sums.now)) txn)).postings) }
+        → IsChecked (told_before (S.txns sums.now) (S.place sums.now)) (others_before (S.txns sums.now) (S.place sums.now)) txn (out_of_range txn)) }
     ensures steps { OnlyAsked steps.old steps.new }
 {
     let made = match make(alloc, txn, sums, steps) {
@@ -85,7 +86,7 @@ fn judge_settled<S: Sums, L: Ledger>(
         (first_failing (told_before (S.txns sums.now) (S.place sums.now)) (others_before (S.txns sums.now) (S.place sums.now)) [] (in_order (settled t).postings))) }
     ensures range { IfErr result (λ e. IsRange e → (t : Txn) → IsSettled t outcome.txn outcome.cause
         → (outcome.cause ≡ None → has_assignment t.postings ≡ false)
-        → AreBeyond (told_before (S.txns sums.now) (S.place sums.now)) (settled t).postings) }
+        → (cause_alone t.postings ≡ None) × (are_in_range (told_before (S.txns sums.now) (S.place sums.now)) (settled t).postings ≡ false)) }
     ensures steps { OnlyAsked steps.old steps.new }
 {
     let Settled { txn, cause } = outcome;

@@ -1,5 +1,5 @@
 //! The assertions of one transaction, each judged just after its posting.
-ghost use Rattle.std.specs.Prelude.{◌≡◌, ◌++◌, ◌∷◌, [], true, false, filter, List, IfOk, IfErr};
+ghost use Rattle.std.specs.Prelude.{◌≡◌, ◌++◌, ◌∷◌, [], true, false, filter, List, Some, IfOk, IfErr};
 ghost use Rattle.std.specs.Option.{option_map};
 ghost use Rattle.std.specs.List.{list_all};
 ghost use Rattle.book.specs.SumsBefore.{OnlyAsked};
@@ -8,8 +8,9 @@ ghost use Rattle.entry_balance.specs.Tally.{IsRange};
 ghost use Rattle.assertions.specs.Assertions.{failure_at};
 ghost use Rattle.assertions.specs.Kept.{IsBalance, is_asked, is_kept_for};
 ghost use Rattle.balancing.specs.Parts.{is_in};
-ghost use Rattle.entry_check.specs.Checked.{told_before, others_before, found_after, failure_after, first_failing, in_order, AreBeyond};
+ghost use Rattle.entry_check.specs.Checked.{told_before, others_before, found_after, failure_after, first_failing, in_order, wanted_fits};
 ghost use Rattle.entry_check.specs.Failing.{IsJudged, AreJudged};
+ghost use Rattle.entry_check.specs.Ranging.{are_in_range};
 
 use crate::held::{held, told};
 use assertions::{Balances, add_posting, asked_by, failed, is_same};
@@ -29,7 +30,7 @@ pub(crate) fn first_failing<S: Sums, L: Ledger>(
 ) -> Result<Option<Fault>, TallyFault>
     ensures fault { IfOk result (λ fault. fault
         ≡ first_failing (told_before (S.txns sums.now) (S.place sums.now)) (others_before (S.txns sums.now) (S.place sums.now)) [] (in_order postings.now)) }
-    ensures range { IfErr result (λ e. IsRange e → AreBeyond (told_before (S.txns sums.now) (S.place sums.now)) postings.now) }
+    ensures range { IfErr result (λ e. IsRange e → are_in_range (told_before (S.txns sums.now) (S.place sums.now)) postings.now ≡ false) }
     ensures steps { OnlyAsked steps.old steps.new }
 {
     let mut here = match asked_by(alloc, postings) {
@@ -64,7 +65,7 @@ fn judge_part<S: Sums, L: Ledger>(
     ensures below { IfOk result (λ fault. here.new.below.1 ≡ here.old.below.1) }
     ensures range { IfErr result (λ e. IsRange e → (done : List Posting) → IsBalance done here.old.own here.old.below
         → list_all (is_asked here.old.own here.old.below) postings.now ≡ true
-        → AreBeyond (told_before (S.txns sums.now) (S.place sums.now)) (done ++ filter (is_in part) postings.now)) }
+        → are_in_range (told_before (S.txns sums.now) (S.place sums.now)) (done ++ filter (is_in part) postings.now) ≡ false) }
     ensures steps { OnlyAsked steps.old steps.new }
 {
     for posting in postings {
@@ -95,7 +96,7 @@ fn judge_next<S: Sums, L: Ledger>(
     ensures below { IfOk result (λ fault. here.new.below.1 ≡ here.old.below.1) }
     ensures range { IfErr result (λ e. IsRange e → (done : List Posting) → IsBalance done here.old.own here.old.below
         → is_asked here.old.own here.old.below posting.now ≡ true
-        → AreBeyond (told_before (S.txns sums.now) (S.place sums.now)) (done ++ posting.now ∷ [])) }
+        → are_in_range (told_before (S.txns sums.now) (S.place sums.now)) (done ++ posting.now ∷ []) ≡ false) }
     ensures steps { OnlyAsked steps.old steps.new }
 {
     match add_posting(alloc, here, posting) {
@@ -119,7 +120,7 @@ fn failure<S: Sums, L: Ledger>(
         through posting.now posting.now.wanted) }
     ensures range { IfErr result (λ e. IsRange e → (through : List Posting) → IsBalance through here.now.own here.now.below
         → is_asked here.now.own here.now.below posting.now ≡ true
-        → AreBeyond (told_before (S.txns sums.now) (S.place sums.now)) through) }
+        → wanted_fits (told_before (S.txns sums.now) (S.place sums.now)) posting.now.account posting.now.wanted through ≡ false) }
     ensures steps { OnlyAsked steps.old steps.new }
 {
     match &posting.wanted {
@@ -144,7 +145,7 @@ fn judge<S: Sums, L: Ledger>(
         wanted.now posting.now.account through)) }
     ensures range { IfErr result (λ e. IsRange e → (through : List Posting) → IsBalance through here.now.own here.now.below
         → is_kept_for here.now.own here.now.below posting.now.account wanted.now.below ≡ true
-        → AreBeyond (told_before (S.txns sums.now) (S.place sums.now)) through) }
+        → wanted_fits (told_before (S.txns sums.now) (S.place sums.now)) posting.now.account (Some wanted.now) through ≡ false) }
     ensures steps { OnlyAsked steps.old steps.new }
 {
     let symbol = &wanted.amount.symbol;

@@ -3,10 +3,12 @@ ghost use Rattle.std.specs.Prelude.{◌≡◌, ◌++◌, ◌∷◌, [], true, fa
 ghost use Rattle.book.specs.SumsBefore.{OnlyAsked};
 ghost use Rattle.book.specs.declared.transaction.Posting.{Posting};
 ghost use Rattle.entry_balance.specs.Tally.{IsRange};
+ghost use Rattle.entry_balance.specs.Entry as amounts;
 ghost use Rattle.assertions.specs.Kept.{IsBalance, is_asked, is_kept_for};
 ghost use Rattle.balancing.specs.Giving.{given_with, value_after, fits_after};
-ghost use Rattle.entry_check.specs.Checked.{told_before, held_after, made_posting, made_postings, made, AreBeyond};
+ghost use Rattle.entry_check.specs.Checked.{told_before, held_after, made_posting, made_postings, made};
 ghost use Rattle.entry_check.specs.Making.{IsMadeNext};
+ghost use Rattle.entry_check.specs.Ranging.{are_in_range};
 
 use crate::held::held;
 use assertions::{Balances, add_posting, asked_by};
@@ -27,7 +29,8 @@ pub(crate) fn make<S: Sums, L: Ledger>(
 ) -> Result<Txn, TallyFault>
     ensures made { IfOk result (λ t. t ≡ made (told_before (S.txns sums.now) (S.place sums.now)) txn) }
     ensures range { IfErr result (λ e. IsRange e
-        → AreBeyond (told_before (S.txns sums.now) (S.place sums.now)) (made (told_before (S.txns sums.now) (S.place sums.now)) txn).postings) }
+        → (amounts.is_assignable txn.postings ≡ true)
+        × (are_in_range (told_before (S.txns sums.now) (S.place sums.now)) (made (told_before (S.txns sums.now) (S.place sums.now)) txn).postings ≡ false)) }
     ensures steps { OnlyAsked steps.old steps.new }
 {
     if !is_assignable(txn.postings.as_slice()) {
@@ -67,8 +70,8 @@ fn make_all<S: Sums, L: Ledger>(
     steps: &mut Steps<L>,
 ) -> Result<List<Posting>, TallyFault>
     ensures made { IfOk result (λ ps. ps ≡ made_postings (told_before (S.txns sums.now) (S.place sums.now)) [] postings) }
-    ensures range { IfErr result (λ e. IsRange e → AreBeyond (told_before (S.txns sums.now) (S.place sums.now))
-        (made_postings (told_before (S.txns sums.now) (S.place sums.now)) [] postings)) }
+    ensures range { IfErr result (λ e. IsRange e → are_in_range (told_before (S.txns sums.now) (S.place sums.now))
+        (made_postings (told_before (S.txns sums.now) (S.place sums.now)) [] postings) ≡ false) }
     ensures steps { OnlyAsked steps.old steps.new }
 {
     let mut here = match asked_by(alloc, postings.as_slice()) {
@@ -104,8 +107,8 @@ fn make_next<S: Sums, L: Ledger>(
     ensures below { OnOk result (here.new.below.1 ≡ here.old.below.1) }
     ensures range { IfErr result (λ e. IsRange e → IsBalance made.old.items here.old.own here.old.below
         → is_asked here.old.own here.old.below posting ≡ true
-        → AreBeyond (told_before (S.txns sums.now) (S.place sums.now))
-        (made.old.items ++ made_posting (told_before (S.txns sums.now) (S.place sums.now)) made.old.items posting posting.amount posting.wanted ∷ [])) }
+        → are_in_range (told_before (S.txns sums.now) (S.place sums.now))
+        (made.old.items ++ made_posting (told_before (S.txns sums.now) (S.place sums.now)) made.old.items posting posting.amount posting.wanted ∷ []) ≡ false) }
     ensures steps { OnlyAsked steps.old steps.new }
 {
     let posting = match make_one(alloc, sums, here, posting, steps) {
@@ -135,8 +138,8 @@ fn make_one<S: Sums, L: Ledger>(
         → p ≡ made_posting (told_before (S.txns sums.now) (S.place sums.now)) done posting posting.amount posting.wanted) }
     ensures range { IfErr result (λ e. IsRange e → (done : List Posting) → IsBalance done here.now.own here.now.below
         → is_asked here.now.own here.now.below posting ≡ true
-        → AreBeyond (told_before (S.txns sums.now) (S.place sums.now))
-        (done ++ made_posting (told_before (S.txns sums.now) (S.place sums.now)) done posting posting.amount posting.wanted ∷ [])) }
+        → are_in_range (told_before (S.txns sums.now) (S.place sums.now))
+        (done ++ made_posting (told_before (S.txns sums.now) (S.place sums.now)) done posting posting.amount posting.wanted ∷ []) ≡ false) }
     ensures steps { OnlyAsked steps.old steps.new }
 {
     match assigned_amount(alloc, sums, here, &posting, steps) {
@@ -160,8 +163,8 @@ fn assigned_amount<S: Sums, L: Ledger>(
         ≡ made_posting (told_before (S.txns sums.now) (S.place sums.now)) done posting.now posting.now.amount posting.now.wanted) }
     ensures range { IfErr result (λ e. IsRange e → (done : List Posting) → IsBalance done here.now.own here.now.below
         → is_asked here.now.own here.now.below posting.now ≡ true
-        → AreBeyond (told_before (S.txns sums.now) (S.place sums.now))
-        (done ++ made_posting (told_before (S.txns sums.now) (S.place sums.now)) done posting.now posting.now.amount posting.now.wanted ∷ [])) }
+        → are_in_range (told_before (S.txns sums.now) (S.place sums.now))
+        (done ++ made_posting (told_before (S.txns sums.now) (S.place sums.now)) done posting.now posting.now.amount posting.now.wanted ∷ []) ≡ false) }
     ensures steps { OnlyAsked steps.old steps.new }
 {
     if posting.amount.is_some() {

@@ -1,20 +1,19 @@
 use Rattle.std.proofs.Common.{sym, ◌∙◌, subst}
 use Rattle.book.specs.declared.transaction.Txn.{Txn}
-use Rattle.entry_balance.specs.Entry.{settled}
 use Rattle.entry_balance.specs.Settled.{IsSettled}
 use Rattle.entry_balance.proofs.Adding.{if_err}
 use Rattle.entry_balance.proofs.Causes.{if_ok}
-use Rattle.balancing.proofs.Ranged.{solved_covers}
-use Rattle.entry_check.specs.Checked.{told_before, made}
-use Rattle.entry_check.proofs.Holding.{beyond_more}
+use Rattle.entry_check.specs.Checked.{told_before, others_before, made}
+use Rattle.entry_check.proofs.Beyond.{making_out, judging_out}
 use Rattle.entry_check.proofs.Giving.{none_left}
 use Rattle.entry_check.proofs.check.check_sums.Goals as goal
 
 pub returns-in-Err-clause-range : goal.returns-in-Err-clause-range
 returns-in-Err-clause-range g c = λ range.
     let told = told_before (g.S.Sums.txns c.args.sums.now) (g.S.Sums.place c.args.sums.now) in
-    let m = made told c.args.txn in
-    beyond_more told m.postings (settled m).postings (solved_covers m.postings m.postings) (c.in-Err.ensures.range range)
+    let others = others_before (g.S.Sums.txns c.args.sums.now) (g.S.Sums.place c.args.sums.now) in
+    let out = c.in-Err.ensures.range range in
+    making_out told others c.args.txn out.0 out.1
 
 pub returns-in-Ok-settle-clause-answer : goal.returns-in-Ok-settle-clause-answer
 returns-in-Ok-settle-clause-answer g c = if_ok _ _ c.judge_settled.result (λ answer is.
@@ -29,5 +28,7 @@ returns-in-Ok-settle-clause-range g c = if_err _ _ c.judge_settled.result (λ e 
     let told = told_before (g.S.Sums.txns c.args.sums.now) (g.S.Sums.place c.args.sums.now) in
     let o = c.in-Ok-settle.outcome in
     let settled_m = subst (λ (m : Txn). IsSettled m o.txn o.cause) c.in-Ok.ensures.made c.in-Ok-settle.ensures in
-    beyond range (made told c.args.txn) settled_m (λ none. none_left told c.args.txn (sym settled_m.cause ∙ none)))
+    let others = others_before (g.S.Sums.txns c.args.sums.now) (g.S.Sums.place c.args.sums.now) in
+    let out = beyond range (made told c.args.txn) settled_m (λ none. none_left told c.args.txn (sym settled_m.cause ∙ none)) in
+    judging_out told others c.args.txn (none_left told c.args.txn out.0) out.0 out.1)
     c.judge_settled.ensures.range

@@ -1,9 +1,10 @@
-use Rattle.std.proofs.Common.{◌≡◌, true, sym, ap, ◌∙◌, subst}
+use Rattle.std.proofs.Common.{◌≡◌, true, false, Option, Some, sym, ap, ◌∙◌, subst}
 use Rattle.book.specs.declared.amount.Assertion.{Assertion}
+use Rattle.entry_balance.proofs.Adding.{if_err}
 use Rattle.entry_balance.proofs.Causes.{if_ok}
 use Rattle.assertions.specs.Assertions.{failure_at}
 use Rattle.assertions.specs.Kept.{is_kept_for, is_asked_by}
-use Rattle.entry_check.specs.Checked.{told_before, others_before, found_after, failure_after}
+use Rattle.entry_check.specs.Checked.{told_before, others_before, found_after, failure_after, wanted_fits}
 use Rattle.entry_check.proofs.failure.failure.Goals as goal
 
 pub returns-in-Some-clause-fault : goal.returns-in-Some-clause-fault
@@ -16,3 +17,13 @@ returns-in-Some-clause-fault g c = if_ok _ _ c.judge.result (λ fault is through
     subst (λ (w : Assertion). is_kept_for here.own here.below p.account w.below ≡ true → fault ≡ failure_at p.line w (found_after told others w p.account through)) c.get.ensures (is through h) kept
     ∙ ap (failure_after told others through p) (sym c.in-Some.is))
     c.judge.ensures.fault
+
+pub returns-in-Some-clause-range : goal.returns-in-Some-clause-range
+returns-in-Some-clause-range g c = if_err _ _ c.judge.result (λ e beyond range through h asked.
+    let told = told_before (g.S.Sums.txns c.args.sums.now) (g.S.Sums.place c.args.sums.now) in
+    let here = c.args.here.now in
+    let p = c.args.posting.now in
+    let kept = ap (is_asked_by here.own here.below p.account) (sym c.in-Some.is) ∙ asked in
+    ap (λ (o : Option Assertion). wanted_fits told p.account o through) c.in-Some.is
+    ∙ subst (λ (w : Assertion). is_kept_for here.own here.below p.account w.below ≡ true → wanted_fits told p.account (Some w) through ≡ false) c.get.ensures (beyond range through h) kept)
+    c.judge.ensures.range

@@ -1,15 +1,18 @@
-use Rattle.std.proofs.Common.{◌≡◌, [], filter, true, false, Option, refl, sym, ap, ◌∙◌, subst, rules}
+use Rattle.std.proofs.Common.{◌≡◌, List, [], filter, true, false, Option, refl, sym, ap, ◌∙◌, subst, rules}
 use Rattle.std.specs.List.{list_any}
 use Rattle.book.specs.declared.fault.Fault.{Fault}
+use Rattle.book.specs.declared.transaction.Posting.{Posting}
 use Rattle.book.specs.SumsBefore.{is_assigned}
 use Rattle.entry_balance.proofs.Adding.{if_err}
 use Rattle.entry_balance.proofs.Causes.{if_ok}
 use Rattle.assertions.proofs.Balanced.{asked_same, each-stays}
 use Rattle.balancing.specs.declared.groups.Part.TheVariants as part
 use Rattle.balancing.specs.Parts.{is_in}
-use Rattle.entry_check.specs.Checked.{told_before, others_before, first_failing, AreBeyond}
+use Rattle.entry_check.specs.Checked.{told_before, others_before, first_failing}
 use Rattle.entry_check.specs.Failing.{AreJudged}
-use Rattle.entry_check.proofs.Judging.{filter_all, whole_failing, in_order_parts, order_beyond, both_failing, one_failing, first_beyond}
+use Rattle.entry_check.specs.Ranging.{are_in_range}
+use Rattle.entry_check.proofs.Within.{out_first}
+use Rattle.entry_check.proofs.Judging.{filter_all, whole_failing, in_order_parts, order_beyond, both_failing, one_failing}
 use Rattle.entry_check.proofs.failure.first_failing.Goals as goal
 
 pub returns-then-not-has_assigned-clause-fault : goal.returns-then-not-has_assigned-clause-fault
@@ -24,7 +27,7 @@ returns-then-not-has_assigned-clause-fault g c = if_ok _ _ c.judge_part.result (
 pub returns-then-not-has_assigned-clause-range : goal.returns-then-not-has_assigned-clause-range
 returns-then-not-has_assigned-clause-range g c = if_err _ _ c.judge_part.result (λ e beyond range.
     let told = told_before (g.S.Sums.txns c.args.sums.now) (g.S.Sums.place c.args.sums.now) in
-    subst (AreBeyond told) (filter_all c.args.postings.now) (beyond range [] c.in-Ok.ensures.fresh c.in-Ok.ensures.asked))
+    subst (λ (qs : List Posting). are_in_range told qs ≡ false) (filter_all c.args.postings.now) (beyond range [] c.in-Ok.ensures.fresh c.in-Ok.ensures.asked))
     c.judge_part.ensures.range
 
 pub returns-in-Ok-None-clause-fault : goal.returns-in-Ok-None-clause-fault
@@ -55,7 +58,7 @@ returns-in-Ok-None-clause-range g c = if_err _ _ c.judge_part-in-Ok-None.result 
     let mid = c.judge_part-2.new.here in
     let first = subst (λ (o : Option Fault). AreJudged told others [] one mid.own mid.below o) c.in-Ok-None.field-0-is (c.in-Ok-None.ensures.fault [] c.in-Ok.ensures.fresh c.in-Ok.ensures.asked) in
     let still = each-stays _ _ ps (λ p e. asked_same here.own here.below mid.own mid.below p c.in-Ok-None.ensures.own c.in-Ok-None.ensures.below ∙ e) c.in-Ok.ensures.asked in
-    order_beyond told ps (subst (AreBeyond told) (in_order_parts ps assigned) (beyond range one (first.kept refl) still)))
+    order_beyond told ps (subst (λ (qs : List Posting). are_in_range told qs ≡ false) (in_order_parts ps assigned) (beyond range one (first.kept refl) still)))
     c.judge_part-in-Ok-None.ensures.range
 
 pub returns-in-Ok-Some-clause-fault : goal.returns-in-Ok-Some-clause-fault
@@ -75,5 +78,5 @@ returns-clause-range g c = λ range.
     let told = told_before (g.S.Sums.txns c.args.sums.now) (g.S.Sums.place c.args.sums.now) in
     let ps = c.args.postings.now in
     let assigned : list_any is_assigned ps ≡ true = sym c.has_assigned.ensures ∙ search rules in
-    order_beyond told ps (subst (AreBeyond told) (in_order_parts ps assigned)
-    (first_beyond told (filter (is_in part.ButFound) ps) (filter (is_in part.Found) ps) (c.in-Err-judge_part.ensures.range range [] c.in-Ok.ensures.fresh c.in-Ok.ensures.asked)))
+    order_beyond told ps (subst (λ (qs : List Posting). are_in_range told qs ≡ false) (in_order_parts ps assigned)
+    (out_first told (filter (is_in part.ButFound) ps) (filter (is_in part.Found) ps) (c.in-Err-judge_part.ensures.range range [] c.in-Ok.ensures.fresh c.in-Ok.ensures.asked)))

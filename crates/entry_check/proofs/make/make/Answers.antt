@@ -8,4 +8,4 @@ pub returns-in-Err-clause-range : goal.returns-in-Err-clause-range
 returns-in-Err-clause-range g c = λ range.
     let told = told_before (g.S.Sums.txns c.args.sums.now) (g.S.Sums.place c.args.sums.now) in
     let assignable : is_assignable c.args.txn.postings ≡ true = ap is_assignable (sym c.as_slice.ensures) ∙ sym c.is_assignable.ensures ∙ search rules in
-    made_beyond told c.args.txn assignable (c.in-Err.ensures.range range)
+    (assignable, made_beyond told c.args.txn assignable (c.in-Err.ensures.range range))

@@ -1,4 +1,4 @@
-use Rattle.std.proofs.Common.{◌≡◌, List, ◌∷◌, [], ◌++◌, length, sym, ap, ◌∙◌, subst, rules}
+use Rattle.std.proofs.Common.{◌≡◌, List, ◌∷◌, [], ◌++◌, length, false, sym, ap, ◌∙◌, subst, rules}
 use Rattle.std.specs.List.{list_all}
 use Rattle.std.proofs.lemmas.Iterator.Adapters.{YieldsList-from_vec}
 use Rattle.std.proofs.lemmas.Iterator.Consumers.{YieldsList-end, YieldsList-turn, YieldsList-so_far}
@@ -8,7 +8,8 @@ use Rattle.entry_balance.proofs.Adding.{list_all-at}
 use Rattle.assertions.specs.Kept.{is_asked}
 use Rattle.assertions.proofs.Balanced.{asked_same, each-stays}
 use Rattle.balancing.proofs.Giving.{front-is}
-use Rattle.entry_check.specs.Checked.{told_before, made_posting, made_postings, AreBeyond}
+use Rattle.entry_check.specs.Checked.{told_before, made_posting, made_postings}
+use Rattle.entry_check.specs.Ranging.{are_in_range}
 use Rattle.entry_check.proofs.Asked.{asked_both}
 use Rattle.entry_check.proofs.Giving.{made-push, through_beyond}
 use Rattle.entry_check.proofs.make.make_all.Goals as goal
@@ -51,7 +52,7 @@ returns-in-Err-make_next-clause-range g c = λ range.
     let asked = list_all-at (is_asked old.own old.below) all (length xs) x turn.0 turn.1 (ap (list_all (is_asked old.own old.below)) whole ∙ kept.asked) in
     let front = front-is xs all x (sym so_far) turn.0 turn.1 in
     through_beyond told xs c.args.postings front.0 x (sym whole ∙ front.1)
-    (subst (λ (ps : List Posting). AreBeyond told (ps ++ made_posting told ps x x.amount x.wanted ∷ [])) kept.made (c.in-Err-make_next.ensures.range range kept.here asked))
+    (subst (λ (ps : List Posting). are_in_range told (ps ++ made_posting told ps x x.amount x.wanted ∷ []) ≡ false) kept.made (c.in-Err-make_next.ensures.range range kept.here asked))
 
 pub returns-in-Err-make_next-clause-steps : goal.returns-in-Err-make_next-clause-steps
 returns-in-Err-make_next-clause-steps g c = asked_both _ _ _ c.loop-posting.invariant.steps c.in-Err-make_next.ensures.steps

@@ -1,9 +1,10 @@
-use Rattle.std.proofs.Common.{◌≡◌, List, [], ◌∷◌, ◌++◌, true, OnOk, sym, ap, ◌∙◌, subst}
+use Rattle.std.proofs.Common.{◌≡◌, List, [], ◌∷◌, ◌++◌, true, false, OnOk, sym, ap, ◌∙◌, subst}
 use Rattle.book.specs.declared.transaction.Posting.{Posting}
 use Rattle.assertions.specs.Kept.{IsBalance, is_asked}
-use Rattle.entry_check.specs.Checked.{told_before, AreBeyond}
+use Rattle.entry_check.specs.Checked.{told_before}
 use Rattle.entry_check.specs.Making.{IsMadeNext}
-use Rattle.entry_check.proofs.Holding.{beyond_alone}
+use Rattle.entry_check.specs.Ranging.{are_in_range}
+use Rattle.entry_check.proofs.Within.{out_alone}
 use Rattle.entry_check.proofs.make.make_next.Goals as goal
 use Rattle.entry_check.proofs.make.make_next.Goals.{in-Ok-push, in-Err-push}
 
@@ -11,8 +12,8 @@ pub returns-in-Err-add_posting-clause-range : goal.returns-in-Err-add_posting-cl
 returns-in-Err-add_posting-clause-range g c = λ range h asked.
     let told = told_before (g.S.Sums.txns c.args.sums.now) (g.S.Sums.place c.args.sums.now) in
     let done = c.args.made.now.items in
-    subst (λ (x : Posting). AreBeyond told (done ++ x ∷ [])) (c.in-Ok.ensures.made done h asked)
-    (beyond_alone told (done ++ c.in-Ok.posting ∷ []) (c.in-Err-add_posting.ensures.range range done h))
+    subst (λ (x : Posting). are_in_range told (done ++ x ∷ []) ≡ false) (c.in-Ok.ensures.made done h asked)
+    (out_alone told (done ++ c.in-Ok.posting ∷ []) (c.in-Err-add_posting.ensures.range range done h))
 
 pub returns-clause-made : goal.returns-clause-made
 returns-clause-made g c =
