@@ -1,8 +1,8 @@
 -- What an account holds before an entry, and all that the entry moves, stay in range where all that the book moves does.
-use Rattle.std.proofs.Common.{◌≡◌, ℕ, ℤ, pos, ◌+◌, ◌-◌, ◌^◌, ◌≤◌, ◌*ℤ◌, Bool, true, false, ◌&&◌, cond, List, [], ◌∷◌, ◌++◌, map, filter, Option, Some, None, inl, inr, ◌⊎◌, unsigned_abs, sym, ap, ◌∙◌, subst, arith}
+use Rattle.std.proofs.Common.{◌≡◌, ℕ, ℤ, pos, ◌+◌, ◌-◌, ◌^◌, ◌≤◌, ◌*ℤ◌, Bool, true, false, ◌&&◌, cond, List, [], ◌∷◌, ◌++◌, map, filter, Option, Some, None, inl, inr, ◌⊎◌, unsigned_abs, refl, sym, ap, ◌∙◌, subst, arith}
 use Rattle.std.specs.List.{AllByRecursion, fold}
 use Rattle.std.specs.Str.{bytes_eq}
-use Rattle.std.proofs.lemmas.Bool.{cases_lt, false≢true}
+use Rattle.std.proofs.lemmas.Bool.{cases_lt}
 use Rattle.std.proofs.lemmas.Bool.Decides.{Decides-ltb}
 use Rattle.std.proofs.lemmas.Grind.{flat_map-append}
 use Rattle.std.proofs.lemmas.List.{append-nil}
@@ -14,6 +14,7 @@ use Rattle.book.specs.Mixed.{plus}
 use Rattle.book.specs.Postings.{postings_of}
 use Rattle.book.specs.SumsBefore.{Place, is_before, is_of, placed_from, postings_before, sum_before}
 use Rattle.book.specs.declared.amount.Amount.{Amount}
+use Rattle.book.specs.declared.amount.Assertion.{Assertion}
 use Rattle.book.specs.declared.transaction.Posting.{Posting}
 use Rattle.book.specs.declared.transaction.Txn.{Txn}
 use Rattle.book.proofs.Added.{cancel}
@@ -21,12 +22,13 @@ use Rattle.entry_balance.specs.Entry.{from_amount, moved, moved_by}
 use Rattle.entry_balance.specs.Tally.{is_within, no_sum, numbers_of, total_of, turnover_fits}
 use Rattle.entry_balance.specs.Values.{Value, absolute, cost_values, trimmed, value_of}
 use Rattle.entry_balance.proofs.Covers.{Covers, covers_both, covers_left, covers_none, covers_right, part_within}
+use Rattle.entry_balance.proofs.Named.{both_true}
 use Rattle.entry_balance.proofs.Trimmed.{same_trimmed, trimmed-is, trimmed-places, trimmed-units}
 use Rattle.entry_balance.proofs.Turnover.{AllAtMost, alike, at_most-left, at_most-right, exact-abs, fits-from_each, magnitude, magnitude-append, magnitude-more, nothing, numbers-append, numbers-here, places_within, sum-within, sum_places-all, total_within}
 use Rattle.balancing.specs.Solves.{HasFew, HaveFew, values_before, values_of}
 use Rattle.balancing.proofs.SolvingBook.{text_names}
 use Rattle.balancing.proofs.SolvingUnits.{sum_at}
-use Rattle.entry_check.specs.Checked.{AreBeyond, told_before}
+use Rattle.entry_check.specs.Checked.{asked_fit, told_before, wanted_fits}
 use Rattle.asserted_entries.proofs.Earlier.{Entry}
 use Rattle.asserted_entries.proofs.Held.{trimmed_is}
 
@@ -144,16 +146,8 @@ one_more d ms ns small h =
     let bound = (Decides-ltb _ _).0 h in
     (Decides-ltb _ _).1 (omega (arith, ap unsigned_abs (exact-abs (d ∷ ns)), ap unsigned_abs (exact-abs (ms ++ ns)), bound, magnitude-append q ms ns, here.1, magnitude-more p q (d ∷ ns) within))
 
-pub in_range : (book : List Txn) (t : Txn) (place : Place) → HaveFew book → turnover_fits (moved (postings_of (book ++ t ∷ []))) ≡ true → AreBeyond (told_before book place) t.postings → ⊥
-in_range book t place few fits beyond =
-    let d : Decimal = told_before book place beyond.below beyond.account beyond.symbol in
-    let old = moved (postings_of book) in
-    let new = moved t.postings in
-    let whole : moved (postings_of (book ++ t ∷ [])) ≡ old ++ new =
-    ap moved (flat_map-append (λ (u : Txn). u.postings) book (t ∷ []) ∙ ap (λ (ps : List Posting). postings_of book ++ ps) (append-nil t.postings))
-    ∙ flat_map-append moved_by (postings_of book) t.postings in
-    let all : turnover_fits (old ++ new) ≡ true = ap turnover_fits (sym whole) ∙ fits in
-    false≢true (sym beyond.range ∙ fits-from_each ((beyond.symbol, d) ∷ new) (λ s. each book few beyond.account beyond.symbol beyond.below place new all s (alike beyond.symbol s)))
+pub in_range : (book : List Txn) (t : Txn) (place : Place) (asking : List Posting) → HaveFew book → turnover_fits (moved (postings_of (book ++ t ∷ []))) ≡ true → asked_fit (told_before book place) t.postings asking ≡ true
+in_range book t place asking few fits = asked_all asking
   where
     here : (book : List Txn) → HaveFew book → (account s : List ℕ) (below : Bool) (place : Place) (new : List Value) → turnover_fits (moved (postings_of book) ++ new) ≡ true → is_within (fold plus no_sum (map absolute (numbers_of s ((s, told_before book place below account s) ∷ new)))) ≡ true
     here book few account s below place new all =
@@ -172,3 +166,22 @@ in_range book t place few fits beyond =
         let old = moved (postings_of book) in
         ap (λ (b : Bool). is_within (fold plus no_sum (map absolute (map (λ (v : Value). v.1) (cond b ((symbol, d) ∷ filter (λ (v : Value). bytes_eq v.0 s) new) (filter (λ (v : Value). bytes_eq v.0 s) new)))))) apart
         ∙ part_within (numbers_of s new) (numbers_of s (old ++ new)) ((covers_right old new).each s) (total_within s (old ++ new) all)
+
+    beside : (account symbol : List ℕ) (below : Bool) → turnover_fits ((symbol, told_before book place below account symbol) ∷ moved t.postings) ≡ true
+    beside account symbol below =
+        let d : Decimal = told_before book place below account symbol in
+        let old = moved (postings_of book) in
+        let new = moved t.postings in
+        let whole : moved (postings_of (book ++ t ∷ [])) ≡ old ++ new =
+        ap moved (flat_map-append (λ (u : Txn). u.postings) book (t ∷ []) ∙ ap (λ (ps : List Posting). postings_of book ++ ps) (append-nil t.postings))
+        ∙ flat_map-append moved_by (postings_of book) t.postings in
+        let all : turnover_fits (old ++ new) ≡ true = ap turnover_fits (sym whole) ∙ fits in
+        fits-from_each ((symbol, d) ∷ new) (λ s. each book few account symbol below place new all s (alike symbol s))
+
+    one : (account : List ℕ) (w : Option Assertion) → wanted_fits (told_before book place) account w t.postings ≡ true
+    one account None = refl
+    one account (Some w) = beside account w.amount.symbol w.below
+
+    asked_all : (asking : List Posting) → asked_fit (told_before book place) t.postings asking ≡ true
+    asked_all [] = refl
+    asked_all (p ∷ ps) = both_true (wanted_fits (told_before book place) p.account p.wanted t.postings) (asked_fit (told_before book place) t.postings ps) (one p.account p.wanted) (asked_all ps)

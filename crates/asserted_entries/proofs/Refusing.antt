@@ -1,5 +1,5 @@
 -- An entry behind a text that has a book passes its check by the sums before it.
-use Rattle.std.proofs.Common.{◌≡◌, ℕ, suc, ◌+◌, ◌≤◌, true, List, [], ◌∷◌, ◌++◌, length, map, Option, Some, None, Result, Ok, Err, ◌⊎◌, inl, inr, is_none, is_some, ◌||◌, refl, sym, ap, subst, ◌∙◌, arith}
+use Rattle.std.proofs.Common.{◌≡◌, ℕ, suc, ◌+◌, ◌≤◌, true, false, List, [], ◌∷◌, ◌++◌, length, map, Option, Some, None, Result, Ok, Err, ◌⊎◌, inl, inr, is_none, is_some, ◌||◌, refl, sym, ap, subst, ◌∙◌, arith}
 use Rattle.std.specs.Prelude.{IfErr}
 use Rattle.std.specs.List.{AllByRecursion}
 use Rattle.std.proofs.lemmas.Bool.{false≢true}
@@ -21,7 +21,7 @@ use Rattle.balancing.specs.declared.fault.CheckFault.TheVariants as check
 use Rattle.balancing.specs.Solves.{AreMade, AreMadeTxns, HasFew, HaveFew, IsAssertedAt, IsMadeBy, IsMadeTxn, Solves}
 use Rattle.reached_entries.specs.Reached.{AreSame, HandsOn}
 use Rattle.reached_entries.proofs.Blanks.{others-stay}
-use Rattle.entry_check.specs.Checked.{AreBeyond, IsChecked, checked, first_failing, judged, made, others_before, told_before}
+use Rattle.entry_check.specs.Checked.{IsBeyond, IsChecked, asked_fit, checked, first_failing, judged, made, others_before, told_before}
 use Rattle.asserted_entries.specs.Added.{AddsNothing}
 use Rattle.asserted_entries.specs.Asking.{are_asserted, last_asked}
 use Rattle.asserted_entries.specs.Behind.{behind}
@@ -177,10 +177,11 @@ adds_nothing book w (Ok v) asserted h = tt
 adds_nothing book w (Err check.Memory) asserted h = tt
 adds_nothing book w (Err (check.Journal fault)) asserted h = λ written other s asked few o. by h written other s asked (subst HaveFew (only_book written book other w s o asserted asked) few) o
   where
-    by : (checked (told_before book (behind book w.day)) (others_before book (behind book w.day)) w ≡ Err fault) ⊎ ((fault ≡ record { line = w.line; cause = cause.Range }) × AreBeyond (told_before book (behind book w.day)) (settled (made (told_before book (behind book w.day)) w)).postings) → (written other : List Txn) → Solves written book → last_asked book ≤ w.day.0 → HaveFew (book ++ settled w ∷ []) → Solves (written ++ w ∷ []) other → ⊥
+    by : (checked (told_before book (behind book w.day)) (others_before book (behind book w.day)) w ≡ Err fault) ⊎ ((fault ≡ record { line = w.line; cause = cause.Range }) × IsBeyond (told_before book (behind book w.day)) w) → (written other : List Txn) → Solves written book → last_asked book ≤ w.day.0 → HaveFew (book ++ settled w ∷ []) → Solves (written ++ w ∷ []) other → ⊥
     by (inl wrong) written other s asked few o = refuses written book other w fault s few asserted asked wrong o
     by (inr beyond) written other s asked few o =
-        let P : Txn → Type 0 = λ t. AreBeyond (told_before book (behind book w.day)) (settled t).postings in
+        let told = told_before book (behind book w.day) in
+        let P : Txn → Type 0 = λ t. asked_fit told (settled t).postings (settled t).postings ≡ false in
         let Q : List Txn → Type 0 = λ b. turnover_fits (moved (postings_of b)) ≡ true in
-        let own = subst P (made_is (told_before book (behind book w.day)) (others_before book (behind book w.day)) w (written_all w.postings asserted)) beyond.1 in
-        in_range book (settled w) (behind book w.day) (first_few book (settled w) few) (subst Q (only_book written book other w s o asserted asked) o.fits) own
+        let own = subst P (made_is told (others_before book (behind book w.day)) w (written_all w.postings asserted)) beyond.1.range in
+        false≢true (sym own ∙ in_range book (settled w) (behind book w.day) (settled w).postings (first_few book (settled w) few) (subst Q (only_book written book other w s o asserted asked) o.fits))
