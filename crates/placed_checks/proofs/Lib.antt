@@ -1,0 +1,18 @@
+pub mod Lists
+pub mod Names
+pub mod Elsewhere
+pub mod Own
+pub mod Held
+pub mod Through
+pub mod Besides
+pub mod Ordered
+pub mod Asserting
+pub mod Decimals
+pub mod Assigning
+pub mod Written
+pub mod Solved
+pub mod Refusing
+pub mod Making
+pub mod Passing
+pub mod Finest
+mod Worked

@@ -1,0 +1,36 @@
+-- What the check of a transaction at its place came to.
+use Rattle.std.specs.Prelude.{◌≡◌, ℕ, Bool, true, false, List, Some, Result, Ok, Err}
+use Rattle.std.specs.List.{slice_get}
+use Rattle.book.specs.declared.transaction.Txn.{Txn}
+use Rattle.book.specs.SumsBefore.{Place}
+use Rattle.balancing.specs.Solves.{HaveFew}
+use Rattle.balancing.specs.declared.fault.CheckFault.{CheckFault}
+use Rattle.reached_entries.specs.Reached.{IsSolved}
+use Rattle.placed_checks.specs.declared.judge.Judged.{Judged}
+use Rattle.placed_checks.specs.declared.judge.Judged.TheVariants.{Solved, Mixed}
+use Rattle.placed_checks.specs.Placed.{SameBefore, place_of, want_enough}
+
+-- What was checked by the sums of a book before its place is solved in each book that has it under its number as it was
+-- answered, and has the same postings before the place: as long as its assigned amounts are wanted with as many decimals
+-- as amounts of the first book have, and no amount has more than 36.
+abbrev pub IsSolvedWhere : List Txn → Place → Txn → Txn → Type 0
+IsSolvedWhere book place written solved =
+    (after : List Txn) (n : ℕ) → place ≡ place_of n written.day → HaveFew book → want_enough book solved ≡ true
+    → HaveFew after → slice_get after n ≡ Some solved → SameBefore book after place → IsSolved after n written solved
+
+abbrev pub IsJudged : List Txn → Place → Txn → Judged → Type 0
+IsJudged book place written (Solved solved) = IsSolvedWhere book place written solved
+IsJudged book place written (Mixed answer) = Unit {0}
+
+abbrev pub judged_as : Bool → Txn → Judged
+judged_as true answer = Solved answer
+judged_as false answer = Mixed answer
+
+-- the transaction that the check answered, whatever is known of it
+abbrev pub answered : Judged → Txn
+answered (Solved answer) = answer
+answered (Mixed answer) = answer
+
+abbrev pub as_checked : Result Judged CheckFault → Result Txn CheckFault
+as_checked (Ok judged) = Ok (answered judged)
+as_checked (Err fault) = Err fault

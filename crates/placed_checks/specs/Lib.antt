@@ -1,0 +1,4 @@
+pub mod Finest
+pub mod Judging
+pub mod Placed
+pub mod Unmixed
