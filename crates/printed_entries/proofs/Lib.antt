@@ -1,0 +1,16 @@
+pub mod Assembled
+pub mod Clear
+pub mod Dates
+pub mod Found
+pub mod Further
+pub mod Groups
+pub mod Heads
+pub mod Joined
+pub mod Lines
+pub mod Names
+pub mod Numbers
+pub mod Parts
+pub mod Remarks
+pub mod Shown
+pub mod Styled
+pub mod Told
