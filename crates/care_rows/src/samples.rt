@@ -37,6 +37,7 @@ fn push_accounts(alloc: Global, items: &mut Vec<Placed>, names: &[&str]) -> Resu
 }
 
 /// Adds entries, each with the line of its head.
+#[tactic(auto, using(entry_reader::proofs::Lines::few_lines))]
 fn push_entries(
     alloc: Global,
     items: &mut Vec<Placed>,

@@ -65,6 +65,7 @@ fn marks(rt: HostRuntime) -> Result<(), Fail> {
 }
 
 /// How many postings an entry has.
+#[tactic(auto, using(entry_reader::proofs::Lines::few_lines))]
 fn entry_count(alloc: Global, context: &Context, entry: &[u8]) -> usize {
     if entry.len() > 200 || !is_utf8(entry) {
         return 0;
@@ -76,6 +77,7 @@ fn entry_count(alloc: Global, context: &Context, entry: &[u8]) -> usize {
 }
 
 /// How many postings of an automated rule some lines are.
+#[tactic(auto, using(entry_reader::proofs::Lines::few_lines))]
 fn rule_count(alloc: Global, context: &Context, lines: &[u8]) -> usize {
     if lines.len() > 200 || !is_utf8(lines) {
         return 0;
@@ -87,6 +89,7 @@ fn rule_count(alloc: Global, context: &Context, lines: &[u8]) -> usize {
 }
 
 /// How many postings of a periodic rule some lines are.
+#[tactic(auto, using(entry_reader::proofs::Lines::few_lines))]
 fn periodic_count(alloc: Global, context: &Context, lines: &[u8]) -> usize {
     if lines.len() > 200 || !is_utf8(lines) {
         return 0;

@@ -41,6 +41,7 @@ fn told(alloc: Global, item: &Item) -> Result<String, Fail> {
 }
 
 /// Each rule is told so, and reads in the same way in each context.
+#[tactic(auto, using(entry_reader::proofs::Lines::few_lines))]
 fn each_rule<L: Ledger, R: Abort>(
     rt: &R,
     alloc: Global,
