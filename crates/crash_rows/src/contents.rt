@@ -12,23 +12,32 @@ enum Call {
 }
 
 /// What becomes of such a call in a crash: it is lost, it is done, the first bytes of its piece or of what it cuts off are
-/// done, or its whole range holds a byte that nobody wrote.
+/// done, or all of its range behind so many bytes of its piece holds a byte that nobody wrote.
 #[derive(Clone, Copy)]
 pub enum Fate {
     Lost,
     Done,
     Torn(usize),
-    Junk(u8),
+    Junk { after: usize, byte: u8 },
 }
 
-/// The bytes of a file, and how many calls are still served.
+/// How many calls a file serves, and the number of one, counted from 1, that is answered as failed: a sync that isn't done,
+/// or a write or a cut that is.
+#[derive(Clone, Copy)]
+pub struct Service {
+    pub calls: u64,
+    pub failing: u64,
+}
+
+/// The bytes of a file, and how many calls were made of it.
 #[derive(Drop)]
 pub struct Contents {
     alloc: Global,
     synced: Vec<u8>,
     now: Vec<u8>,
     since: Vec<Call>,
-    left: u64,
+    asked: u64,
+    service: Service,
 }
 
 // Bytes that can be changed.
@@ -88,7 +97,10 @@ fn suffer_write(file: &mut Vec<u8>, at: usize, piece: &[u8], fate: Fate) -> Resu
         Fate::Lost => Ok(()),
         Fate::Done => overwrite(file, at, piece),
         Fate::Torn(count) => overwrite(file, at, &piece[..count.min(piece.len())]),
-        Fate::Junk(junk) => spoil(file, at, piece.len(), junk),
+        Fate::Junk { after, byte } => {
+            spoil(file, at, piece.len(), byte)?;
+            overwrite(file, at, &piece[..after.min(piece.len())])
+        }
     }
 }
 
@@ -96,20 +108,21 @@ fn suffer_write(file: &mut Vec<u8>, at: usize, piece: &[u8], fate: Fate) -> Resu
 fn suffer_cut(file: &mut Vec<u8>, len: usize, fate: Fate) {
     match fate {
         Fate::Lost => {}
-        Fate::Done | Fate::Junk(_) => file.truncate(len),
+        Fate::Done | Fate::Junk { .. } => file.truncate(len),
         Fate::Torn(count) => file.truncate(len.saturating_add(count)),
     }
 }
 
 impl Contents {
-    /// A file with these bytes, which serves so many calls.
-    pub fn new(alloc: Global, bytes: &[u8], left: u64) -> Result<Contents, Memory> {
+    /// A file with these bytes, which serves calls so.
+    pub fn new(alloc: Global, bytes: &[u8], service: Service) -> Result<Contents, Memory> {
         Ok(Contents {
             alloc,
             synced: copied(alloc, bytes)?,
             now: copied(alloc, bytes)?,
             since: Vec::new(alloc),
-            left,
+            asked: 0,
+            service,
         })
     }
 
@@ -118,23 +131,32 @@ impl Contents {
         self.now.as_slice()
     }
 
-    /// How many calls are still served.
-    pub fn left(&self) -> u64 {
-        self.left
+    /// How many calls were made.
+    pub fn asked(&self) -> u64 {
+        self.asked
     }
 
-    /// Whether one more call is served.
-    pub fn turn(&mut self) -> Result<(), Failed> {
-        if self.left == 0 {
+    // Whether one more call is served.
+    fn turn(&mut self) -> Result<(), Failed> {
+        if self.asked >= self.service.calls {
             return Err(Failed);
         }
-        self.left -= 1;
+        self.asked = self.asked.saturating_add(1);
+        Ok(())
+    }
+
+    // Whether the call that was served last is answered so.
+    fn told(&self) -> Result<(), Failed> {
+        if self.asked == self.service.failing {
+            return Err(Failed);
+        }
         Ok(())
     }
 
     /// The length.
     pub fn len(&mut self) -> Result<u64, Failed> {
         self.turn()?;
+        self.told()?;
         Ok(self.now.len() as u64)
     }
 
@@ -143,6 +165,7 @@ impl Contents {
         ensures { IfOk result (λ count. count ≤ length room.old) }
     {
         self.turn()?;
+        self.told()?;
         let from = (at as usize).min(self.now.len());
         let rest = &self.now.as_slice()[from..];
         let count = rest.len().min(room.len());
@@ -155,7 +178,7 @@ impl Contents {
         self.turn()?;
         let at = at as usize;
         match self.keep_write(at, piece) {
-            Ok(()) => Ok(()),
+            Ok(()) => self.told(),
             Err(_) => Err(Failed),
         }
     }
@@ -173,7 +196,7 @@ impl Contents {
         match self.since.push(Call::Cut { len }) {
             Ok(()) => {
                 self.now.truncate(len);
-                Ok(())
+                self.told()
             }
             Err(_) => Err(Failed),
         }
@@ -182,6 +205,7 @@ impl Contents {
     /// Brings it to rest.
     pub fn sync(&mut self) -> Result<(), Failed> {
         self.turn()?;
+        self.told()?;
         match copied(self.alloc, self.now.as_slice()) {
             Ok(copy) => {
                 self.synced = copy;

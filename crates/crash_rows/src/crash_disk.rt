@@ -1,8 +1,8 @@
-//! A disk that stops serving after some calls.
+//! A disk that stops serving after some calls, and fails one.
 ghost use Rattle.std.specs.Prelude.{◌≡◌, Ok, IfOk};
 ghost use Rattle.hl_base.specs.Causes.{HasCause};
 
-use crate::contents::Contents;
+use crate::contents::{Contents, Service};
 use hl_base::{Disk, Failed, Memory};
 use std::alloc::Global;
 
@@ -15,10 +15,10 @@ pub struct CrashDisk {
 }
 
 impl CrashDisk {
-    /// A file with these bytes, which serves so many calls.
-    pub fn new(alloc: Global, bytes: &[u8], left: u64) -> Result<CrashDisk, Memory> {
+    /// A file with these bytes, which serves calls so.
+    pub fn new(alloc: Global, bytes: &[u8], service: Service) -> Result<CrashDisk, Memory> {
         Ok(CrashDisk {
-            file: Contents::new(alloc, bytes, left)?,
+            file: Contents::new(alloc, bytes, service)?,
             reach: 0,
             faults: 0,
         })
