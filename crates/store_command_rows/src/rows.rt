@@ -17,7 +17,9 @@ use store_making::init_store;
 /// 2024-06-15.
 const TODAY: Day = Day(739_052);
 
-const BREAD: &[u8] = b"2024-01-05 bread\n    expenses:food  10 EUR\n    assets:cash  -10 EUR\n";
+/// An entry of 68 bytes.
+pub(crate) const BREAD: &[u8] =
+    b"2024-01-05 bread\n    expenses:food  10 EUR\n    assets:cash  -10 EUR\n";
 
 const RULES: &[u8] = b"fields date, description, x\namount %x EUR\naccount1 assets:bank\n";
 
