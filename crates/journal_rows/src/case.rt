@@ -104,13 +104,30 @@ pub fn answer_in_cuts<W: Threads + Wait + Sync>(
     counted::<Brand, Cuts, W>(rt, alloc, Blank::new(3), case, input, &nothing())
 }
 
-/// The words of a case.
-fn words_of(alloc: Global, case: &Case) -> Result<Vec<Text>, Memory> {
+/// Words as the program is given them.
+pub(crate) fn words_of(alloc: Global, given: &[&str]) -> Result<Vec<Text>, Memory> {
     let mut words = Vec::new(alloc);
-    for word in case.words {
+    for word in given {
         words.push(Text::copied(alloc, word)?)?;
     }
     Ok(words)
+}
+
+/// Runs the program on a day of 2024, and gives its status.
+pub(crate) fn status_of<L: Ledger, J: Source + Drop, W: Threads + Wait + Sync>(
+    rt: &W,
+    alloc: Global,
+    words: &[Text],
+    outside: &mut Outside<J, MemSink, MemSink, MemShelf, ListMaker>,
+    steps: &mut Steps<L>,
+) -> u8 {
+    let day = Day(739_052);
+    let status = if asks_talk(words) {
+        run_waiting(rt, alloc, words, day, outside, steps)
+    } else {
+        run(rt, alloc, words, day, outside, steps)
+    };
+    status.0
 }
 
 fn counted<L: Ledger, J: Source + Drop, W: Threads + Wait + Sync>(
@@ -125,7 +142,7 @@ fn counted<L: Ledger, J: Source + Drop, W: Threads + Wait + Sync>(
     requires parts { blank.parts ≡ L.parts }
     requires three { blank.parts ≡ 3 }
 {
-    let words = words_of(alloc, case)?;
+    let words = words_of(alloc, case.words)?;
     let output = MemSink::new(alloc, ROOM, case.write_fails)?;
     let mut outside = Outside {
         streams: Streams { input, output },
@@ -134,15 +151,9 @@ fn counted<L: Ledger, J: Source + Drop, W: Threads + Wait + Sync>(
         maker: maker_of(alloc, beside)?,
     };
     let mut steps = Steps::<L>::start(blank);
-    let words = words.as_slice();
-    let day = Day(739_052);
-    let status = if asks_talk(words) {
-        run_waiting(rt, alloc, words, day, &mut outside, &mut steps)
-    } else {
-        run(rt, alloc, words, day, &mut outside, &mut steps)
-    };
+    let status = status_of(rt, alloc, words.as_slice(), &mut outside, &mut steps);
     Ok(Seen {
-        status: status.0,
+        status,
         output: Bytes::copied(alloc, outside.streams.output.as_slice())?,
         error: Bytes::copied(alloc, outside.err.as_slice())?,
     })

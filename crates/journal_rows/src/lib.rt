@@ -2,6 +2,8 @@
 #![tactic(auto)]
 
 pub mod case;
+#[cfg(test)]
+mod commands;
 mod cuts;
 #[cfg(test)]
 mod runs;
