@@ -62,7 +62,8 @@ pub fn averages(
     least: &mut Option<Text>,
 ) -> Result<Mixed, Memory>
     requires { 0 < columns }
-    ensures averages { IfOk result (λ made. seen made ≡ averages columns (style_in styles.now) (seen total.now)) }
+    ensures averages { IfOk result (λ made.
+        seen made ≡ averages columns (style_in styles.now) (seen total.now)) }
     ensures least { OnOk result (least.new
         ≡ least_with least.old (symbols_out columns (style_in styles.now) (seen total.now))) }
 {

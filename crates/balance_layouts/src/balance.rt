@@ -22,12 +22,14 @@ pub fn balance_text(
     styles: &Styles,
 ) -> Result<Bytes, ReportFault>
     requires some { 0 < length cells.columns }
-    requires fits { CellsFit layout.now (length cells.columns) (map row_seen cells.rows) (map seen cells.totals) }
+    requires fits { CellsFit layout.now (length cells.columns) (map row_seen cells.rows)
+        (map seen cells.totals) }
     ensures text { IfOk result (λ text. text ≡ balance_text layout.now (style_in styles.now)
         cells.columns (map row_seen cells.rows) (map seen cells.totals)) }
     ensures told { OnOk result (out_of_range layout.now (length cells.columns) (style_in styles.now)
         (map row_seen cells.rows) (map seen cells.totals) ≡ None) }
-    ensures fault { IfErr result (IsFault (out_of_range layout.now (length cells.columns) (style_in styles.now)
+    ensures fault { IfErr result (IsFault
+        (out_of_range layout.now (length cells.columns) (style_in styles.now)
         (map row_seen cells.rows) (map seen cells.totals))) }
 {
     let Cells {

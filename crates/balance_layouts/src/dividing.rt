@@ -25,7 +25,8 @@ fn power_of_ten(exponent: u8) -> u128
 
 /// The number of columns at a scale, where it stays below 2^127.
 fn divisor_of(columns: u64, scale: u128) -> Option<u128>
-    ensures { result ≡ (if nat_lt (columns * scale) (2 ^ 127) then Some (columns * scale) else None) }
+    ensures { result ≡ (if nat_lt (columns * scale) (2 ^ 127) then Some (columns * scale) else
+        None) }
 {
     match u128::from(columns).checked_mul(scale) {
         Some(product) if product < LIMIT => Some(product),
@@ -61,7 +62,8 @@ fn rounded(number: i128, divisor: u128, missing: u8, places: u8) -> Option<Dec>
     requires above { 0 < divisor }
     requires below { divisor < 2 ^ 127 }
     ensures { result ≡ (if nat_lt (unsigned_abs number * 10 ^ missing) (2 ^ 127)
-        then Some (record { mantissa = signed_half_even (number *ℤ pos (10 ^ missing)) divisor; places = places })
+        then Some (record
+        { mantissa = signed_half_even (number *ℤ pos (10 ^ missing)) divisor; places = places })
         else None) }
 {
     match div_round(number, divisor as i128, missing) {
@@ -76,7 +78,8 @@ fn part(number: i128, divisor: u128, places: u8) -> Option<Dec>
     requires above { 0 < divisor }
     requires below { divisor < 2 ^ 127 }
     ensures { result ≡ (if nat_lt (unsigned_abs number * 10 ^ places) (2 ^ 127)
-        then Some (record { mantissa = signed_half_even (number *ℤ pos (10 ^ places)) divisor; places = places })
+        then Some (record
+        { mantissa = signed_half_even (number *ℤ pos (10 ^ places)) divisor; places = places })
         else None) }
 {
     let more = places.saturating_sub(MOST_DECIMALS);

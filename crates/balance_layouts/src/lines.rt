@@ -31,7 +31,8 @@ fn push_aligned(out: &mut Vec<u8>, columns: usize, amount: &Printed) -> Result<(
 /// Appends a line for each amount.
 fn push_lines(out: &mut Vec<u8>, columns: usize, amounts: &[Printed]) -> Result<(), Memory>
     ensures { OnOk result (out.new.items
-        ≡ out.old.items ++ flat_map (λ text. right_aligned columns text ++ (line_feed ∷ [])) amounts.now) }
+        ≡ out.old.items ++ flat_map (λ text.
+        right_aligned columns text ++ (line_feed ∷ [])) amounts.now) }
 {
     for amount in amounts {
         push_aligned(out, columns, amount)?;
@@ -47,7 +48,8 @@ fn push_named(
     name: &[u8],
     amount: &Printed,
 ) -> Result<(), Memory>
-    ensures { OnOk result (out.new.items ≡ out.old.items ++ named_line columns name.now amount.now) }
+    ensures { OnOk result (out.new.items ≡ out.old.items
+        ++ named_line columns name.now amount.now) }
 {
     push_aligned(out, columns, amount)?;
     out.extend_from_slice(b"  ")?;
@@ -65,7 +67,8 @@ fn push_amounts(
     name: &[u8],
     amounts: &[Printed],
 ) -> Result<(), Memory>
-    ensures { OnOk result (out.new.items ≡ out.old.items ++ amount_lines columns name.now amounts.now) }
+    ensures { OnOk result (out.new.items ≡ out.old.items
+        ++ amount_lines columns name.now amounts.now) }
 {
     match amounts.split_last() {
         None => push_named(out, columns, name, &Printed::new(Text::copied(alloc, "0")?)),

@@ -53,7 +53,8 @@ fn rows_alone(alloc: Global, rows: &[Shown]) -> Result<Bytes, Memory>
 /// The lines of printed rows, dashes, and the lines of a total.
 fn rows_above(alloc: Global, rows: &[Shown], total: &[Printed]) -> Result<Bytes, Memory>
     ensures { IfOk result (λ text. text ≡ list_above
-        (widest (widest least_columns total.now) (flat_map (λ row. row.1) rows.now)) rows.now total.now) }
+        (widest (widest least_columns total.now) (flat_map (λ row.
+        row.1) rows.now)) rows.now total.now) }
 {
     let columns = widest_row(widest_amount(LEAST_COLUMNS, total), rows);
     let mut out = Vec::new(alloc);

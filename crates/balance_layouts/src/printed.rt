@@ -58,7 +58,8 @@ fn printed_sums(
     sums: &[(Text, Dec)],
     styles: &Styles,
 ) -> Result<Vec<Printed>, Memory>
-    ensures { IfOk result (λ amounts. amounts.items ≡ texts_of (style_in styles.now) (seen sums.now)) }
+    ensures { IfOk result (λ amounts.
+        amounts.items ≡ texts_of (style_in styles.now) (seen sums.now)) }
 {
     let mut amounts = Vec::new(alloc);
     for (symbol, value) in sums {

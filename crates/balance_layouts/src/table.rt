@@ -38,7 +38,8 @@ pub fn table_text(
         columns.now (map row_seen rows) (map seen totals)) }
     ensures told { OnOk result (first_out layout.now (length columns.now) (style_in styles.now)
         (map row_seen rows) (map seen totals) ≡ None) }
-    ensures fault { IfErr result (IsFault (first_out layout.now (length columns.now) (style_in styles.now)
+    ensures fault { IfErr result (IsFault
+        (first_out layout.now (length columns.now) (style_in styles.now)
         (map row_seen rows) (map seen totals))) }
 {
     let title = title(alloc, layout.basis, columns)?;
@@ -108,7 +109,8 @@ pub fn table_rows(
     ensures rows { IfOk result (λ made. map named_seen made
         ≡ map (table_row layout.now columns (style_in styles.now)) (map row_seen rows)) }
     ensures least { OnOk result (least.new
-        ≡ least_with least.old (rows_out layout.now columns (style_in styles.now) (map row_seen rows))) }
+        ≡ least_with least.old
+        (rows_out layout.now columns (style_in styles.now) (map row_seen rows))) }
 {
     let mut made = Vec::new(alloc);
     for row in rows.into_vec() {
@@ -131,7 +133,8 @@ fn table_row(
     ensures row { IfOk result (λ made. named_seen made
         ≡ table_row layout.now columns (style_in styles.now) (row_seen row)) }
     ensures least { OnOk result (least.new
-        ≡ least_with least.old (outs_of layout.now columns (style_in styles.now) (map seen row.cells))) }
+        ≡ least_with least.old
+        (outs_of layout.now columns (style_in styles.now) (map seen row.cells))) }
 {
     let CellRow { account, cells } = row;
     let name = name_of(alloc, &account, layout.order)?;
@@ -155,7 +158,8 @@ pub fn table_totals(
     ensures totals { IfOk result (λ made. seen_totals made ≡ (if layout.now.no_total then None
         else Some (with_total layout.now columns (style_in styles.now) (map seen totals)))) }
     ensures least { OnOk result (least.new
-        ≡ least_with least.old (totals_out layout.now columns (style_in styles.now) (map seen totals))) }
+        ≡ least_with least.old
+        (totals_out layout.now columns (style_in styles.now) (map seen totals))) }
 {
     if layout.no_total {
         return Ok(None);

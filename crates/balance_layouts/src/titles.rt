@@ -90,7 +90,8 @@ pub fn heads(alloc: Global, layout: &Layout, columns: &[Span]) -> Result<List<Te
 
 /// Appends a head, where it is asked for.
 fn push_asked(alloc: Global, heads: &mut Vec<Text>, asked: bool, head: &str) -> Result<(), Memory>
-    ensures { OnOk result (heads.new.items ≡ heads.old.items ++ (if asked then head.now ∷ [] else [])) }
+    ensures { OnOk result (heads.new.items ≡ heads.old.items
+        ++ (if asked then head.now ∷ [] else [])) }
 {
     if asked {
         heads.push(Text::copied(alloc, head)?)?;

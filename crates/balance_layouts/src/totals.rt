@@ -46,7 +46,8 @@ fn with_average(
     ensures cells { IfOk result (λ all. map seen all
         ≡ map seen cells ++ averages columns (style_in styles.now) (summed (map seen cells)) ∷ []) }
     ensures least { OnOk result (least.new
-        ≡ least_with least.old (symbols_out columns (style_in styles.now) (summed (map seen cells)))) }
+        ≡ least_with least.old
+        (symbols_out columns (style_in styles.now) (summed (map seen cells)))) }
 {
     let total = total_of(alloc, cells.as_slice())?;
     let average = averages(alloc, &total, columns, styles, least)?;
@@ -68,7 +69,8 @@ fn with_both(
         ≡ map seen cells ++ (summed (map seen cells) ∷ [])
         ++ (averages columns (style_in styles.now) (summed (map seen cells)) ∷ [])) }
     ensures least { OnOk result (least.new
-        ≡ least_with least.old (symbols_out columns (style_in styles.now) (summed (map seen cells)))) }
+        ≡ least_with least.old
+        (symbols_out columns (style_in styles.now) (summed (map seen cells)))) }
 {
     let total = total_of(alloc, cells.as_slice())?;
     let average = averages(alloc, &total, columns, styles, least)?;
@@ -90,7 +92,8 @@ pub fn with_total(
     ensures cells { IfOk result (λ all. map seen all
         ≡ with_total layout.now columns (style_in styles.now) (map seen cells)) }
     ensures least { OnOk result (least.new
-        ≡ least_with least.old (outs_of layout.now columns (style_in styles.now) (map seen cells))) }
+        ≡ least_with least.old
+        (outs_of layout.now columns (style_in styles.now) (map seen cells))) }
 {
     match (layout.row_total, layout.average) {
         (false, false) => Ok(cells),

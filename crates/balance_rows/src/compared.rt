@@ -45,7 +45,8 @@ fn compare_entries(left: &[(Text, Dec)], right: &[(Text, Dec)]) -> Ordering
 
 /// How two entries compare. The one with the lesser symbol stands against zero.
 fn compare_entry(left: &(Text, Dec), right: &(Text, Dec)) -> Ordering
-    ensures { result ≡ entry_cmp (left.now.0, units_of left.now.1) (right.now.0, units_of right.now.1) }
+    ensures { result ≡ entry_cmp (left.now.0, units_of left.now.1)
+        (right.now.0, units_of right.now.1) }
 {
     match compare_texts(&left.0, &right.0) {
         Ordering::Less => above_zero(left.1),

@@ -169,7 +169,8 @@ fn add_parents<'a>(
 ) -> Result<(), Memory>
     requires { AreOrdered groups.old.entries }
     ensures added { OnOk result (groups.new.entries
-        ≡ fold group_with groups.old.entries (map (λ name. (name, cells.now)) (parents account.now))) }
+        ≡ fold group_with groups.old.entries (map (λ name.
+        (name, cells.now)) (parents account.now))) }
     ensures ordered { OnOk result (AreOrdered groups.new.entries) }
 {
     for at in 0..account.len() {

@@ -33,7 +33,8 @@ fn indented(alloc: Global, account: &str) -> Result<Text, Memory>
 
 /// Appends two spaces a number of times.
 fn push_spaces(name: &mut String, count: usize) -> Result<(), Memory>
-    ensures { OnOk result (string_bytes name.new ≡ string_bytes name.old ++ replicate (2 * count) space) }
+    ensures { OnOk result (string_bytes name.new ≡ string_bytes name.old
+        ++ replicate (2 * count) space) }
 {
     for _pushed in 0..count {
         name.push_str("  ")?;

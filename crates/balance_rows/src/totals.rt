@@ -25,7 +25,8 @@ pub fn total_of(alloc: Global, cells: &[Mixed]) -> Result<Mixed, Memory>
 /// The totals of some rows: the sums of each column, as those of a tree's rows that have no parent.
 pub fn totals_of(alloc: Global, rows: &[CellRow], columns: usize) -> Result<List<Mixed>, Memory>
     requires { ColumnsFit (map row_seen rows.now) }
-    ensures flat { IfOk result (λ totals. map seen totals ≡ column_sums columns (map row_seen rows.now)) }
+    ensures flat { IfOk result (λ totals.
+        map seen totals ≡ column_sums columns (map row_seen rows.now)) }
     ensures tree { IfOk result (λ totals. map seen totals
         ≡ column_sums columns (roots (tree columns (map row_seen rows.now)))) }
 {

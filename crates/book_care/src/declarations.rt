@@ -78,7 +78,8 @@ fn note_directive(
     directive: &Directive,
 ) -> Result<(), Memory>
     ensures { OnOk result ((q : List ℕ) → has names.new q
-        ≡ (list_any (bytes_eq q) (option_to_list (spec.declared_by check directive.now)) || has names.old q)) }
+        ≡ (list_any (bytes_eq q) (option_to_list (spec.declared_by check directive.now)) || has
+        names.old q)) }
 {
     match declared_by(check, directive) {
         Some(name) => names.add(alloc, name),

@@ -54,7 +54,8 @@ fn posted(alloc: Global, styles: &Styles, number: u64, line: &Line) -> Result<Po
 /// The postings of some lines.
 #[tactic(auto, using(crate::proofs::Posted::posted_more, crate::proofs::Posted::posted_all))]
 fn all_posted(alloc: Global, styles: &Styles, lines: &[Line]) -> Result<List<Posting>, Memory>
-    ensures { IfOk result (λ postings. postings ≡ spec.posted_from (style_in styles.now) 2 lines.now) }
+    ensures { IfOk result (λ postings.
+        postings ≡ spec.posted_from (style_in styles.now) 2 lines.now) }
 {
     let mut postings = Vec::with_capacity(alloc, lines.len())?;
     let mut number = 2;
@@ -106,7 +107,8 @@ fn both(alloc: Global, styles: &Styles, on: Day, lines: &[Line]) -> Result<(Txn,
     requires { on.0 < last_day }
     ensures { IfOk result (λ both. both ≡ (
       spec.entry_on (style_in styles.now) on.0 (codes "closing") lines.now,
-      spec.entry_on (style_in styles.now) (on.0 + 1) (codes "opening") (map lines_spec.opposite lines.now),
+      spec.entry_on (style_in styles.now) (on.0
+          + 1) (codes "opening") (map lines_spec.opposite lines.now),
     )) }
 {
     let closing = entry_on(alloc, styles, on, "closing", lines)?;

@@ -124,7 +124,8 @@ fn with_late<'a>(on: Day, at: At<'a>, least: Option<At<'a>>) -> Option<At<'a>>
 /// The first posting of a transaction by place that is after a day, or another, if that comes before it.
 #[tactic(auto, using(crate::proofs::Latest::posting_more, crate::proofs::Latest::posting_start))]
 fn late_in<'a>(on: Day, number: usize, txn: &'a Txn, other: Option<At<'a>>) -> Option<At<'a>>
-    ensures { result ≡ spec.gathered on.0 (placed_in txn.now number 0 txn.now.postings) other.entry }
+    ensures { result ≡ spec.gathered on.0 (placed_in txn.now number 0 txn.now.postings)
+        other.entry }
 {
     let postings = txn.postings.as_slice();
     let is_mixed = has_assigned(postings);

@@ -120,7 +120,8 @@ pub(crate) fn lines_of<'a>(
     cells: &'a Cells,
     into: &'a Text,
 ) -> Result<Vec<Line<'a>>, Memory>
-    ensures { IfOk result (λ lines. lines.items ≡ flat_map spec.row_lines (map row_seen cells.now.rows)
+    ensures { IfOk result (λ lines.
+        lines.items ≡ flat_map spec.row_lines (map row_seen cells.now.rows)
         ++ flat_map (spec.sum_lines false into.now) (map seen cells.now.totals)) }
 {
     let mut lines = Vec::new(alloc);
@@ -147,7 +148,8 @@ fn add_totals<'a>(
     into: &'a Text,
 ) -> Result<(), Memory>
     ensures { OnOk result
-        (lines.new.items ≡ lines.old.items ++ flat_map (spec.sum_lines false into.now) (map seen totals.now)) }
+        (lines.new.items ≡ lines.old.items
+        ++ flat_map (spec.sum_lines false into.now) (map seen totals.now)) }
 {
     for total in totals {
         add_sums(lines, into, total, false)?;

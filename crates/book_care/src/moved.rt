@@ -88,7 +88,8 @@ fn named_takings<'a>(
     names: &Names,
 ) -> Result<Vec<Taking<'a>>, Memory>
     requires { (q : List ℕ) → has names.now q ≡ is_meant (asked_of closing.now) q }
-    ensures { IfOk result (λ kept. kept.items ≡ map spec.taken (named_postings (asked_of closing.now))) }
+    ensures { IfOk result (λ kept.
+        kept.items ≡ map spec.taken (named_postings (asked_of closing.now))) }
 {
     let mut kept = Vec::new(alloc);
     for txn in closing.book.txns.as_slice() {
@@ -112,9 +113,11 @@ pub(crate) fn sums(alloc: Global, closing: &Closing, names: &Names) -> Result<Ce
     requires names { (q : List ℕ) → has names.now q ≡ is_meant (asked_of closing.now) q }
     requires fits { TurnoverFits (postings_of closing.now.book.now.txns) }
     ensures rows { IfOk result (λ cells. map row_seen cells.rows
-        ≡ rows_in Within (spec.one_day ∷ []) (map spec.taken (named_postings (asked_of closing.now)))) }
+        ≡ rows_in Within (spec.one_day
+        ∷ []) (map spec.taken (named_postings (asked_of closing.now)))) }
     ensures totals { IfOk result (λ cells. map seen cells.totals
-        ≡ totals_in Within (spec.one_day ∷ []) (map spec.taken (named_postings (asked_of closing.now)))) }
+        ≡ totals_in Within (spec.one_day
+        ∷ []) (map spec.taken (named_postings (asked_of closing.now)))) }
 {
     let takings = named_takings(alloc, closing, names)?;
     let columns = one_column(alloc)?;

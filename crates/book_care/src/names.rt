@@ -33,7 +33,8 @@ impl Names {
 
     /// Adds a name, which takes memory only where it is new.
     pub(crate) fn add(&mut self, alloc: Global, name: &Text) -> Result<(), Memory>
-        ensures { OnOk result ((q : List ℕ) → has self.new q ≡ (bytes_eq q name.now || has self.old q)) }
+        ensures { OnOk result ((q : List ℕ)
+            → has self.new q ≡ (bytes_eq q name.now || has self.old q)) }
     {
         if self.has(name.as_str()) {
             return Ok(());
@@ -43,7 +44,8 @@ impl Names {
 
     #[tactic(auto, using(std::proofs::lemmas::Map::Text::text_keys))]
     fn put(&mut self, alloc: Global, name: &Text) -> Result<(), Memory>
-        ensures { OnOk result ((q : List ℕ) → has self.new q ≡ (bytes_eq q name.now || has self.old q)) }
+        ensures { OnOk result ((q : List ℕ)
+            → has self.new q ≡ (bytes_eq q name.now || has self.old q)) }
     {
         let key = String::from_str(alloc, name.as_str())?;
         self.texts.insert(key)?;

@@ -46,7 +46,8 @@ fn is_real(side: Side) -> bool
 #[tactic(auto, unfolding(crate::specs::Reads::named_at))]
 fn read_named(alloc: Global, context: &Context, content: &[u8]) -> Result<Named, ReadFault>
     requires { is_utf8 content.now ≡ true }
-    ensures { Gives (λ x. (x.mark, (x.side, x.account))) cause_in result (spec.named_at context.now content.now) }
+    ensures { Gives (λ x. (x.mark, (x.side, x.account))) cause_in result
+        (spec.named_at context.now content.now) }
 {
     let (mark, rest) = read_mark(after_white(content), 1)?;
     let (text, _) = cut_account(rest);
@@ -60,7 +61,8 @@ fn read_named(alloc: Global, context: &Context, content: &[u8]) -> Result<Named,
 
 /// Whether it is a real posting's, without a mark, of this name.
 fn is_plain(named: &Named, name: &Text) -> bool
-    ensures { result ≡ spec.is_plain name.now (Ok (named.now.mark, (named.now.side, named.now.account))) }
+    ensures { result ≡ spec.is_plain name.now
+        (Ok (named.now.mark, (named.now.side, named.now.account))) }
 {
     is_unmarked(named.mark) && is_real(named.side) && named.account.as_str() == name.as_str()
 }

@@ -69,7 +69,8 @@ fn is_after(above: &Txn, txn: &Txn) -> Result<(), StrictFault>
 #[tactic(auto, using(crate::proofs::Neighbours::early_here, crate::proofs::Neighbours::early_more, crate::proofs::Neighbours::early_none))]
 fn dates_ordered(txns: &[Txn]) -> Result<(), StrictFault>
     ensures holds { OnOk result (option_map spec.early_fault (spec.first_early txns.now) ≡ None) }
-    ensures fault { IfErr result (IsFault (option_map spec.early_fault (spec.first_early txns.now))) }
+    ensures fault { IfErr result (IsFault
+        (option_map spec.early_fault (spec.first_early txns.now))) }
 {
     for at in 1..txns.len() {
         let before = at - 1;

@@ -71,7 +71,8 @@ fn close_by(
 ) -> Result<Bytes, Refusal>
     requires fits { TurnoverFits (postings_of kept.now.book.txns) }
     requires query { IsQueryOf day.0 asked.now.words query.now }
-    ensures found { Finds result (Ok (spec.close_made asked.now day.0 kept.now.items kept.now.book)) }
+    ensures found { Finds result (Ok
+        (spec.close_made asked.now day.0 kept.now.items kept.now.book)) }
     ensures kind { IsOfReport result }
     ensures quiet { IsQuiet result }
 {
@@ -97,7 +98,8 @@ fn close_kept<M: Maker>(
 ) -> Result<Bytes, Refusal>
     requires day { IsDay day.0 }
     requires fits { TurnoverFits (postings_of kept.now.book.txns) }
-    ensures found { Finds result (Ok (spec.close_made asked.now day.0 kept.now.items kept.now.book)) }
+    ensures found { Finds result (Ok
+        (spec.close_made asked.now day.0 kept.now.items kept.now.book)) }
     ensures kind { IsOfReport result }
     ensures maker { TellsWords day.0 asked.now.words (told_by M.Maker maker.old maker.new) result }
 {
@@ -119,9 +121,11 @@ pub(crate) fn close_on<R: Threads + Sync, M: Maker, L: Ledger>(
 ) -> Result<Bytes, Refusal>
     requires size { length text.now ≤ text_limit }
     requires day { IsDay today.day.0 }
-    ensures found { Finds result (judged_text (spec.close_made asked.now today.day.0) today.year text.now) }
+    ensures found { Finds result (judged_text (spec.close_made asked.now today.day.0) today.year
+        text.now) }
     ensures kind { IsOfReport result }
-    ensures maker { TellsWords today.day.0 asked.now.words (told_by M.Maker maker.old maker.new) result }
+    ensures maker { TellsWords today.day.0 asked.now.words (told_by M.Maker maker.old maker.new)
+        result }
 {
     let kept = load_kept(rt, alloc, text, today.year, steps)?;
     let found = close_kept(alloc, asked, &kept, today.day, maker);

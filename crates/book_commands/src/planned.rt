@@ -66,7 +66,8 @@ pub(crate) fn planned_on<R: Threads + Sync, M: Maker, L: Ledger>(
     requires size { length text.now ≤ text_limit }
     requires day { IsDay today.day.0 }
     requires valid { IsValid asked.now.options }
-    ensures found { Finds result (judged_text (report_made asked.now today.day.0) today.year text.now) }
+    ensures found { Finds result (judged_text (report_made asked.now today.day.0) today.year
+        text.now) }
     ensures kind { IsOfReport result }
     ensures maker { TellsWork today.day.0 today.year (works.Report asked.now) text.now
         (told_by M.Maker maker.old maker.new) result }

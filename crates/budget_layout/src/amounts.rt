@@ -78,7 +78,8 @@ pub(crate) fn push_sums(
 
 /// Appends `P% of `, where a percentage is told.
 pub(crate) fn push_percent(alloc: Global, out: &mut String, percent: &Percent) -> Result<(), Memory>
-    ensures { OnOk result (string_bytes out.new ≡ string_bytes out.old ++ percent_text percent.now) }
+    ensures { OnOk result (string_bytes out.new ≡ string_bytes out.old
+        ++ percent_text percent.now) }
 {
     match percent {
         Percent::Missing => Ok(()),
@@ -89,7 +90,8 @@ pub(crate) fn push_percent(alloc: Global, out: &mut String, percent: &Percent) -
 
 /// Appends a percentage and `% of `.
 fn push_told(alloc: Global, out: &mut String, value: Dec) -> Result<(), Memory>
-    ensures { OnOk result (string_bytes out.new ≡ string_bytes out.old ++ percent_text (Percent.Told value)) }
+    ensures { OnOk result (string_bytes out.new ≡ string_bytes out.old
+        ++ percent_text (Percent.Told value)) }
 {
     let shape = Shape {
         mark: b'.',

@@ -82,7 +82,8 @@ fn push_rows(
     least: &mut Option<Text>,
 ) -> Result<(), Memory>
     requires some { 0 < page.now.columns }
-    requires fits { asks_totals (layout_on page.now) ≡ true → AllByRecursion RowFits (map row_seen rows) }
+    requires fits { asks_totals (layout_on page.now) ≡ true
+        → AllByRecursion RowFits (map row_seen rows) }
     ensures lines { OnOk result (map as_line lines.new.items ≡ map as_line lines.old.items
         ++ lines_on page.now (goals_in goals.now) (map row_seen rows)) }
     ensures least { OnOk result (least.new
@@ -108,7 +109,8 @@ fn push_beside(
     ensures lines { OnOk result (map as_line lines.new.items ≡ map as_line lines.old.items
         ++ line_on page.now (row_seen row) (goals_in goals.now row.account) ∷ []) }
     ensures least { OnOk result (least.new
-        ≡ least_with least.old (line_out_on page.now (row_seen row) (goals_in goals.now row.account))) }
+        ≡ least_with least.old
+        (line_out_on page.now (row_seen row) (goals_in goals.now row.account))) }
 {
     let own = goals.of(row.account.as_str());
     push_row(alloc, page, lines, row, own, least)
@@ -151,7 +153,8 @@ fn push_shown(
     ensures lines { OnOk result (map as_line lines.new.items ≡ map as_line lines.old.items
         ++ last_on page.now (map seen totals) (Some (map seen goals.now))) }
     ensures least { OnOk result (least.new
-        ≡ least_with least.old (last_out_on page.now (map seen totals) (Some (map seen goals.now)))) }
+        ≡ least_with least.old
+        (last_out_on page.now (map seen totals) (Some (map seen goals.now)))) }
 {
     let row = CellRow {
         account: Text::new(alloc),
@@ -173,7 +176,8 @@ fn push_lines(
     least: &mut Option<Text>,
 ) -> Result<(), Memory>
     requires some { 0 < page.now.columns }
-    requires fits { LinesFit (layout_on page.now) (map row_seen actual.rows) (map row_seen actual.rest)
+    requires fits { LinesFit (layout_on page.now) (map row_seen actual.rows)
+        (map row_seen actual.rest)
         (map seen actual.totals) (seen_totals goals.now.totals) }
     ensures lines { OnOk result (map as_line lines.new.items ≡ map as_line lines.old.items
         ++ (lines_on page.now (goals_in goals.now) (map row_seen actual.rows)
@@ -203,11 +207,14 @@ pub(crate) fn push_body(
 ) -> Result<(), ReportFault>
     requires some { 0 < page.now.columns }
     requires fits { CellsFit (layout_on page.now) (told_by cells) }
-    requires goals_fit { TotalsFit (layout_on page.now) (map row_seen goals.rows) (map seen goals.totals) }
+    requires goals_fit { TotalsFit (layout_on page.now) (map row_seen goals.rows)
+        (map seen goals.totals) }
     ensures lines { OnOk result (map as_line lines.new.items ≡ map as_line lines.old.items
         ++ body_on page.now (told_by cells) (told_by goals)) }
-    ensures told { OnOk result (least (body_out_on page.now (told_by cells) (told_by goals)) ≡ None) }
-    ensures fault { IfErr result (IsFault (least (body_out_on page.now (told_by cells) (told_by goals)))) }
+    ensures told { OnOk result (least (body_out_on page.now (told_by cells) (told_by goals))
+        ≡ None) }
+    ensures fault { IfErr result (IsFault
+        (least (body_out_on page.now (told_by cells) (told_by goals)))) }
 {
     let Cells {
         columns: _columns,

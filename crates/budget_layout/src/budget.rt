@@ -36,7 +36,8 @@ fn title(alloc: Global, columns: &[Span]) -> Result<Text, Memory>
 
 /// The line of the heads, which has no name, and the rule below it.
 fn top_lines(alloc: Global, heads: List<Text>) -> Result<Vec<Line>, Memory>
-    ensures { IfOk result (λ lines. map as_line lines.items ≡ head_line heads ∷ table_line.Rule thick ∷ []) }
+    ensures { IfOk result (λ lines.
+        map as_line lines.items ≡ head_line heads ∷ table_line.Rule thick ∷ []) }
 {
     let mut lines = Vec::new(alloc);
     lines.push(Line::Row(Text::new(alloc), heads))?;
@@ -65,7 +66,8 @@ pub fn budget_text(
         cells.columns (told_by cells) (told_by goals)) }
     ensures told { OnOk result (out_of_range layout.now (style_in styles.now) (length cells.columns)
         (told_by cells) (told_by goals) ≡ None) }
-    ensures fault { IfErr result (IsFault (out_of_range layout.now (style_in styles.now) (length cells.columns)
+    ensures fault { IfErr result (IsFault
+        (out_of_range layout.now (style_in styles.now) (length cells.columns)
         (told_by cells) (told_by goals))) }
 {
     let columns = cells.columns.as_slice();

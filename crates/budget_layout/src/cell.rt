@@ -35,7 +35,8 @@ fn push_bracketed(
     styles: &Styles,
 ) -> Result<(), Memory>
     ensures { OnOk result (string_bytes out.new ≡ string_bytes out.old
-        ++ (codes " [" ++ percent_text percent.now ++ sums_text (style_in styles.now) (seen goal.now) ++ codes "]")) }
+        ++ (codes " [" ++ percent_text percent.now
+        ++ sums_text (style_in styles.now) (seen goal.now) ++ codes "]")) }
 {
     out.push_str(" [")?;
     push_percent(alloc, out, percent)?;

@@ -80,10 +80,12 @@ pub(crate) fn wide_goals(
     requires fits { TotalsFit (layout_on page.now) (map row_seen rows) (map seen totals) }
     ensures places { IfOk result (λ goals. goals.places ≡ places) }
     ensures cells { IfOk result (λ goals. map named_seen goals.cells
-        ≡ map (table_row (layout_on page.now) page.now.columns (style_on page.now)) (map row_seen rows)) }
+        ≡ map (table_row (layout_on page.now) page.now.columns (style_on page.now))
+        (map row_seen rows)) }
     ensures totals { IfOk result (λ goals. seen_totals goals.totals
         ≡ (if (layout_on page.now).no_total then None
-        else Some (with_total (layout_on page.now) page.now.columns (style_on page.now) (map seen totals)))) }
+        else Some (with_total (layout_on page.now) page.now.columns (style_on page.now)
+        (map seen totals)))) }
     ensures least { OnOk result (least.new ≡ least_with (least_with least.old
         (rows_out (layout_on page.now) page.now.columns (style_on page.now) (map row_seen rows)))
         (totals_out (layout_on page.now) page.now.columns (style_on page.now) (map seen totals))) }

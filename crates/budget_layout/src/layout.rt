@@ -34,7 +34,8 @@ fn push_table(
     columns: usize,
     lines: &[Line],
 ) -> Result<(), Memory>
-    ensures { OnOk result (out.new.items ≡ out.old.items ++ lines_text columns (map as_line lines.now)) }
+    ensures { OnOk result (out.new.items ≡ out.old.items
+        ++ lines_text columns (map as_line lines.now)) }
 {
     let width = name_width(lines);
     let widths = column_widths(alloc, columns, lines)?;

@@ -50,7 +50,8 @@ fn quotient(number: u128, divisor: u128) -> Dec
     requires small { number < 2 ^ 127 }
     requires above { 0 < divisor }
     requires below { divisor < 2 ^ 127 }
-    ensures { result ≡ record { mantissa = signed_half_even (pos number *ℤ pos (10 ^ 0)) divisor; places = 0 } }
+    ensures { result ≡ record
+        { mantissa = signed_half_even (pos number *ℤ pos (10 ^ 0)) divisor; places = 0 } }
 {
     match div_round(number as i128, divisor as i128, 0) {
         Ok(quotient) => quotient,

@@ -85,7 +85,8 @@ impl Places {
 
     /// The place of the nearest account above one that has a place.
     fn nearest_above(&self, account: &str) -> Option<usize>
-        ensures { result ≡ last_place (place_in self.now) (fronts account.now (length account.now)) }
+        ensures { result ≡ last_place (place_in self.now)
+            (fronts account.now (length account.now)) }
     {
         let mut at = account.len();
         while 0 < at {

@@ -29,7 +29,8 @@ fn summed_row(
     columns: usize,
 ) -> Result<CellRow, Memory>
     requires { ColumnsFit (map row_seen rows.now) }
-    ensures { IfOk result (λ row. row_seen row ≡ (name.now, column_sums columns (map row_seen rows.now))) }
+    ensures { IfOk result (λ row.
+        row_seen row ≡ (name.now, column_sums columns (map row_seen rows.now))) }
 {
     let account = Text::copied(alloc, name)?;
     let cells = totals_of(alloc, rows, columns)?;
@@ -62,7 +63,8 @@ fn goal_rows(
     groups: &[Group],
     columns: usize,
 ) -> Result<List<CellRow>, Memory>
-    requires { (name : List ℕ) → ColumnsFit (map row_seen (rows_at (place_in places.now name) groups.now)) }
+    requires { (name : List ℕ)
+        → ColumnsFit (map row_seen (rows_at (place_in places.now name) groups.now)) }
     ensures { IfOk result (λ rows. map row_seen rows ≡ map (λ goal. (
       goal.account,
       column_sums columns (map row_seen (rows_at (place_in places.now goal.account) groups.now)),
@@ -79,7 +81,8 @@ fn goal_rows(
 fn rest_rows(alloc: Global, rest: &[CellRow], columns: usize) -> Result<List<CellRow>, Memory>
     requires { ColumnsFit (map row_seen rest.now) }
     ensures { IfOk result (λ rows. map row_seen rows
-        ≡ shown_rows false ((codes "<unbudgeted>", column_sums columns (map row_seen rest.now)) ∷ [])) }
+        ≡ shown_rows false ((codes "<unbudgeted>", column_sums columns (map row_seen rest.now))
+        ∷ [])) }
 {
     let row = summed_row(alloc, "<unbudgeted>", rest, columns)?;
     let rows = one_row(alloc, row)?;
@@ -127,7 +130,8 @@ pub(crate) fn budget_rows(
     rows: List<CellRow>,
     totals: List<Mixed>,
 ) -> Result<Rows, Memory>
-    requires places { (name : List ℕ) → place_in places.now name ≡ place_from 0 (names_of goals.now) name }
+    requires places { (name : List ℕ)
+        → place_in places.now name ≡ place_from 0 (names_of goals.now) name }
     requires fits { RowsFit (layout_on page.now) (map row_seen rows) }
     ensures rows { IfOk result (λ made. map row_seen made.rows
         ≡ ordered (layout_on page.now).order (layout_on page.now).basis

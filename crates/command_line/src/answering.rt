@@ -125,7 +125,8 @@ pub(crate) fn answer<J: Source, O: Sink, E: Sink, S: Shelf, M: Maker, R: Threads
     ensures answers { AnswersText task.now day.0 result
         (scene J.Source O.Sink E.Sink S.Shelf M.Maker outside.old)
         (scene J.Source O.Sink E.Sink S.Shelf M.Maker outside.new) }
-    ensures sound { SourceIsSound task.now.origin (soundness J.Source O.Sink E.Sink S.Shelf outside.old)
+    ensures sound { SourceIsSound task.now.origin
+        (soundness J.Source O.Sink E.Sink S.Shelf outside.old)
         → result ≢ Err Refusal.ReadFault }
     ensures output { outside.new.streams.output ≡ outside.old.streams.output }
     ensures err { outside.new.err ≡ outside.old.err }

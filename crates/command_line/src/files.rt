@@ -50,10 +50,12 @@ fn load_bytes<S: Shelf>(
     ensures rose { result ≡ Err Refusal.ReadFault → Rose (S.faults shelf.old) (S.faults shelf.new) }
     ensures named { result ≡ Err Refusal.ReadFault → S.last_failed shelf.new ≡ Some name.now }
     ensures same { result ≢ Err Refusal.ReadFault → S.faults shelf.new ≡ S.faults shelf.old }
-    ensures same_name { result ≢ Err Refusal.ReadFault → S.last_failed shelf.new ≡ S.last_failed shelf.old }
+    ensures same_name { result ≢ Err Refusal.ReadFault
+        → S.last_failed shelf.new ≡ S.last_failed shelf.old }
     ensures later { S.faults shelf.old ≤ S.faults shelf.new }
     ensures disks { S.disk_faults shelf.new ≡ S.disk_faults shelf.old }
-    ensures keeps { Keeps S.file S.may_leave S.left_since S.HasPlace shelf.old shelf.new (λ _. Unit {0}) }
+    ensures keeps { Keeps S.file S.may_leave S.left_since S.HasPlace shelf.old shelf.new (λ _.
+        Unit {0}) }
     ensures tells { S.tells shelf.new ≡ S.tells shelf.old }
     ensures unfailed { S.IsSound shelf.old → result ≢ Err Refusal.ReadFault }
     ensures sound { S.IsSound shelf.old → S.IsSound shelf.new }

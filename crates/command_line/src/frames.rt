@@ -44,7 +44,8 @@ fn followed_said(alloc: Global, followed: &Followed) -> Result<Bytes, Refusal>
 
 /// The refusal of frames, of a replica of this name.
 fn refuse_frames(alloc: Global, name: &Text, refusal: FollowRefusal) -> Refusal
-    ensures refused { RefusedAs (lines.refusal_status refusal) (lines.refusal_line name.now refusal) result }
+    ensures refused { RefusedAs (lines.refusal_status refusal) (lines.refusal_line name.now refusal)
+        result }
     ensures kind { IsOfStored result }
 {
     let status = follow_status(refusal);
@@ -60,7 +61,8 @@ pub(crate) fn follow<J: Source, O: Sink, E: Sink, S: Shelf, M: Maker>(
     what: &Following,
     outside: &mut Outside<J, O, E, S, M>,
 ) -> Result<Bytes, Refusal>
-    ensures follows { spec.FollowsFrames J.Source S.Shelf S.Disk.Disk what.now outside.old outside.new result }
+    ensures follows { spec.FollowsFrames J.Source S.Shelf S.Disk.Disk what.now outside.old
+        outside.new result }
     ensures kind { IfErr result IsOfStored }
 {
     match follow_store(

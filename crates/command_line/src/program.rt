@@ -131,7 +131,8 @@ fn run_stored<J: Source, O: Sink, E: Sink, S: Shelf, M: Maker, L: Ledger>(
     ensures statuses { IsStatus result.0 }
     ensures read { result.0 ≢ 2 }
     ensures stored { RunsStored J.Source (scene J.Source O.Sink E.Sink S.Shelf M.Maker)
-        (soundness J.Source O.Sink E.Sink S.Shelf) S.Shelf S.Disk.Disk M.Maker task day result.0 outside.old outside.new }
+        (soundness J.Source O.Sink E.Sink S.Shelf) S.Shelf S.Disk.Disk M.Maker task day result.0
+        outside.old outside.new }
 {
     match answer_stored(alloc, task, day, outside, steps) {
         Ok(output) => finish(
@@ -156,7 +157,8 @@ fn run_talk<J: Source, O: Sink, E: Sink, S: Shelf, M: Maker, W: Threads + Wait +
     ensures statuses { IsStatus result.0 }
     ensures read { result.0 ≢ 2 }
     ensures talked { RunsTalk (scene J.Source O.Sink E.Sink S.Shelf M.Maker)
-        (soundness J.Source O.Sink E.Sink S.Shelf) S.Shelf S.Disk.Disk M.Maker what day result.0 outside.old outside.new }
+        (soundness J.Source O.Sink E.Sink S.Shelf) S.Shelf S.Disk.Disk M.Maker what day result.0
+        outside.old outside.new }
 {
     match talk(rt, alloc, what, day, outside, steps) {
         Ok(end) => tell_end(&mut outside.err, end),
@@ -211,7 +213,8 @@ fn run_task<J: Source, O: Sink, E: Sink, S: Shelf, M: Maker, R: Threads + Sync, 
         (scene J.Source O.Sink E.Sink S.Shelf M.Maker outside.old)
         (scene J.Source O.Sink E.Sink S.Shelf M.Maker outside.new) task }
     ensures stored { StoresTask J.Source (scene J.Source O.Sink E.Sink S.Shelf M.Maker)
-        (soundness J.Source O.Sink E.Sink S.Shelf) S.Shelf S.Disk.Disk M.Maker day result.0 outside.old outside.new task }
+        (soundness J.Source O.Sink E.Sink S.Shelf) S.Shelf S.Disk.Disk M.Maker day result.0
+        outside.old outside.new task }
 {
     match task {
         Task::Over(given) => run_text(rt, alloc, &given, day, outside, steps),
@@ -261,7 +264,8 @@ fn run_any_task<
         (scene J.Source O.Sink E.Sink S.Shelf M.Maker outside.old)
         (scene J.Source O.Sink E.Sink S.Shelf M.Maker outside.new) task }
     ensures stored { StoresTask J.Source (scene J.Source O.Sink E.Sink S.Shelf M.Maker)
-        (soundness J.Source O.Sink E.Sink S.Shelf) S.Shelf S.Disk.Disk M.Maker day result.0 outside.old outside.new task }
+        (soundness J.Source O.Sink E.Sink S.Shelf) S.Shelf S.Disk.Disk M.Maker day result.0
+        outside.old outside.new task }
 {
     match task {
         Task::Talk(what) => run_talk(rt, alloc, what, day, outside, steps),
@@ -309,7 +313,8 @@ pub fn run<J: Source, O: Sink, E: Sink, S: Shelf, M: Maker, R: Threads + Sync, L
         (scene J.Source O.Sink E.Sink S.Shelf M.Maker outside.old)
         (scene J.Source O.Sink E.Sink S.Shelf M.Maker outside.new) (task_of day.0 words.now) }
     ensures stored { Stores J.Source (scene J.Source O.Sink E.Sink S.Shelf M.Maker)
-        (soundness J.Source O.Sink E.Sink S.Shelf) S.Shelf S.Disk.Disk M.Maker day result.0 outside.old outside.new (task_of day.0 words.now) }
+        (soundness J.Source O.Sink E.Sink S.Shelf) S.Shelf S.Disk.Disk M.Maker day result.0
+        outside.old outside.new (task_of day.0 words.now) }
 {
     match read_words(alloc, words, day) {
         Ok(task) => run_task(rt, alloc, task, day, outside, steps),
@@ -338,7 +343,8 @@ fn run_words<J: Source, O: Sink, E: Sink, S: Shelf, M: Maker, W: Threads + Wait 
         (scene J.Source O.Sink E.Sink S.Shelf M.Maker outside.old)
         (scene J.Source O.Sink E.Sink S.Shelf M.Maker outside.new) (task_of day.0 words.now) }
     ensures stored { Stores J.Source (scene J.Source O.Sink E.Sink S.Shelf M.Maker)
-        (soundness J.Source O.Sink E.Sink S.Shelf) S.Shelf S.Disk.Disk M.Maker day result.0 outside.old outside.new (task_of day.0 words.now) }
+        (soundness J.Source O.Sink E.Sink S.Shelf) S.Shelf S.Disk.Disk M.Maker day result.0
+        outside.old outside.new (task_of day.0 words.now) }
 {
     match read_words(alloc, words, day) {
         Ok(task) => run_any_task(rt, alloc, task, day, outside, steps),
@@ -384,7 +390,8 @@ pub fn run_waiting<
         (scene J.Source O.Sink E.Sink S.Shelf M.Maker outside.old)
         (scene J.Source O.Sink E.Sink S.Shelf M.Maker outside.new) (task_of day.0 words.now) }
     ensures stored { Stores J.Source (scene J.Source O.Sink E.Sink S.Shelf M.Maker)
-        (soundness J.Source O.Sink E.Sink S.Shelf) S.Shelf S.Disk.Disk M.Maker day result.0 outside.old outside.new (task_of day.0 words.now) }
+        (soundness J.Source O.Sink E.Sink S.Shelf) S.Shelf S.Disk.Disk M.Maker day result.0
+        outside.old outside.new (task_of day.0 words.now) }
 {
     if asks_talk(words) {
         run_words(rt, alloc, words, day, outside, steps)

@@ -60,8 +60,10 @@ pub fn read_text<J: Source, O: Sink, E: Sink, S: Shelf, M: Maker>(
     ensures output { outside.new.streams.output ≡ outside.old.streams.output }
     ensures err { outside.new.err ≡ outside.old.err }
     ensures maker { outside.new.maker ≡ outside.old.maker }
-    ensures shelf { ReadsShelf S.Shelf text_limit origin.now outside.old.shelf outside.new.shelf result }
-    ensures file { IsFile origin.now → outside.new ≡ record outside.old { shelf = outside.new.shelf } }
+    ensures shelf { ReadsShelf S.Shelf text_limit origin.now outside.old.shelf outside.new.shelf
+        result }
+    ensures file { IsFile origin.now
+        → outside.new ≡ record outside.old { shelf = outside.new.shelf } }
 {
     match origin {
         Origin::Input => read_input(alloc, &mut outside.streams.input),

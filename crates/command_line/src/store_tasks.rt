@@ -152,7 +152,8 @@ fn import_by<J: Source, O: Sink, E: Sink, S: Shelf, M: Maker, L: Ledger>(
     steps: &mut Steps<L>,
 ) -> Result<Bytes, Refusal>
     requires { IsDay day.0 }
-    ensures imports { spec.ImportsBy S.Shelf S.Disk.Disk M.Maker what day csv outside.old outside.new result }
+    ensures imports { spec.ImportsBy S.Shelf S.Disk.Disk M.Maker what day csv outside.old
+        outside.new result }
     ensures kind { IfErr result spec.IsOfStored }
 {
     let Importing { store, file, rules } = what;
@@ -183,7 +184,8 @@ fn import<J: Source, O: Sink, E: Sink, S: Shelf, M: Maker, L: Ledger>(
     steps: &mut Steps<L>,
 ) -> Result<Bytes, Refusal>
     requires { IsDay day.0 }
-    ensures imports { spec.ImportsFile S.Shelf S.Disk.Disk M.Maker what day outside.old outside.new result }
+    ensures imports { spec.ImportsFile S.Shelf S.Disk.Disk M.Maker what day outside.old outside.new
+        result }
     ensures kind { IfErr result spec.IsOfStored }
 {
     match load_file(alloc, &what.file, MOST_IMPORTED, &mut outside.shelf) {

@@ -80,7 +80,8 @@ fn talk_over<J: Source, O: Sink, E: Sink, S: Shelf, M: Maker, W: Wait, L: Ledger
 ) -> Result<ConnEnd, Refusal>
     requires { IsDay talk.now.terms.day.0 }
     ensures talks { spec.TalkedStore (scene J.Source O.Sink E.Sink S.Shelf M.Maker)
-        S.Shelf S.Disk.Disk M.Maker talk.now.store talk.now.terms.allow talk.now.terms.day outside.old outside.new result }
+        S.Shelf S.Disk.Disk M.Maker talk.now.store talk.now.terms.allow talk.now.terms.day
+        outside.old outside.new result }
     ensures kind { IfErr result IsOfStored }
 {
     match talk_store(
@@ -148,7 +149,8 @@ fn tell_fault<E: Sink>(err: &mut E, way: Way) -> Status
 pub(crate) fn tell_end<E: Sink>(err: &mut E, end: ConnEnd) -> Status
     ensures told { spec.TellsEnd end result.0
         (E.written err.old) (E.written err.new) (E.faults err.old) (E.faults err.new) }
-    ensures sound { E.HasRoom err.old (length (spec.end_line end)) → result.0 ≡ spec.end_status end }
+    ensures sound { E.HasRoom err.old (length (spec.end_line end))
+        → result.0 ≡ spec.end_status end }
 {
     match end {
         ConnEnd::Closed => Status(0),

@@ -128,7 +128,8 @@ fn close_task(
     into: Text,
     words: List<Text>,
 ) -> Result<Task, UsageFault>
-    ensures answer { Gives (λ task. task) usage_cause result (spec.close_task origin on into words) }
+    ensures answer { Gives (λ task.
+        task) usage_cause result (spec.close_task origin on into words) }
     ensures valid { IfOk result spec.IsReadable }
 {
     match on {

@@ -90,7 +90,8 @@ pub(crate) fn init_task(
     limit: Option<u64>,
     words: &[Text],
 ) -> Result<Task, UsageFault>
-    ensures answer { Gives (λ task. task) usage_cause result (spec.init_task source limit words.now) }
+    ensures answer { Gives (λ task.
+        task) usage_cause result (spec.init_task source limit words.now) }
     ensures valid { IfOk result IsReadable }
 {
     let store = plain_name(alloc, words)?;

@@ -71,7 +71,8 @@ fn sample_of(
     rest: &[Text],
 ) -> Result<Task, UsageFault>
     requires { IfSome count (λ n. n ≤ 100000) }
-    ensures answer { Gives (λ task. task) usage_cause result (spec.sample_of word.now count rest.now) }
+    ensures answer { Gives (λ task.
+        task) usage_cause result (spec.sample_of word.now count rest.now) }
     ensures valid { IfOk result IsReadable }
 {
     match count {

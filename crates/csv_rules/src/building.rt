@@ -28,8 +28,10 @@ fn build_pattern<M: Maker>(
     regexes: &mut Vec<Regex>,
     maker: &mut M,
 ) -> Result<(), MakeFault>
-    ensures grows { OnOk result (Grows (reading.source_of pattern.now) regexes.old.items regexes.new.items) }
-    ensures tells { TellsOf (reading.source_of pattern.now) (M.refusals maker.old) (M.refusals maker.new) (M.last_refused maker.old) (M.last_refused maker.new) result }
+    ensures grows { OnOk result (Grows (reading.source_of pattern.now) regexes.old.items
+        regexes.new.items) }
+    ensures tells { TellsOf (reading.source_of pattern.now) (M.refusals maker.old)
+        (M.refusals maker.new) (M.last_refused maker.old) (M.last_refused maker.new) result }
 {
     match pattern {
         Pattern::Word(_) => Ok(()),
@@ -48,8 +50,10 @@ fn build_first<M: Maker>(
     regexes: &mut Vec<Regex>,
     maker: &mut M,
 ) -> Result<(), MakeFault>
-    ensures grows { OnOk result (Grows (spec.first_sources condition.now) regexes.old.items regexes.new.items) }
-    ensures tells { TellsOf (spec.first_sources condition.now) (M.refusals maker.old) (M.refusals maker.new) (M.last_refused maker.old) (M.last_refused maker.new) result }
+    ensures grows { OnOk result (Grows (spec.first_sources condition.now) regexes.old.items
+        regexes.new.items) }
+    ensures tells { TellsOf (spec.first_sources condition.now) (M.refusals maker.old)
+        (M.refusals maker.new) (M.last_refused maker.old) (M.last_refused maker.new) result }
 {
     match condition {
         Some(condition) => build_pattern(alloc, &condition.pattern, regexes, maker),
@@ -65,8 +69,10 @@ pub(crate) fn build_form<M: Maker>(
     regexes: &mut Vec<Regex>,
     maker: &mut M,
 ) -> Result<(), MakeFault>
-    ensures grows { OnOk result (Grows (spec.form_sources form.now) regexes.old.items regexes.new.items) }
-    ensures tells { TellsOf (spec.form_sources form.now) (M.refusals maker.old) (M.refusals maker.new) (M.last_refused maker.old) (M.last_refused maker.new) result }
+    ensures grows { OnOk result (Grows (spec.form_sources form.now) regexes.old.items
+        regexes.new.items) }
+    ensures tells { TellsOf (spec.form_sources form.now) (M.refusals maker.old)
+        (M.refusals maker.new) (M.last_refused maker.old) (M.last_refused maker.new) result }
 {
     match form {
         Form::If(condition) => build_first(alloc, condition, regexes, maker),

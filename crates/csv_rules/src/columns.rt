@@ -27,7 +27,8 @@ pub(crate) fn read_names(alloc: Global, text: &[u8]) -> Result<List<Text>, Memor
 
 /// Assigns a column to the field that its name is, if it is one.
 fn push_column(assignments: &mut Vec<Assignment>, number: u64, name: &Text) -> Result<(), Memory>
-    ensures { OnOk result (assignments.new.items ≡ assignments.old.items ++ spec.column number name.now) }
+    ensures { OnOk result (assignments.new.items ≡ assignments.old.items
+        ++ spec.column number name.now) }
 {
     match field_named(true, name.as_bytes()) {
         Some(field) => {
@@ -44,7 +45,8 @@ fn push_column(assignments: &mut Vec<Assignment>, number: u64, name: &Text) -> R
 /// Assigns each column to the field that its name is, where it is one.
 #[tactic(auto, using(crate::proofs::ColumnLaws::columns_more, crate::proofs::ColumnLaws::columns_done))]
 pub(crate) fn push_columns(assignments: &mut Vec<Assignment>, names: &[Text]) -> Result<(), Memory>
-    ensures { OnOk result (assignments.new.items ≡ assignments.old.items ++ spec.columns_from 1 names.now) }
+    ensures { OnOk result (assignments.new.items ≡ assignments.old.items
+        ++ spec.columns_from 1 names.now) }
 {
     let mut number = 1;
     for name in names {

@@ -121,7 +121,8 @@ impl Draft {
 
     /// Adds the names of the columns, and the fields that they assign.
     fn put_names(&mut self, names: List<Text>) -> Result<(), Memory>
-        ensures { OnOk result (progress_of self.new ≡ spec.with_names (progress_of self.old) names) }
+        ensures { OnOk result (progress_of self.new
+            ≡ spec.with_names (progress_of self.old) names) }
     {
         push_columns(&mut self.assignments, names.as_slice())?;
         self.names = names;
@@ -129,14 +130,16 @@ impl Draft {
     }
 
     fn put_assignment(&mut self, assignment: Assignment) -> Result<(), Memory>
-        ensures { OnOk result (progress_of self.new ≡ spec.with_assignment (progress_of self.old) assignment) }
+        ensures { OnOk result (progress_of self.new
+            ≡ spec.with_assignment (progress_of self.old) assignment) }
     {
         self.assignments.push(assignment)?;
         Ok(())
     }
 
     fn put_condition(&mut self, condition: Condition) -> Result<(), Memory>
-        ensures { OnOk result (progress_of self.new ≡ spec.with_condition (progress_of self.old) condition) }
+        ensures { OnOk result (progress_of self.new
+            ≡ spec.with_condition (progress_of self.old) condition) }
     {
         self.conditions.push(condition)?;
         self.stage = Stage::Asking;
@@ -144,7 +147,8 @@ impl Draft {
     }
 
     fn put_action(&mut self, action: Action) -> Result<(), Memory>
-        ensures { OnOk result (progress_of self.new ≡ spec.with_action (progress_of self.old) action) }
+        ensures { OnOk result (progress_of self.new
+            ≡ spec.with_action (progress_of self.old) action) }
     {
         self.actions.push(action)?;
         self.stage = Stage::Acting;
@@ -153,7 +157,8 @@ impl Draft {
 
     /// Opens a block, perhaps with its first pattern.
     fn open(&mut self, condition: Option<Condition>) -> Result<(), Memory>
-        ensures { OnOk result (progress_of self.new ≡ spec.opened (progress_of self.old) condition) }
+        ensures { OnOk result (progress_of self.new
+            ≡ spec.opened (progress_of self.old) condition) }
     {
         match condition {
             Some(condition) => self.put_condition(condition),

@@ -21,7 +21,8 @@ pub fn new_ones(
     requires ordered { is_ordered txns ≡ true }
     requires few { length txns < 2 ^ 32 }
     ensures new { IfOk result (λ r. r.0 ≡ new_after (option_map (λ s. s.now) state.entry) txns) }
-    ensures state { IfOk result (λ r. r.1 ≡ state_after name.now (option_map (λ s. s.now) state.entry) txns) }
+    ensures state { IfOk result (λ r.
+        r.1 ≡ state_after name.now (option_map (λ s. s.now) state.entry) txns) }
 {
     let start = first_new(state, txns.as_slice());
     let latest = latest_after(alloc, state, name, txns.as_slice(), start)?;
@@ -34,14 +35,20 @@ pub fn new_ones(
 /// A file that is imported, and then with further entries that don't stand before its last: both together add what
 /// the longer file alone does, and leave the same state.
 pub fn import_laws()
-    ensures twice_new { (name : List ℕ) (state : Option Latest) (ts : List Txn) → is_ordered ts ≡ true
+    ensures twice_new { (name : List ℕ) (state : Option Latest) (ts : List Txn)
+        → is_ordered ts ≡ true
         → new_after (state_after name state ts) ts ≡ [] }
-    ensures twice_state { (name : List ℕ) (state : Option Latest) (ts : List Txn) → is_ordered ts ≡ true
+    ensures twice_state { (name : List ℕ) (state : Option Latest) (ts : List Txn)
+        → is_ordered ts ≡ true
         → state_after name (state_after name state ts) ts ≡ state_after name state ts }
-    ensures further_new { (name : List ℕ) (state : Option Latest) (ts us : List Txn) → is_ordered (ts ++ us) ≡ true
-        → new_after state ts ++ new_after (state_after name state ts) (ts ++ us) ≡ new_after state (ts ++ us) }
-    ensures further_state { (name : List ℕ) (state : Option Latest) (ts us : List Txn) → is_ordered (ts ++ us) ≡ true
-        → state_after name (state_after name state ts) (ts ++ us) ≡ state_after name state (ts ++ us) }
+    ensures further_new { (name : List ℕ) (state : Option Latest) (ts us : List Txn)
+        → is_ordered (ts ++ us) ≡ true
+        → new_after state ts ++ new_after (state_after name state ts) (ts ++ us)
+        ≡ new_after state (ts ++ us) }
+    ensures further_state { (name : List ℕ) (state : Option Latest) (ts us : List Txn)
+        → is_ordered (ts ++ us) ≡ true
+        → state_after name (state_after name state ts) (ts ++ us)
+        ≡ state_after name state (ts ++ us) }
 {}
 
 /// The place of the first new entry.
@@ -60,7 +67,8 @@ fn first_new(state: Option<&Latest>, txns: &[Txn]) -> usize
 fn skipped(txns: &[Txn], day: u32, count: u32) -> usize
     requires { is_ordered txns.now ≡ true }
     ensures within { result ≤ length txns.now }
-    ensures new { drop result txns.now ≡ new_after (Some (record { name = []; day = day; count = count })) txns.now }
+    ensures new { drop result txns.now
+        ≡ new_after (Some (record { name = []; day = day; count = count })) txns.now }
 {
     let before = count_before(txns, day);
     let on = count_on(txns, day);
@@ -93,7 +101,9 @@ fn latest_after(
 ) -> Result<Option<Latest>, Memory>
     requires within { start ≤ length txns.now }
     requires few { length txns.now < 2 ^ 32 }
-    ensures { IfOk result (λ latest. latest ≡ state_by name.now (option_map (λ s. s.now) state.entry) txns.now (drop start txns.now)) }
+    ensures { IfOk result (λ latest.
+        latest ≡ state_by name.now (option_map (λ s.
+        s.now) state.entry) txns.now (drop start txns.now)) }
 {
     let new = &txns[start..];
     if new.is_empty() {

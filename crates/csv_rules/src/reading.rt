@@ -29,7 +29,9 @@ fn take_line<M: Maker>(
     regexes: &mut Vec<Regex>,
     maker: &mut M,
 ) -> Result<(), RulesFault>
-    ensures { TakesLine line content.now (progress_of draft.old) (progress_of draft.new) regexes.old.items regexes.new.items (M.refusals maker.old) (M.refusals maker.new) (M.last_refused maker.old) (M.last_refused maker.new) result }
+    ensures { TakesLine line content.now (progress_of draft.old) (progress_of draft.new)
+        regexes.old.items regexes.new.items (M.refusals maker.old) (M.refusals maker.new)
+        (M.last_refused maker.old) (M.last_refused maker.new) result }
 {
     let form = match read_form(alloc, draft.stage(), content) {
         Ok(Some(form)) => form,
@@ -51,7 +53,8 @@ impl Rules {
     /// The rules that a text is. Each line is judged by its form, and its pattern is then built; the first line that is
     /// refused decides. A pattern without special characters needs no maker.
     pub fn read<M: Maker>(alloc: Global, text: &[u8], maker: &mut M) -> Result<Rules, RulesFault>
-        ensures { Reads text.now (M.refusals maker.old) (M.refusals maker.new) (M.last_refused maker.old) (M.last_refused maker.new) result }
+        ensures { Reads text.now (M.refusals maker.old) (M.refusals maker.new)
+            (M.last_refused maker.old) (M.last_refused maker.new) result }
     {
         let mut draft = Draft::new(alloc);
         let mut regexes = Vec::new(alloc);

@@ -50,7 +50,8 @@ fn name_length(text: &[u8]) -> usize
 pub fn cut_name(text: &[u8]) -> (&[u8], &[u8])
     ensures name { result.0.now ≡ spec.name_at text.now }
     ensures rest { result.1.now ≡ spec.after_name text.now }
-    ensures utf8 { is_utf8 text.now ≡ true → (is_utf8 result.0.now ≡ true) × (is_utf8 result.1.now ≡ true) }
+    ensures utf8 { is_utf8 text.now ≡ true → (is_utf8 result.0.now ≡ true)
+        × (is_utf8 result.1.now ≡ true) }
 {
     text.split_at(name_length(text))
 }

@@ -58,10 +58,12 @@ fn take_kits<H: House>(
     requires none { kits.items ≡ [] }
     requires room { count ≤ vec_capacity kits }
     ensures takes { Takes (H.told house.old) (H.told house.new) result.0.items }
-    ensures fresh { All (FreshBy (kit_told H.Door.Door H.Clock.Clock H.Maker.Maker)) result.0.items }
+    ensures fresh { All (FreshBy (kit_told H.Door.Door H.Clock.Clock H.Maker.Maker))
+        result.0.items }
     ensures whole { MatchBool result.1
         ((length result.0.items ≡ count) × ((H.told house.new).faults ≡ (H.told house.old).faults))
-        ((length result.0.items < count) × Rose (H.told house.old).faults (H.told house.new).faults) }
+        ((length result.0.items < count)
+        × Rose (H.told house.old).faults (H.told house.new).faults) }
 {
     for _taken in 0..count {
         match house.worker() {
@@ -118,7 +120,8 @@ fn serve_kits<H: House, D: Disk + Send, W: Threads + Wait + Sync>(
     ensures served { IfOk result (λ hosted. (kits_now : List (Kit H.Door H.Clock H.Maker))
         × ServesTeam H.Door.Link.coming H.Door.Link.sent links desk
         (map (kit_told H.Door.Door H.Clock.Clock H.Maker.Maker) kits)
-        (map (kit_told H.Door.Door H.Clock.Clock H.Maker.Maker) kits_now) hosted.failed hosted.pass.seen hosted.desk
+        (map (kit_told H.Door.Door H.Clock.Clock H.Maker.Maker) kits_now) hosted.failed
+        hosted.pass.seen hosted.desk
         × TakesAll (kit_told H.Door.Door H.Clock.Clock H.Maker.Maker) (H.told house.old)
         (H.told house.new) kits_now) }
     ensures unserved { IfErr result (λ left. (left ≡ desk)
@@ -146,7 +149,8 @@ fn serve_bound<H: House, D: Disk + Send, W: Threads + Wait + Sync>(
         H.Door.Link.coming H.Door.Link.sent crew.workers crew.links (H.told house.old).bound desk
         (H.told house.old) (H.told house.new) hosted.failed hosted.pass.seen hosted.desk) }
     ensures unserved { IfErr result (λ left. (left.0 ≡ desk)
-        × Unserved crew.workers (H.told house.old).bound (H.told house.old) (H.told house.new) left.1) }
+        × Unserved crew.workers (H.told house.old).bound (H.told house.old) (H.told house.new)
+        left.1) }
 {
     let Ok(room) = Vec::with_capacity(alloc, crew.workers) else {
         return Err((desk, HouseFault::Memory));

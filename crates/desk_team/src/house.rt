@@ -28,7 +28,8 @@ pub trait House {
     fn worker(&mut self) -> Result<Kit<Self::Door, Self::Clock, Self::Maker>, Failed>
         ensures hands_out { HandsOut (told self.old) (told self.new) result }
         ensures fresh { IfOk result (λ kit.
-            IsFresh (Self.Door.given kit.door) (Self.Door.faults kit.door) (Self.Maker.refusals kit.maker)) };
+            IsFresh (Self.Door.given kit.door) (Self.Door.faults kit.door)
+            (Self.Maker.refusals kit.maker)) };
 
     /// Takes a kit back: of those that are out, the one that was handed out first.
     fn give_back(&mut self, kit: Kit<Self::Door, Self::Clock, Self::Maker>)

@@ -76,7 +76,13 @@ impl<M: Maker + Drop + Send> MemHouse<M> {
         requires { All (λ kit. IsNew kit.door (M.refusals kit.maker)) kits }
         ensures coming { IfOk result (λ house. house.coming.items ≡ kits) }
         ensures told { IfOk result (λ house. ⟦<MemHouse<M> as House>⟧.told house
-            ≡ record { given = Some []; back = Some []; bound = not_bound; faults = 0; refusals = 0 }) }
+            ≡ record {
+              given = Some [];
+              back = Some [];
+              bound = not_bound;
+              faults = 0;
+              refusals = 0;
+            }) }
     {
         let kits = kits.into_vec();
         let made = Vec::with_capacity(alloc, kits.len())?;
@@ -157,7 +163,8 @@ impl<M: Maker + Drop + Send> House for MemHouse<M> {
 
     fn give_back(&mut self, kit: Kit<MemDoor, MemClock, M>)
         requires { IsOneOut (mem_told (λ kit. M.refusals kit.maker)
-            self.old.made.items self.old.back.items (bound_of self.old.binds self.old.last) self.old.calls.faults) }
+            self.old.made.items self.old.back.items (bound_of self.old.binds self.old.last)
+            self.old.calls.faults) }
         ensures { TakesBack
             (mem_told (λ kit. M.refusals kit.maker) self.old.made.items self.old.back.items
             (bound_of self.old.binds self.old.last) self.old.calls.faults)

@@ -53,7 +53,8 @@ fn serve_counted<D: Disk, W: Wait, R: Door, C: Clock, M: Maker, L: Ledger>(
     requires name { blank.name ≡ L.name }
     requires parts { blank.parts ≡ L.parts }
     requires three { blank.parts ≡ 3 }
-    ensures { ServesDoor R.Link.coming R.Link.sent limit result (kit_told R.Door C.Clock M.Maker kit.old)
+    ensures { ServesDoor R.Link.coming R.Link.sent limit result
+        (kit_told R.Door C.Clock M.Maker kit.old)
         (kit_told R.Door C.Clock M.Maker kit.new) pass.old pass.new }
 {
     let mut steps = Steps::<L>::start(blank);
@@ -98,7 +99,8 @@ fn work_each<
     limit: u64,
 )
     requires { All (λ worker. IsFree turn.now worker.pass) workers.old }
-    ensures { AllWorked R.Door C.Clock M.Maker R.Link.coming R.Link.sent limit workers.old workers.new }
+    ensures { AllWorked R.Door C.Clock M.Maker R.Link.coming R.Link.sent limit workers.old
+        workers.new }
 {
     let threads = workers.len().max(1);
     for_each_mut(

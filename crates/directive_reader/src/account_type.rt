@@ -73,7 +73,8 @@ fn find_type(tags: &[Tag]) -> Option<&Tag>
 /// What the first tag `type` of a comment's line says: none without one, and no letter where its type is unknown.
 fn said_in(alloc: Global, text: &[u8]) -> Result<Option<Option<u8>>, Memory>
     requires { is_utf8 text.now ≡ true }
-    ensures { IfOk result (λ said. said ≡ option_map (λ value. spec.type_of value) (spec.type_value text.now)) }
+    ensures { IfOk result (λ said.
+        said ≡ option_map (λ value. spec.type_of value) (spec.type_value text.now)) }
 {
     let mut tags = Vec::new(alloc);
     push_tags(alloc, &mut tags, text)?;
@@ -119,7 +120,8 @@ pub fn read_letter(
     requires own { is_utf8 own.now ≡ true }
     requires after { is_utf8 lines.now ≡ true }
     requires room { line + 1 + length (contents_of lines.now) < 2 ^ 64 }
-    ensures { Gives (λ x. x) cause_in result (spec.letter_in line (own.now ∷ comments.comments_in (contents_of lines.now))) }
+    ensures { Gives (λ x. x) cause_in result (spec.letter_in line (own.now
+        ∷ comments.comments_in (contents_of lines.now))) }
 {
     if let Some(letter) = said_in(alloc, own)? {
         return known(letter, line);

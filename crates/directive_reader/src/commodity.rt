@@ -65,7 +65,8 @@ fn read_format(
     line: u64,
 ) -> Result<Amount, ReadFault>
     requires { is_utf8 content.now ≡ true }
-    ensures { Gives (λ a. a) cause_in result (spec.format_at context.now symbol.now line content.now) }
+    ensures { Gives (λ a. a) cause_in result
+        (spec.format_at context.now symbol.now line content.now) }
 {
     let Some(text) = after_format(content) else {
         return Err(fault_at(line, Cause::Form));
@@ -89,7 +90,8 @@ fn find_format(
 ) -> Result<Option<Amount>, ReadFault>
     requires utf8 { is_utf8 lines.now ≡ true }
     requires room { line + length (contents_of lines.now) < 2 ^ 64 }
-    ensures { Gives (λ a. a) cause_in result (spec.format_in context.now symbol.now line (contents_of lines.now)) }
+    ensures { Gives (λ a. a) cause_in result
+        (spec.format_in context.now symbol.now line (contents_of lines.now)) }
 {
     let mut rest = lines;
     let mut next = line;
@@ -118,7 +120,8 @@ fn read_symbol_directive(
     requires text { is_utf8 text.now ≡ true }
     requires after { is_utf8 lines.now ≡ true }
     requires room { line + 1 + length (contents_of lines.now) < 2 ^ 64 }
-    ensures { Gives (λ d. d) cause_in result (spec.symbol_directive context.now line text.now (contents_of lines.now)) }
+    ensures { Gives (λ d. d) cause_in result
+        (spec.symbol_directive context.now line text.now (contents_of lines.now)) }
 {
     let (symbol, _) = cut_name(text);
     let amount = find_format(alloc, context, symbol, lines, line + 1)?;
@@ -136,7 +139,8 @@ fn read_amount_directive(
 ) -> Result<Directive, ReadFault>
     requires text { is_utf8 text.now ≡ true }
     requires room { line + 1 + length (contents_of lines.now) < 2 ^ 64 }
-    ensures { Gives (λ d. d) cause_in result (spec.amount_directive context.now line text.now (contents_of lines.now)) }
+    ensures { Gives (λ d. d) cause_in result
+        (spec.amount_directive context.now line text.now (contents_of lines.now)) }
 {
     let (amount, rest) = amount_at(alloc, context, text, line)?;
     check_closing(rest, lines, line)?;
@@ -155,7 +159,8 @@ pub fn read_commodity(
     requires text { is_utf8 text.now ≡ true }
     requires after { is_utf8 lines.now ≡ true }
     requires room { line + 1 + length (contents_of lines.now) < 2 ^ 64 }
-    ensures { Gives (λ d. d) cause_in result (spec.commodity_of context.now line text.now (contents_of lines.now)) }
+    ensures { Gives (λ d. d) cause_in result
+        (spec.commodity_of context.now line text.now (contents_of lines.now)) }
 {
     if is_symbol_alone(text) {
         read_symbol_directive(alloc, context, text, lines, line)
@@ -175,7 +180,8 @@ pub fn read_default(
 ) -> Result<Directive, ReadFault>
     requires text { is_utf8 text.now ≡ true }
     requires room { line + 1 + length (contents_of lines.now) < 2 ^ 64 }
-    ensures { Gives (λ d. d) cause_in result (spec.default_of context.now line text.now (contents_of lines.now)) }
+    ensures { Gives (λ d. d) cause_in result
+        (spec.default_of context.now line text.now (contents_of lines.now)) }
 {
     let (amount, rest) = amount_at(alloc, context, text, line)?;
     check_closing(rest, lines, line)?;

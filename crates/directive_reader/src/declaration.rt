@@ -19,7 +19,8 @@ use std::alloc::Global;
 fn cut_name(text: &[u8]) -> (&[u8], &[u8])
     ensures name { result.0.now ≡ spec.name_at text.now }
     ensures rest { result.1.now ≡ spec.after_name text.now }
-    ensures utf8 { is_utf8 text.now ≡ true → (is_utf8 result.0.now ≡ true) × (is_utf8 result.1.now ≡ true) }
+    ensures utf8 { is_utf8 text.now ≡ true → (is_utf8 result.0.now ≡ true)
+        × (is_utf8 result.1.now ≡ true) }
 {
     let (name, rest) = cut_account(text);
     (name, after_white(rest))
@@ -37,7 +38,8 @@ pub fn read_account_directive(
     requires text { is_utf8 text.now ≡ true }
     requires after { is_utf8 lines.now ≡ true }
     requires room { line + 1 + length (contents_of lines.now) < 2 ^ 64 }
-    ensures { Gives (λ d. d) cause_in result (spec.account_of context.now line text.now (contents_of lines.now)) }
+    ensures { Gives (λ d. d) cause_in result
+        (spec.account_of context.now line text.now (contents_of lines.now)) }
 {
     let (written, rest) = cut_name(text);
     let name = read_name_in(alloc, context, written, line)?;
@@ -76,7 +78,8 @@ pub fn read_end_apply(
     line: u64,
 ) -> Result<Directive, ReadFault>
     requires room { line + 1 + length (contents_of lines.now) < 2 ^ 64 }
-    ensures { Gives (λ d. d) cause_in result (spec.end_apply_of context.now line text.now (contents_of lines.now)) }
+    ensures { Gives (λ d. d) cause_in result
+        (spec.end_apply_of context.now line text.now (contents_of lines.now)) }
 {
     if context.applied_count() == 0 {
         return Err(fault_at(line, Cause::Directive));
@@ -89,7 +92,8 @@ pub fn read_end_apply(
 #[tactic(auto, unfolding(crate::specs::Declarations::end_aliases_of))]
 pub fn read_end_aliases(text: &[u8], lines: &[u8], line: u64) -> Result<Directive, ReadFault>
     requires room { line + 1 + length (contents_of lines.now) < 2 ^ 64 }
-    ensures { Gives (λ d. d) cause_in result (spec.end_aliases_of line text.now (contents_of lines.now)) }
+    ensures { Gives (λ d. d) cause_in result
+        (spec.end_aliases_of line text.now (contents_of lines.now)) }
 {
     check_closing(text, lines, line)?;
     Ok(Directive::EndAliases)
@@ -225,7 +229,8 @@ fn mark_at(text: &[u8]) -> Option<u8>
 #[tactic(auto, unfolding(crate::specs::Declarations::decimal_mark_of))]
 pub fn read_decimal_mark(text: &[u8], lines: &[u8], line: u64) -> Result<Directive, ReadFault>
     requires room { line + 1 + length (contents_of lines.now) < 2 ^ 64 }
-    ensures { Gives (λ d. d) cause_in result (spec.decimal_mark_of line text.now (contents_of lines.now)) }
+    ensures { Gives (λ d. d) cause_in result
+        (spec.decimal_mark_of line text.now (contents_of lines.now)) }
 {
     let Some(mark) = mark_at(text) else {
         return Err(fault_at(line, Cause::Form));

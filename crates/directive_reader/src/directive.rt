@@ -32,7 +32,8 @@ fn read_directive(
     requires text { is_utf8 text.now ≡ true }
     requires after { is_utf8 lines.now ≡ true }
     requires room { line + 1 + length (contents_of lines.now) < 2 ^ 64 }
-    ensures { Gives (λ d. d) cause_in result (spec.directive_by keyword context.now line text.now (contents_of lines.now)) }
+    ensures { Gives (λ d. d) cause_in result
+        (spec.directive_by keyword context.now line text.now (contents_of lines.now)) }
 {
     match keyword {
         Keyword::Commodity => read_commodity(alloc, context, text, lines, line),
@@ -64,7 +65,9 @@ fn read_by(
     requires text { is_utf8 text.now ≡ true }
     requires after { is_utf8 lines.now ≡ true }
     requires room { line + 1 + length (contents_of lines.now) < 2 ^ 64 }
-    ensures { Gives (λ item. item) cause_in result (spec.item_by keyword context.now line text.now (contents_of lines.now)) }
+    ensures { Gives (λ item.
+        item) cause_in result
+        (spec.item_by keyword context.now line text.now (contents_of lines.now)) }
 {
     match keyword {
         Keyword::Price => Ok(Item::Price(read_price(alloc, context, text, lines, line)?)),
@@ -86,7 +89,9 @@ fn read_with(
     requires content { is_utf8 content.now ≡ true }
     requires after { is_utf8 lines.now ≡ true }
     requires room { line + 1 + length (contents_of lines.now) < 2 ^ 64 }
-    ensures { Gives (λ item. item) cause_in result (spec.item_with context.now line content.now (contents_of lines.now)) }
+    ensures { Gives (λ item.
+        item) cause_in result
+        (spec.item_with context.now line content.now (contents_of lines.now)) }
 {
     let (keyword, text) = cut_keyword(content);
     read_by(alloc, context, keyword, text, lines, line)
@@ -104,7 +109,8 @@ pub fn read_head_item(
 ) -> Result<Item, ReadFault>
     requires utf8 { is_utf8 bytes.now ≡ true }
     requires lines { line + length (contents_of bytes.now) < 2 ^ 64 }
-    ensures { Gives (λ item. item) cause_in result (spec.head_item context.now line (contents_of bytes.now)) }
+    ensures { Gives (λ item.
+        item) cause_in result (spec.head_item context.now line (contents_of bytes.now)) }
 {
     if bytes.is_empty() {
         return Err(fault_at(line, Cause::Form));

@@ -49,7 +49,8 @@ pub fn read_ending(text: &[u8], line: u64) -> Result<&[u8], ReadFault>
 #[tactic(auto, unfolding(crate::specs::Endings::comments_only))]
 pub fn check_comments(after: &[u8], line: u64) -> Result<(), ReadFault>
     requires { line + length (contents_of after.now) < 2 ^ 64 }
-    ensures { Gives (λ done. done) cause_in result (spec.comments_only line (contents_of after.now)) }
+    ensures { Gives (λ done.
+        done) cause_in result (spec.comments_only line (contents_of after.now)) }
 {
     let mut rest = after;
     let mut next = line;
@@ -68,7 +69,8 @@ pub fn check_comments(after: &[u8], line: u64) -> Result<(), ReadFault>
 #[tactic(auto, unfolding(crate::specs::Endings::closing))]
 pub fn check_closing(text: &[u8], after: &[u8], line: u64) -> Result<(), ReadFault>
     requires { line + 1 + length (contents_of after.now) < 2 ^ 64 }
-    ensures { Gives (λ done. done) cause_in result (spec.closing line text.now (contents_of after.now)) }
+    ensures { Gives (λ done.
+        done) cause_in result (spec.closing line text.now (contents_of after.now)) }
 {
     if ends_line(text) {
         check_comments(after, line + 1)

@@ -38,7 +38,8 @@ pub fn ends_word(text: &[u8]) -> bool
 #[tactic(auto, using(crate::proofs::Keywords::past_word), unfolding(crate::specs::Keywords::has_word, crate::specs::Keywords::after_word))]
 pub fn after_word<'a>(text: &'a [u8], word: &[u8]) -> Option<&'a [u8]>
     ensures value { MatchOption result (spec.has_word word.now text.now ≡ false)
-        (λ x. (spec.has_word word.now text.now ≡ true) × (x.now ≡ spec.after_word word.now text.now)) }
+        (λ x. (spec.has_word word.now text.now ≡ true)
+        × (x.now ≡ spec.after_word word.now text.now)) }
     ensures utf8 { is_utf8 text.now ≡ true → IfSome result (λ x. is_utf8 x.now ≡ true) }
 {
     if !text.starts_with(word) {
@@ -56,7 +57,8 @@ pub fn after_word<'a>(text: &'a [u8], word: &[u8]) -> Option<&'a [u8]>
 #[tactic(auto, unfolding(crate::specs::Keywords::has_two, crate::specs::Keywords::after_two))]
 fn after_two<'a>(text: &'a [u8], one: &[u8], two: &[u8]) -> Option<&'a [u8]>
     ensures value { MatchOption result (spec.has_two one.now two.now text.now ≡ false)
-        (λ x. (spec.has_two one.now two.now text.now ≡ true) × (x.now ≡ spec.after_two one.now two.now text.now)) }
+        (λ x. (spec.has_two one.now two.now text.now ≡ true)
+        × (x.now ≡ spec.after_two one.now two.now text.now)) }
     ensures utf8 { is_utf8 text.now ≡ true → IfSome result (λ x. is_utf8 x.now ≡ true) }
 {
     match after_word(text, one) {

@@ -26,7 +26,8 @@ use std::alloc::Global;
 #[tactic(auto, unfolding(entry_reader::specs::Heads::day_at))]
 fn read_day(text: &[u8], year: Option<u16>, line: u64) -> Result<(Day, &[u8]), ReadFault>
     requires { is_utf8 text.now ≡ true }
-    ensures value { Gives (λ x. (x.0.0, x.1.now)) cause_in result (heads.day_at year line text.now) }
+    ensures value { Gives (λ x. (x.0.0, x.1.now)) cause_in result
+        (heads.day_at year line text.now) }
     ensures utf8 { IfOk result (λ x. is_utf8 x.1.now ≡ true) }
 {
     let (date, rest) = cut_date(text);
@@ -129,7 +130,8 @@ pub fn read_price(
 ) -> Result<Price, ReadFault>
     requires text { is_utf8 text.now ≡ true }
     requires room { line + 1 + length (contents_of lines.now) < 2 ^ 64 }
-    ensures { Gives (λ p. p) cause_in result (spec.price_of context.now line text.now (contents_of lines.now)) }
+    ensures { Gives (λ p. p) cause_in result
+        (spec.price_of context.now line text.now (contents_of lines.now)) }
 {
     let (day, rest) = read_day(text, context.year(), line)?;
     let (symbol, rest) = read_symbol(after_time(rest), line)?;

@@ -28,9 +28,11 @@ fn plain_length(text: &[u8]) -> usize
 fn cut_run(text: &[u8]) -> (&[u8], &[u8])
     requires some { 0 < length text.now }
     requires ink { first_is is_white text.now ≡ false }
-    ensures words { spec.words_from false text.now ≡ joins result.0.now (spec.words_from false result.1.now) }
+    ensures words { spec.words_from false text.now
+        ≡ joins result.0.now (spec.words_from false result.1.now) }
     ensures shorter { length result.1.now < length text.now }
-    ensures utf8 { is_utf8 text.now ≡ true → (is_utf8 result.0.now ≡ true) × (is_utf8 result.1.now ≡ true) }
+    ensures utf8 { is_utf8 text.now ≡ true → (is_utf8 result.0.now ≡ true)
+        × (is_utf8 result.1.now ≡ true) }
 {
     if !begins(text, b'"') {
         return text.split_at(plain_length(text));
@@ -47,7 +49,8 @@ fn cut_run(text: &[u8]) -> (&[u8], &[u8])
 fn read_word(alloc: Global, text: &[u8]) -> Result<(Text, &[u8]), Memory>
     requires some { 0 < length text.now }
     requires utf8 { is_utf8 text.now ≡ true }
-    ensures words { IfOk result (λ x. spec.query_words text.now ≡ spec.filled (x.0 ∷ []) ++ spec.query_words x.1.now) }
+    ensures words { IfOk result (λ x.
+        spec.query_words text.now ≡ spec.filled (x.0 ∷ []) ++ spec.query_words x.1.now) }
     ensures shorter { IfOk result (λ x. length x.1.now < length text.now) }
     ensures utf8 { IfOk result (λ x. is_utf8 x.1.now ≡ true) }
 {

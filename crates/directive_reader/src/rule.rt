@@ -31,7 +31,8 @@ pub fn read_auto(
     requires text { is_utf8 text.now ≡ true }
     requires after { is_utf8 lines.now ≡ true }
     requires room { line + 1 + length (contents_of lines.now) < 2 ^ 64 }
-    ensures { Gives (λ r. r) cause_in result (spec.auto_of context.now line text.now (contents_of lines.now)) }
+    ensures { Gives (λ r. r) cause_in result
+        (spec.auto_of context.now line text.now (contents_of lines.now)) }
 {
     let postings = read_rule_postings(alloc, context, lines, line + 1)?;
     let words = read_query(alloc, before_comment(text))?;
@@ -113,7 +114,8 @@ pub fn read_periodic(
     requires text { is_utf8 text.now ≡ true }
     requires after { is_utf8 lines.now ≡ true }
     requires room { line + 1 + length (contents_of lines.now) < 2 ^ 64 }
-    ensures { Gives (λ r. r) cause_in result (spec.periodic_of context.now line text.now (contents_of lines.now)) }
+    ensures { Gives (λ r. r) cause_in result
+        (spec.periodic_of context.now line text.now (contents_of lines.now)) }
 {
     let (written, rest) = cut_period(before_comment(text));
     let period = read_rule_period(written, line)?;

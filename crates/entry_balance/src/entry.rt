@@ -42,7 +42,8 @@ pub fn balance_txn(alloc: Global, txn: Txn) -> Result<Txn, BalanceFault>
 
 /// A transaction that was settled, or what is wrong with it.
 fn told(settled: Settled) -> Result<Txn, BalanceFault>
-    ensures { (written : Txn) → has_assignment written.postings ≡ false → IsSettled written settled.txn settled.cause
+    ensures { (written : Txn) → has_assignment written.postings ≡ false
+        → IsSettled written settled.txn settled.cause
         → Gives (λ t. t) cause_of result (balanced written) }
 {
     let Settled { txn, cause } = settled;
@@ -109,8 +110,10 @@ fn faulty(alloc: Global, txn: Txn, cause: Cause) -> Result<Settled, Memory>
 /// Puts into a transaction what was found for it, and judges what it moves.
 fn solve(alloc: Global, txn: Txn, plan: Plan) -> Result<Settled, Memory>
     requires costs { costs_fit txn.postings ≡ true }
-    requires real { misses Real txn.postings ≡ true → plan.real.items ≡ found_values Real txn.postings }
-    requires balanced { misses Balanced txn.postings ≡ true → plan.balanced.items ≡ found_values Balanced txn.postings }
+    requires real { misses Real txn.postings ≡ true
+        → plan.real.items ≡ found_values Real txn.postings }
+    requires balanced { misses Balanced txn.postings ≡ true
+        → plan.balanced.items ≡ found_values Balanced txn.postings }
     requires free { misses Free txn.postings ≡ false }
     requires recorded { plan.recorded ≡ recorded_cost txn.postings }
     ensures txn { IfOk result (λ s. s.txn ≡ settled txn) }

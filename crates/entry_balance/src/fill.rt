@@ -21,7 +21,8 @@ pub(crate) fn fill(
     plan: &Plan,
 ) -> Result<List<Posting>, Memory>
     requires real { misses Real postings ≡ true → plan.now.real.items ≡ found_values Real postings }
-    requires balanced { misses Balanced postings ≡ true → plan.now.balanced.items ≡ found_values Balanced postings }
+    requires balanced { misses Balanced postings ≡ true
+        → plan.now.balanced.items ≡ found_values Balanced postings }
     requires free { misses Free postings ≡ false }
     requires recorded { plan.now.recorded ≡ recorded_cost postings }
     ensures { IfOk result (λ filled. filled ≡ solved postings) }
@@ -36,7 +37,8 @@ pub(crate) fn fill(
 
 /// Whether each posting stays one posting.
 fn stay_single(postings: &[Posting], plan: &Plan) -> bool
-    ensures { result ≡ list_all (stays_single plan.now.real.items plan.now.balanced.items) postings.now }
+    ensures { result ≡ list_all (stays_single plan.now.real.items plan.now.balanced.items)
+        postings.now }
 {
     postings.iter().all(|posting| stays_single(posting, plan))
 }
@@ -50,7 +52,8 @@ fn stays_single(posting: &Posting, plan: &Plan) -> bool
 
 /// Fills each posting where it stands.
 fn fill_in_place(alloc: Global, postings: &mut [Posting], plan: &Plan) -> Result<(), Memory>
-    ensures { OnOk result (postings.new ≡ map (filled_in_place plan.now.real.items plan.now.balanced.items) postings.old) }
+    ensures { OnOk result (postings.new
+        ≡ map (filled_in_place plan.now.real.items plan.now.balanced.items) postings.old) }
 {
     for posting in postings.iter_mut() {
         fill_in(alloc, posting, plan)?;
@@ -60,7 +63,8 @@ fn fill_in_place(alloc: Global, postings: &mut [Posting], plan: &Plan) -> Result
 
 /// Gives a posting without an amount the one that was found for it.
 fn fill_in(alloc: Global, posting: &mut Posting, plan: &Plan) -> Result<(), Memory>
-    ensures { OnOk result (posting.new ≡ filled_in_place plan.now.real.items plan.now.balanced.items posting.old) }
+    ensures { OnOk result (posting.new
+        ≡ filled_in_place plan.now.real.items plan.now.balanced.items posting.old) }
 {
     if posting.amount.is_some() {
         return Ok(());
@@ -77,8 +81,10 @@ fn fill_in(alloc: Global, posting: &mut Posting, plan: &Plan) -> Result<(), Memo
 
 /// The postings, each once for each amount that was found for it, with the recorded cost.
 fn fill_anew(alloc: Global, postings: Vec<Posting>, plan: &Plan) -> Result<List<Posting>, Memory>
-    requires real { misses Real postings.items ≡ true → plan.now.real.items ≡ found_values Real postings.items }
-    requires balanced { misses Balanced postings.items ≡ true → plan.now.balanced.items ≡ found_values Balanced postings.items }
+    requires real { misses Real postings.items ≡ true
+        → plan.now.real.items ≡ found_values Real postings.items }
+    requires balanced { misses Balanced postings.items ≡ true
+        → plan.now.balanced.items ≡ found_values Balanced postings.items }
     requires free { misses Free postings.items ≡ false }
     requires recorded { plan.now.recorded ≡ recorded_cost postings.items }
     ensures { IfOk result (λ filled. filled ≡ solved postings.items) }
@@ -98,7 +104,8 @@ fn fill_one(
     plan: &Plan,
 ) -> Result<(), Memory>
     ensures { OnOk result (filled.new.items ≡ filled.old.items
-        ++ filled_posting plan.now.real.items plan.now.balanced.items plan.now.recorded posting posting.amount) }
+        ++ filled_posting plan.now.real.items plan.now.balanced.items plan.now.recorded posting
+        posting.amount) }
 {
     match &posting.amount {
         Some(_) => {
@@ -128,7 +135,8 @@ fn add_found(
     posting: &Posting,
     found: &[Found],
 ) -> Result<(), Memory>
-    ensures { OnOk result (filled.new.items ≡ filled.old.items ++ map (found_posting posting.now) found.now) }
+    ensures { OnOk result (filled.new.items ≡ filled.old.items
+        ++ map (found_posting posting.now) found.now) }
 {
     for value in found {
         let copy = found_posting(alloc, posting, value)?;

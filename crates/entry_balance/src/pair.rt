@@ -60,7 +60,8 @@ pub(crate) fn is_pair(postings: &[Posting]) -> bool
 
 /// Whether a number and its opposite stay within the bound together, without their signs.
 fn twice_fits(value: Dec) -> bool
-    ensures { (symbol : List ℕ) → result ≡ turnover_fits ((symbol, value) ∷ (symbol, negated value) ∷ []) }
+    ensures { (symbol : List ℕ)
+        → result ≡ turnover_fits ((symbol, value) ∷ (symbol, negated value) ∷ []) }
 {
     let _size = value.magnitude();
     let _places = value.decimals();

@@ -34,11 +34,15 @@ struct SidePlan<'a> {
 /// What balancing finds for some postings.
 pub(crate) fn make_plan(alloc: Global, postings: &[Posting]) -> Result<Plan, TallyFault>
     requires { costs_fit postings.now ≡ true }
-    ensures real { IfOk result (λ plan. misses Real postings.now ≡ true → plan.real.items ≡ found_values Real postings.now) }
-    ensures balanced { IfOk result (λ plan. misses Balanced postings.now ≡ true → plan.balanced.items ≡ found_values Balanced postings.now) }
+    ensures real { IfOk result (λ plan. misses Real postings.now ≡ true
+        → plan.real.items ≡ found_values Real postings.now) }
+    ensures balanced { IfOk result (λ plan. misses Balanced postings.now ≡ true
+        → plan.balanced.items ≡ found_values Balanced postings.now) }
     ensures recorded { IfOk result (λ plan. plan.recorded ≡ recorded_cost postings.now) }
-    ensures cause { IfOk result (λ plan. plan.cause ≡ unbalanced_by (unbalanced_sums postings.now)) }
-    ensures range_real { IfErr result (λ e. IsRange e → turnover_fits (side_values Real postings.now) ≡ true
+    ensures cause { IfOk result (λ plan.
+        plan.cause ≡ unbalanced_by (unbalanced_sums postings.now)) }
+    ensures range_real { IfErr result (λ e. IsRange e
+        → turnover_fits (side_values Real postings.now) ≡ true
         → turnover_fits (side_values Balanced postings.now) ≡ false) }
 {
     let real = match side_plan(alloc, postings, Side::Real) {
@@ -98,10 +102,13 @@ fn side_plan<'a>(
     side: Side,
 ) -> Result<SidePlan<'a>, TallyFault>
     requires { costs_fit postings.now ≡ true }
-    ensures left { IfOk result (λ plan. misses side postings.now ≡ false → named plan.left.items ≡ left_over side postings.now) }
-    ensures found { IfOk result (λ plan. misses side postings.now ≡ true → plan.found.items ≡ found_values side postings.now) }
+    ensures left { IfOk result (λ plan. misses side postings.now ≡ false
+        → named plan.left.items ≡ left_over side postings.now) }
+    ensures found { IfOk result (λ plan. misses side postings.now ≡ true
+        → plan.found.items ≡ found_values side postings.now) }
     ensures misses { IfOk result (λ plan. plan.misses ≡ misses side postings.now) }
-    ensures range { IfErr result (λ e. IsRange e → turnover_fits (side_values side postings.now) ≡ false) }
+    ensures range { IfErr result (λ e. IsRange e
+        → turnover_fits (side_values side postings.now) ≡ false) }
 {
     if lacks_side(postings, side) {
         return Ok(SidePlan {
@@ -138,7 +145,8 @@ fn left_unless<'a>(
     sums: &[Sum<'a>],
 ) -> Result<Vec<Sum<'a>>, Memory>
     ensures { IfOk result (λ left. misses ≡ false → named left.items
-        ≡ filter (λ sum. not (is_nothing_at (precision_of sum.0 postings.now) sum.1)) (named sums.now)) }
+        ≡ filter (λ sum.
+        not (is_nothing_at (precision_of sum.0 postings.now) sum.1)) (named sums.now)) }
 {
     if misses {
         Ok(Vec::new(alloc))
@@ -149,7 +157,8 @@ fn left_unless<'a>(
 
 /// What is found for a missing amount, if there is one.
 fn found_if(alloc: Global, misses: bool, sums: &[Sum]) -> Result<Vec<Found>, Memory>
-    ensures { IfOk result (λ found. misses ≡ true → found.items ≡ or_nothing (needed (named sums.now))) }
+    ensures { IfOk result (λ found. misses ≡ true
+        → found.items ≡ or_nothing (needed (named sums.now))) }
 {
     if misses {
         found(alloc, sums)
@@ -190,7 +199,8 @@ fn recorded_if(
     postings: &[Posting],
     left: &[Sum],
 ) -> Result<Option<Recorded>, Memory>
-    ensures { IfOk result (λ cost. cost ≡ (if exchanges then recorded_between (named left.now) postings.now else None)) }
+    ensures { IfOk result (λ cost.
+        cost ≡ (if exchanges then recorded_between (named left.now) postings.now else None)) }
 {
     if exchanges {
         recorded_between(alloc, postings, left)
@@ -207,7 +217,8 @@ fn cause_of(
     balanced_settled: bool,
     balanced: &[Sum],
 ) -> Result<Option<Boxed<Cause>>, Memory>
-    ensures { IfOk result (λ told. told ≡ unbalanced_by ((if real_settled then [] else named real.now)
+    ensures { IfOk result (λ told.
+        told ≡ unbalanced_by ((if real_settled then [] else named real.now)
         ++ (if balanced_settled then [] else named balanced.now))) }
 {
     if !real_settled && !real.is_empty() {

@@ -143,7 +143,8 @@ pub(crate) fn left_over<'a>(
     sums: &[Sum<'a>],
 ) -> Result<Vec<Sum<'a>>, Memory>
     ensures { IfOk result (λ left. named left.items
-        ≡ filter (λ sum. not (is_nothing_at (precision_of sum.0 postings.now) sum.1)) (named sums.now)) }
+        ≡ filter (λ sum.
+        not (is_nothing_at (precision_of sum.0 postings.now) sum.1)) (named sums.now)) }
 {
     let mut left = Vec::new(alloc);
     for sum in sums {

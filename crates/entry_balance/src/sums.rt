@@ -30,8 +30,10 @@ pub(crate) fn side_sums<'a>(
     side: Side,
 ) -> Result<Vec<Sum<'a>>, TallyFault>
     requires { costs_fit postings.now ≡ true }
-    ensures value { IfOk result (λ sums. named sums.items ≡ sums_of (side_values side postings.now)) }
-    ensures range { IfErr result (λ e. IsRange e → turnover_fits (side_values side postings.now) ≡ false) }
+    ensures value { IfOk result (λ sums.
+        named sums.items ≡ sums_of (side_values side postings.now)) }
+    ensures range { IfErr result (λ e. IsRange e
+        → turnover_fits (side_values side postings.now) ≡ false) }
 {
     let mut tally = Tally::new(alloc);
     for posting in postings {
@@ -51,7 +53,8 @@ fn add_share<'a>(tally: &mut Tally<'a>, posting: &'a Posting, side: Side) -> Res
     requires { amount_cost_fits posting.now.amount posting.now.cost ≡ true }
     ensures ok { OnOk result ((before : List Value) → tally.old ≡ sums_of before
         → tally.new ≡ sums_of (before ++ share_of side posting.now)) }
-    ensures range { IfErr result (λ e. IsRange e → (before : List Value) → tally.old ≡ sums_of before
+    ensures range { IfErr result (λ e. IsRange e → (before : List Value)
+        → tally.old ≡ sums_of before
         → turnover_fits (before ++ share_of side posting.now) ≡ false) }
 {
     if !same_side(side, posting.side) {
@@ -87,7 +90,8 @@ fn add_moved<'a>(tally: &mut Tally<'a>, posting: &'a Posting) -> Result<(), Tall
     requires { amount_cost_fits posting.now.amount posting.now.cost ≡ true }
     ensures ok { OnOk result ((before : List Value) → IsTurnover before tally.old
         → IsTurnover (before ++ moved_by posting.now) tally.new) }
-    ensures range { IfErr result (λ e. IsRange e → (before : List Value) → IsTurnover before tally.old
+    ensures range { IfErr result (λ e. IsRange e → (before : List Value)
+        → IsTurnover before tally.old
         → turnover_fits (before ++ moved_by posting.now) ≡ false) }
 {
     match &posting.amount {
@@ -112,7 +116,8 @@ fn add_moved<'a>(tally: &mut Tally<'a>, posting: &'a Posting) -> Result<(), Tall
 fn add_value<'a>(tally: &mut Tally<'a>, symbol: &'a str, number: Dec) -> Result<(), TallyFault>
     ensures ok { OnOk result ((before : List Value) → IsTurnover before tally.old
         → IsTurnover (before ++ (symbol.now, number) ∷ []) tally.new) }
-    ensures range { IfErr result (λ e. IsRange e → (before : List Value) → IsTurnover before tally.old
+    ensures range { IfErr result (λ e. IsRange e → (before : List Value)
+        → IsTurnover before tally.old
         → turnover_fits (before ++ (symbol.now, number) ∷ []) ≡ false) }
 {
     let _decimals = number.decimals();

@@ -57,7 +57,8 @@ impl<'a> Tally<'a> {
     pub fn add(&mut self, symbol: &'a str, value: Dec) -> Result<(), TallyFault>
         ensures ok { OnOk result (self.new ≡ added_to self.old symbol.now value) }
         ensures within { OnOk result (are_within self.old ≡ true → are_within self.new ≡ true) }
-        ensures range { IfErr result (λ e. IsRange e → fits_with (held symbol.now self.old) value ≡ false) }
+        ensures range { IfErr result (λ e. IsRange e
+            → fits_with (held symbol.now self.old) value ≡ false) }
     {
         if self.sums.is_empty() {
             add_to_only(&mut self.only, &mut self.sums, symbol, value)
@@ -68,7 +69,8 @@ impl<'a> Tally<'a> {
 
     /// The sum of a symbol, zero where none was added.
     pub fn total(&self, symbol: &str) -> Dec
-        ensures { (values : List Value) → self.now ≡ sums_of values → result ≡ total_of symbol.now values }
+        ensures { (values : List Value) → self.now ≡ sums_of values
+            → result ≡ total_of symbol.now values }
     {
         match self.held(symbol) {
             Some(sum) => sum,
@@ -131,9 +133,12 @@ fn add_to_only<'a>(
     value: Dec,
 ) -> Result<(), TallyFault>
     requires { sums.old.entries ≡ [] }
-    ensures ok { OnOk result (all_sums only.new sums.new.entries ≡ added_to (only_sum only.old) symbol.now value) }
-    ensures within { OnOk result (are_within (only_sum only.old) ≡ true → are_within (all_sums only.new sums.new.entries) ≡ true) }
-    ensures range { IfErr result (λ e. IsRange e → fits_with (held symbol.now (only_sum only.old)) value ≡ false) }
+    ensures ok { OnOk result (all_sums only.new sums.new.entries
+        ≡ added_to (only_sum only.old) symbol.now value) }
+    ensures within { OnOk result (are_within (only_sum only.old) ≡ true
+        → are_within (all_sums only.new sums.new.entries) ≡ true) }
+    ensures range { IfErr result (λ e. IsRange e
+        → fits_with (held symbol.now (only_sum only.old)) value ≡ false) }
 {
     match *only {
         None => {
@@ -158,9 +163,12 @@ fn add_to<'a>(
     symbol: &'a str,
     value: Dec,
 ) -> Result<(), TallyFault>
-    ensures ok { OnOk result (named sums.new.entries ≡ added_to (named sums.old.entries) symbol.now value) }
-    ensures within { OnOk result (are_within (named sums.old.entries) ≡ true → are_within (named sums.new.entries) ≡ true) }
-    ensures range { IfErr result (λ e. IsRange e → fits_with (held symbol.now (named sums.old.entries)) value ≡ false) }
+    ensures ok { OnOk result (named sums.new.entries
+        ≡ added_to (named sums.old.entries) symbol.now value) }
+    ensures within { OnOk result (are_within (named sums.old.entries) ≡ true
+        → are_within (named sums.new.entries) ≡ true) }
+    ensures range { IfErr result (λ e. IsRange e
+        → fits_with (held symbol.now (named sums.old.entries)) value ≡ false) }
 {
     let old = sums.get(symbol).copied();
     let sum = sum_with(old, value)?;
@@ -169,7 +177,8 @@ fn add_to<'a>(
 
 /// Puts the sum of a symbol into a map.
 fn put<'a>(sums: &mut BTreeMap<&'a str, Dec>, symbol: &'a str, sum: Dec) -> Result<(), TallyFault>
-    ensures ok { OnOk result (named sums.new.entries ≡ put (slice_cmp nat_cmp) symbol.now sum (named sums.old.entries)) }
+    ensures ok { OnOk result (named sums.new.entries
+        ≡ put (slice_cmp nat_cmp) symbol.now sum (named sums.old.entries)) }
     ensures fault { IfErr result (λ e. IsRange e → ⊥) }
 {
     match sums.insert(symbol, sum) {

@@ -58,7 +58,11 @@ fn product(a: Dec, b: Dec) -> Dec
 
 /// The absolute value of a number with the sign of a quantity, and zero for a zero quantity.
 fn signed_like(quantity: Dec, number: Dec) -> Dec
-    ensures { result ≡ record { mantissa = signed_like quantity.mantissa (unsigned_abs number.mantissa); places = number.places } }
+    ensures { result ≡ record {
+      mantissa = signed_like quantity.mantissa (unsigned_abs number.mantissa);
+      places =
+          number.places;
+    } }
 {
     if quantity.is_negative() {
         absolute(number).negated()

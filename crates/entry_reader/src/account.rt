@@ -41,7 +41,8 @@ fn account_length(text: &[u8]) -> usize
 pub fn cut_account(text: &[u8]) -> (&[u8], &[u8])
     ensures account { result.0.now ≡ take (spec.account_len text.now) text.now }
     ensures rest { result.1.now ≡ drop (spec.account_len text.now) text.now }
-    ensures utf8 { is_utf8 text.now ≡ true → (is_utf8 result.0.now ≡ true) × (is_utf8 result.1.now ≡ true) }
+    ensures utf8 { is_utf8 text.now ≡ true → (is_utf8 result.0.now ≡ true)
+        × (is_utf8 result.1.now ≡ true) }
 {
     text.split_at(account_length(text))
 }
@@ -182,7 +183,8 @@ pub fn read_account_in(
     line: u64,
 ) -> Result<(Side, Text), ReadFault>
     requires { is_utf8 text.now ≡ true }
-    ensures { Gives (λ account. account) cause_in result (spec.account_at context.now line text.now) }
+    ensures { Gives (λ account.
+        account) cause_in result (spec.account_at context.now line text.now) }
 {
     let account = read_name_in(alloc, context, name_of(text), line)?;
     Ok((side_of(text), account))

@@ -52,8 +52,10 @@ pub fn after_sign(text: &[u8]) -> &[u8]
 /// The sign and the symbol before a number.
 #[tactic(auto, unfolding(crate::specs::Amounts::left_at))]
 fn read_left(text: &[u8], line: u64) -> Result<Left<'_>, ReadFault>
-    ensures value { Gives (λ x. spec.left_of x.is_negative x.symbol.now x.spaced x.rest.now) cause_in result (spec.left_at line text.now) }
-    ensures utf8 { is_utf8 text.now ≡ true → IfOk result (λ x. (is_utf8 x.symbol.now ≡ true) × (is_utf8 x.rest.now ≡ true)) }
+    ensures value { Gives (λ x. spec.left_of x.is_negative x.symbol.now x.spaced x.rest.now)
+        cause_in result (spec.left_at line text.now) }
+    ensures utf8 { is_utf8 text.now ≡ true
+        → IfOk result (λ x. (is_utf8 x.symbol.now ≡ true) × (is_utf8 x.rest.now ≡ true)) }
 {
     let inner = after_sign(text);
     if !is_left_good(inner) {
@@ -76,8 +78,10 @@ fn read_left(text: &[u8], line: u64) -> Result<Left<'_>, ReadFault>
 #[tactic(auto, using(crate::proofs::Texts::empty_utf8), unfolding(crate::specs::Amounts::right_at))]
 #[inline]
 pub fn read_right(text: &[u8], has_symbol: bool) -> Right<'_>
-    ensures value { spec.right_with result.symbol.now result.spaced result.is_good result.rest.now ≡ spec.right_at has_symbol text.now }
-    ensures utf8 { is_utf8 text.now ≡ true → (is_utf8 result.symbol.now ≡ true) × (is_utf8 result.rest.now ≡ true) }
+    ensures value { spec.right_with result.symbol.now result.spaced result.is_good result.rest.now
+        ≡ spec.right_at has_symbol text.now }
+    ensures utf8 { is_utf8 text.now ≡ true → (is_utf8 result.symbol.now ≡ true)
+        × (is_utf8 result.rest.now ≡ true) }
 {
     let behind = after_white(text);
     if has_symbol || ends_amount(behind) {
@@ -99,7 +103,8 @@ pub fn read_right(text: &[u8], has_symbol: bool) -> Right<'_>
 
 /// The number that digits and marks are.
 pub fn number_of(digits: &[u8], mark: Option<u8>, line: u64) -> Result<Number, ReadFault>
-    ensures { Gives (λ number. number) cause_in result (spec.number_or_fault line (reading digits.now mark)) }
+    ensures { Gives (λ number.
+        number) cause_in result (spec.number_or_fault line (reading digits.now mark)) }
 {
     match read_number(digits, mark) {
         Ok(number) => Ok(number),
@@ -145,7 +150,8 @@ pub fn amount_at<'a>(
     line: u64,
 ) -> Result<(Amount, &'a [u8]), ReadFault>
     requires { is_utf8 text.now ≡ true }
-    ensures value { Gives (λ x. (x.0, x.1.now)) cause_in result (spec.amount_at context.now line text.now) }
+    ensures value { Gives (λ x. (x.0, x.1.now)) cause_in result
+        (spec.amount_at context.now line text.now) }
     ensures utf8 { IfOk result (λ x. is_utf8 x.1.now ≡ true) }
 {
     let left = read_left(text, line)?;
@@ -213,7 +219,8 @@ pub fn cost_at<'a>(
     line: u64,
 ) -> Result<(Option<Boxed<Cost>>, &'a [u8]), ReadFault>
     requires { is_utf8 text.now ≡ true }
-    ensures value { Gives (λ x. (x.0, x.1.now)) cause_in result (spec.cost_at context.now line text.now) }
+    ensures value { Gives (λ x. (x.0, x.1.now)) cause_in result
+        (spec.cost_at context.now line text.now) }
     ensures utf8 { IfOk result (λ x. is_utf8 x.1.now ≡ true) }
 {
     if !may_begin_cost(text) {
@@ -242,7 +249,8 @@ fn read_alone(
     is_line: bool,
 ) -> Result<Amount, ReadFault>
     requires { is_utf8 text.now ≡ true }
-    ensures { Gives (λ amount. amount) cause_in result (spec.alone_of is_line (spec.amount_at context.now 1 text.now)) }
+    ensures { Gives (λ amount.
+        amount) cause_in result (spec.alone_of is_line (spec.amount_at context.now 1 text.now)) }
 {
     let (amount, rest) = amount_at(alloc, context, text, 1)?;
     if rest.is_empty() && is_line {
@@ -258,7 +266,8 @@ fn read_alone(
 #[tactic(auto, unfolding(crate::specs::Amounts::amount_alone))]
 pub fn read_amount(alloc: Global, text: &[u8], context: &Context) -> Result<Amount, ReadFault>
     ensures { Gives (λ amount. amount) cause_in result
-        (if is_utf8 text.now then spec.amount_alone context.now text.now else Err (fault_at 1 Encoding)) }
+        (if is_utf8 text.now then spec.amount_alone context.now text.now else Err
+        (fault_at 1 Encoding)) }
 {
     if !is_utf8(text) {
         return Err(fault_at(1, Cause::Encoding));

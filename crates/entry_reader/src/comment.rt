@@ -41,9 +41,12 @@ fn comment_text(content: &[u8]) -> &[u8]
 #[tactic(auto, using(crate::proofs::Remarks::one_comment, crate::proofs::Remarks::no_comment, crate::proofs::Remarks::no_line, crate::proofs::Fronts::no_remark))]
 fn next_comment(text: &[u8]) -> Option<(&[u8], &[u8])>
     ensures cut { MatchOption result (spec.comments_in (contents_of text.now) ≡ [])
-        (λ x. spec.comments_in (contents_of text.now) ≡ x.0.now ∷ spec.comments_in (contents_of x.1.now)) }
-    ensures shorter { IfSome result (λ x. length (contents_of x.1.now) < length (contents_of text.now)) }
-    ensures utf8 { is_utf8 text.now ≡ true → IfSome result (λ x. (is_utf8 x.0.now ≡ true) × (is_utf8 x.1.now ≡ true)) }
+        (λ x. spec.comments_in (contents_of text.now) ≡ x.0.now
+        ∷ spec.comments_in (contents_of x.1.now)) }
+    ensures shorter { IfSome result (λ x.
+        length (contents_of x.1.now) < length (contents_of text.now)) }
+    ensures utf8 { is_utf8 text.now ≡ true
+        → IfSome result (λ x. (is_utf8 x.0.now ≡ true) × (is_utf8 x.1.now ≡ true)) }
 {
     if text.is_empty() || !is_comment(text) {
         return None;
@@ -59,7 +62,8 @@ fn next_comment(text: &[u8]) -> Option<(&[u8], &[u8])>
 /// A text that begins as a comment line, or nothing.
 #[tactic(auto, using(crate::proofs::Fronts::no_remark, crate::proofs::Texts::empty_utf8))]
 pub fn comment_lines(text: &[u8]) -> &[u8]
-    ensures same { spec.comments_in (contents_of result.now) ≡ spec.comments_in (contents_of text.now) }
+    ensures same { spec.comments_in (contents_of result.now)
+        ≡ spec.comments_in (contents_of text.now) }
     ensures shorter { length (contents_of result.now) ≤ length (contents_of text.now) }
     ensures utf8 { is_utf8 text.now ≡ true → is_utf8 result.now ≡ true }
 {
@@ -86,7 +90,8 @@ pub fn append(text: &mut String, bytes: &[u8]) -> Result<(), Memory>
 pub fn read_comment(alloc: Global, own: &[u8], after: &[u8]) -> Result<Text, Memory>
     requires own { is_utf8 own.now ≡ true }
     requires after { is_utf8 after.now ≡ true }
-    ensures { IfOk result (λ text. text ≡ spec.comment_of own.now (spec.comments_in (contents_of after.now))) }
+    ensures { IfOk result (λ text.
+        text ≡ spec.comment_of own.now (spec.comments_in (contents_of after.now))) }
 {
     if own.is_empty() && after.is_empty() {
         return Ok(Text::new(alloc));
@@ -98,7 +103,8 @@ pub fn read_comment(alloc: Global, own: &[u8], after: &[u8]) -> Result<Text, Mem
 fn joined_comment(alloc: Global, own: &[u8], after: &[u8]) -> Result<Text, Memory>
     requires own { is_utf8 own.now ≡ true }
     requires after { is_utf8 after.now ≡ true }
-    ensures { IfOk result (λ text. text ≡ spec.comment_of own.now (spec.comments_in (contents_of after.now))) }
+    ensures { IfOk result (λ text.
+        text ≡ spec.comment_of own.now (spec.comments_in (contents_of after.now))) }
 {
     let mut comment = String::new(alloc);
     append(&mut comment, own)?;
@@ -117,7 +123,8 @@ fn joined_comment(alloc: Global, own: &[u8], after: &[u8]) -> Result<Text, Memor
 pub fn read_tags(alloc: Global, own: &[u8], after: &[u8]) -> Result<List<Tag>, Memory>
     requires own { is_utf8 own.now ≡ true }
     requires after { is_utf8 after.now ≡ true }
-    ensures { IfOk result (λ tags. tags ≡ spec.tags_in (own.now ∷ spec.comments_in (contents_of after.now))) }
+    ensures { IfOk result (λ tags.
+        tags ≡ spec.tags_in (own.now ∷ spec.comments_in (contents_of after.now))) }
 {
     if own.is_empty() && after.is_empty() {
         return Ok(List::new(alloc));
@@ -129,7 +136,8 @@ pub fn read_tags(alloc: Global, own: &[u8], after: &[u8]) -> Result<List<Tag>, M
 fn tags_of(alloc: Global, own: &[u8], after: &[u8]) -> Result<List<Tag>, Memory>
     requires own { is_utf8 own.now ≡ true }
     requires after { is_utf8 after.now ≡ true }
-    ensures { IfOk result (λ tags. tags ≡ spec.tags_in (own.now ∷ spec.comments_in (contents_of after.now))) }
+    ensures { IfOk result (λ tags.
+        tags ≡ spec.tags_in (own.now ∷ spec.comments_in (contents_of after.now))) }
 {
     let mut tags = Vec::new(alloc);
     push_tags(alloc, &mut tags, own)?;
@@ -143,7 +151,8 @@ fn tags_of(alloc: Global, own: &[u8], after: &[u8]) -> Result<List<Tag>, Memory>
 
 /// The day that a tag's value writes, with a year where it writes none.
 fn day_written(value: &[u8], year: u16, line: u64) -> Result<Option<Day>, ReadFault>
-    ensures { Gives (λ day. day) cause_in result (spec.day_written line (date_of value.now (Some year))) }
+    ensures { Gives (λ day.
+        day) cause_in result (spec.day_written line (date_of value.now (Some year))) }
 {
     match read_date(value, Some(year)) {
         Ok(day) => Ok(Some(day)),
@@ -161,7 +170,9 @@ pub fn read_own_day(
     line: u64,
 ) -> Result<Option<Day>, ReadFault>
     requires { line + 1 + length (contents_of after.now) < 2 ^ 64 }
-    ensures { Gives (λ day. day) cause_in result (spec.day_in year line (own.now ∷ spec.comments_in (contents_of after.now))) }
+    ensures { Gives (λ day.
+        day) cause_in result (spec.day_in year line (own.now
+        ∷ spec.comments_in (contents_of after.now))) }
 {
     if own.is_empty() && after.is_empty() {
         return Ok(None);
@@ -172,7 +183,9 @@ pub fn read_own_day(
 /// The same where there is a comment.
 fn day_of_comments(own: &[u8], after: &[u8], year: u16, line: u64) -> Result<Option<Day>, ReadFault>
     requires { line + 1 + length (contents_of after.now) < 2 ^ 64 }
-    ensures { Gives (λ day. day) cause_in result (spec.day_in year line (own.now ∷ spec.comments_in (contents_of after.now))) }
+    ensures { Gives (λ day.
+        day) cause_in result (spec.day_in year line (own.now
+        ∷ spec.comments_in (contents_of after.now))) }
 {
     if let Some(value) = find_date(own) {
         return day_written(value, year, line);

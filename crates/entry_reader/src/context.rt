@@ -102,7 +102,8 @@ fn or_else(mark: Option<u8>, other: Option<u8>) -> Option<u8>
 
 /// The decimal mark that is decided for an amount without a symbol, where none is in force.
 fn usual_mark(usual: &Option<(Text, Option<u8>)>, marks: &[(Text, Option<u8>)]) -> Option<u8>
-    ensures { result ≡ spec.or_else (spec.latest_mark marks.now (spec.usual_symbol usual.now)) (spec.mark_found usual.now) }
+    ensures { result ≡ spec.or_else (spec.latest_mark marks.now (spec.usual_symbol usual.now))
+        (spec.mark_found usual.now) }
 {
     match usual {
         Some(usual) => or_else(latest_mark(marks, usual.0.as_bytes()), usual.1),

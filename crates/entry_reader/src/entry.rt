@@ -28,7 +28,9 @@ fn read_lines(
     requires content { is_utf8 content.now ≡ true }
     requires after { is_utf8 after.now ≡ true }
     requires lines { line + 1 + length (contents_of after.now) < 2 ^ 64 }
-    ensures { Gives (λ item. item) cause_in result (spec.entry_with context.now line content.now (contents_of after.now)) }
+    ensures { Gives (λ item.
+        item) cause_in result
+        (spec.entry_with context.now line content.now (contents_of after.now)) }
 {
     let head = read_head(context, content, line)?;
     let year = civil_of(head.day).year;
@@ -57,7 +59,8 @@ pub fn read_entry(
 ) -> Result<Item, ReadFault>
     requires utf8 { is_utf8 bytes.now ≡ true }
     requires lines { line + length (contents_of bytes.now) < 2 ^ 64 }
-    ensures { Gives (λ item. item) cause_in result (spec.entry_of context.now line (contents_of bytes.now)) }
+    ensures { Gives (λ item.
+        item) cause_in result (spec.entry_of context.now line (contents_of bytes.now)) }
 {
     if bytes.is_empty() {
         return Err(fault_at(line, Cause::Form));

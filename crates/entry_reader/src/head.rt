@@ -102,7 +102,8 @@ pub fn read_mark(text: &[u8], line: u64) -> Result<(Mark, &[u8]), ReadFault>
 fn cut_code(text: &[u8]) -> (&[u8], &[u8])
     ensures code { result.0.now ≡ spec.code_of text.now }
     ensures rest { result.1.now ≡ spec.after_code text.now }
-    ensures utf8 { is_utf8 text.now ≡ true → (is_utf8 result.0.now ≡ true) × (is_utf8 result.1.now ≡ true) }
+    ensures utf8 { is_utf8 text.now ≡ true → (is_utf8 result.0.now ≡ true)
+        × (is_utf8 result.1.now ≡ true) }
 {
     if begins(text, b'(') {
         let inside = past_first(text);
@@ -117,9 +118,11 @@ fn cut_code(text: &[u8]) -> (&[u8], &[u8])
 #[tactic(auto, unfolding(crate::specs::Heads::head_of))]
 pub fn read_head<'a>(context: &Context, content: &'a [u8], line: u64) -> Result<Head<'a>, ReadFault>
     requires { is_utf8 content.now ≡ true }
-    ensures value { Gives (λ x. spec.head_with x.day.0 x.mark x.code.now x.description.now x.comment.now) cause_in result (spec.head_of context.now line content.now) }
+    ensures value { Gives (λ x. spec.head_with x.day.0 x.mark x.code.now x.description.now
+        x.comment.now) cause_in result (spec.head_of context.now line content.now) }
     ensures day { IfOk result (λ x. IsDay x.day.0) }
-    ensures utf8 { IfOk result (λ x. (is_utf8 x.code.now ≡ true) × (is_utf8 x.description.now ≡ true) × (is_utf8 x.comment.now ≡ true)) }
+    ensures utf8 { IfOk result (λ x. (is_utf8 x.code.now ≡ true)
+        × (is_utf8 x.description.now ≡ true) × (is_utf8 x.comment.now ≡ true)) }
 {
     let (day, rest) = read_day(content, context.year(), line)?;
     let (mark, rest) = read_mark(rest, line)?;

@@ -35,7 +35,8 @@ fn ends_part(text: &[u8]) -> bool
 /// What follows an old name, where a name is that or one below it.
 fn below<'a>(name: &'a str, old: &str) -> Option<&'a str>
     ensures { MatchOption result (spec.is_under old.now name.now ≡ false)
-        (λ rest. (spec.is_under old.now name.now ≡ true) × (rest.now ≡ drop (length old.now) name.now)) }
+        (λ rest. (spec.is_under old.now name.now ≡ true)
+        × (rest.now ≡ drop (length old.now) name.now)) }
 {
     let rest = name.strip_prefix(old)?;
     if ends_part(rest.as_bytes()) {

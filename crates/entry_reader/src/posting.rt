@@ -41,7 +41,8 @@ fn is_free(side: Side) -> bool
 /// The comment with which a posting's line ends, empty where there is none.
 fn read_ending(text: &[u8], side: Side, says_much: bool, line: u64) -> Result<&[u8], ReadFault>
     requires { is_utf8 text.now ≡ true }
-    ensures value { Gives (λ x. x.now) cause_in result (spec.ending_of line side says_much text.now) }
+    ensures value { Gives (λ x. x.now) cause_in result
+        (spec.ending_of line side says_much text.now) }
     ensures utf8 { IfOk result (λ x. is_utf8 x.now ≡ true) }
 {
     if !ends_line(text) {
@@ -69,7 +70,9 @@ fn own_comment(text: &[u8]) -> &[u8]
 
 /// Whether a posting has an amount, a factor or an assertion.
 fn says_much(numbers: &Numbers) -> bool
-    ensures { result ≡ spec.says_much (spec.numbers_of numbers.now.amount numbers.now.factor numbers.now.cost numbers.now.wanted) }
+    ensures { result ≡ spec.says_much
+        (spec.numbers_of numbers.now.amount numbers.now.factor numbers.now.cost
+        numbers.now.wanted) }
 {
     numbers.amount.is_some() || numbers.factor.is_some() || numbers.wanted.is_some()
 }
@@ -123,7 +126,9 @@ fn read_day_in(
     line: u64,
 ) -> Result<Option<Day>, ReadFault>
     requires { line + 1 + length (contents_of after.now) < 2 ^ 64 }
-    ensures { Gives (λ day. day) cause_in result (spec.own_day holder line (own.now ∷ comments_in (contents_of after.now))) }
+    ensures { Gives (λ day.
+        day) cause_in result (spec.own_day holder line (own.now
+        ∷ comments_in (contents_of after.now))) }
 {
     match holder {
         Holder::Entry(year) => read_own_day(own, after, year, line),
@@ -236,7 +241,9 @@ fn read_each(
 ) -> Result<List<Posting>, ReadFault>
     requires utf8 { is_utf8 text.now ≡ true }
     requires lines { line + length (contents_of text.now) < 2 ^ 64 }
-    ensures { Gives (λ postings. postings) cause_in result (spec.each_of (spec.posting_of holder context.now) line (contents_of text.now)) }
+    ensures { Gives (λ postings.
+        postings) cause_in result
+        (spec.each_of (spec.posting_of holder context.now) line (contents_of text.now)) }
 {
     let mut postings = Vec::with_capacity(alloc, USUAL_POSTINGS)?;
     let mut rest = text;
@@ -267,7 +274,8 @@ pub fn read_postings(
 ) -> Result<List<Posting>, ReadFault>
     requires utf8 { is_utf8 text.now ≡ true }
     requires lines { line + length (contents_of text.now) < 2 ^ 64 }
-    ensures { Gives (λ postings. postings) cause_in result (spec.postings_of context.now year line (contents_of text.now)) }
+    ensures { Gives (λ postings.
+        postings) cause_in result (spec.postings_of context.now year line (contents_of text.now)) }
 {
     read_each(alloc, Holder::Entry(year), context, text, line)
 }
@@ -282,7 +290,9 @@ pub fn read_periodic_postings(
 ) -> Result<List<Posting>, ReadFault>
     requires utf8 { is_utf8 text.now ≡ true }
     requires lines { line + length (contents_of text.now) < 2 ^ 64 }
-    ensures { Gives (λ postings. postings) cause_in result (spec.periodic_postings_of context.now line (contents_of text.now)) }
+    ensures { Gives (λ postings.
+        postings) cause_in result
+        (spec.periodic_postings_of context.now line (contents_of text.now)) }
 {
     read_each(alloc, Holder::Periodic, context, text, line)
 }
@@ -298,7 +308,8 @@ pub fn read_rule_postings(
 ) -> Result<List<RulePosting>, ReadFault>
     requires utf8 { is_utf8 text.now ≡ true }
     requires lines { line + length (contents_of text.now) < 2 ^ 64 }
-    ensures { Gives (λ postings. postings) cause_in result (spec.rule_postings_of context.now line (contents_of text.now)) }
+    ensures { Gives (λ postings.
+        postings) cause_in result (spec.rule_postings_of context.now line (contents_of text.now)) }
 {
     let mut postings = Vec::new(alloc);
     let mut rest = text;

@@ -94,7 +94,8 @@ fn read_factor_digits<'a>(
     requires { is_utf8 right.now.symbol.now ≡ true }
     ensures { Gives (λ x. (x.0, x.1.now)) cause_in result
         (amounts.factor_from_right context.now line is_negative digits.now
-        (amounts.right_with right.now.symbol.now right.now.spaced right.now.is_good right.now.rest.now)) }
+        (amounts.right_with right.now.symbol.now right.now.spaced right.now.is_good
+        right.now.rest.now)) }
 {
     let number = number_of(digits, factor_mark(context, right.symbol), line)?;
     if !right.is_good {
@@ -116,7 +117,8 @@ fn factor_at<'a>(
     line: u64,
 ) -> Result<(Factor, &'a [u8]), ReadFault>
     requires { is_utf8 text.now ≡ true }
-    ensures value { Gives (λ x. (x.0, x.1.now)) cause_in result (amounts.factor_at context.now line text.now) }
+    ensures value { Gives (λ x. (x.0, x.1.now)) cause_in result
+        (amounts.factor_at context.now line text.now) }
     ensures utf8 { IfOk result (λ x. is_utf8 x.1.now ≡ true) }
 {
     let (digits, behind) = cut_number(after_sign(text));
@@ -171,7 +173,8 @@ fn read_cost<'a>(
     line: u64,
 ) -> Result<(Option<Boxed<Cost>>, &'a [u8]), ReadFault>
     requires { is_utf8 text.now ≡ true }
-    ensures value { Gives (λ x. (x.0, x.1.now)) cause_in result (spec.cost_behind is_written context.now line text.now) }
+    ensures value { Gives (λ x. (x.0, x.1.now)) cause_in result
+        (spec.cost_behind is_written context.now line text.now) }
     ensures utf8 { IfOk result (λ x. is_utf8 x.1.now ≡ true) }
 {
     if is_written {
@@ -216,7 +219,8 @@ fn assertion_at<'a>(
 ) -> Result<(Assertion, &'a [u8]), ReadFault>
     requires sign { begins text.now equals ≡ true }
     requires utf8 { is_utf8 text.now ≡ true }
-    ensures value { Gives (λ x. (x.0, x.1.now)) cause_in result (amounts.assertion_at context.now line text.now) }
+    ensures value { Gives (λ x. (x.0, x.1.now)) cause_in result
+        (amounts.assertion_at context.now line text.now) }
     ensures utf8 { IfOk result (λ x. is_utf8 x.1.now ≡ true) }
 {
     let only = is_only(text);
@@ -242,7 +246,8 @@ fn read_claim<'a>(
     line: u64,
 ) -> Result<(Option<Boxed<Assertion>>, &'a [u8]), ReadFault>
     requires { is_utf8 text.now ≡ true }
-    ensures value { Gives (λ x. (x.0, x.1.now)) cause_in result (spec.claim_at holder context.now line text.now) }
+    ensures value { Gives (λ x. (x.0, x.1.now)) cause_in result
+        (spec.claim_at holder context.now line text.now) }
     ensures utf8 { IfOk result (λ x. is_utf8 x.1.now ≡ true) }
 {
     if is_entry(holder) && begins(text, b'=') {
@@ -264,7 +269,10 @@ pub fn read_numbers<'a>(
     line: u64,
 ) -> Result<(Numbers, &'a [u8]), ReadFault>
     requires { is_utf8 text.now ≡ true }
-    ensures value { Gives (λ x. (spec.numbers_of x.0.amount x.0.factor x.0.cost x.0.wanted, x.1.now))
+    ensures value { Gives (λ x. (
+      spec.numbers_of x.0.amount x.0.factor x.0.cost x.0.wanted,
+      x.1.now,
+    ))
         cause_in result (spec.numbers_at holder context.now line text.now) }
     ensures utf8 { IfOk result (λ x. is_utf8 x.1.now ≡ true) }
 {

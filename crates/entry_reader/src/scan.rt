@@ -130,7 +130,8 @@ pub fn after(text: &[u8], byte: u8) -> &[u8]
 pub fn around(text: &[u8], byte: u8) -> (&[u8], &[u8])
     ensures front { result.0.now ≡ spec.before_byte byte text.now }
     ensures back { result.1.now ≡ spec.after_byte byte text.now }
-    ensures utf8 { byte < 128 → is_utf8 text.now ≡ true → (is_utf8 result.0.now ≡ true) × (is_utf8 result.1.now ≡ true) }
+    ensures utf8 { byte < 128 → is_utf8 text.now ≡ true → (is_utf8 result.0.now ≡ true)
+        × (is_utf8 result.1.now ≡ true) }
 {
     let at = place_of(text, byte);
     let (front, _) = text.split_at(at);
@@ -212,7 +213,8 @@ pub fn begins_number(text: &[u8]) -> bool
 #[tactic(auto, using(crate::proofs::Texts::first_utf8))]
 pub fn past_first(text: &[u8]) -> &[u8]
     ensures value { result.now ≡ drop 1 text.now }
-    ensures utf8 { spec.starts_ascii text.now ≡ true → is_utf8 text.now ≡ true → is_utf8 result.now ≡ true }
+    ensures utf8 { spec.starts_ascii text.now ≡ true → is_utf8 text.now ≡ true
+        → is_utf8 result.now ≡ true }
 {
     past(text, 0)
 }
@@ -284,7 +286,8 @@ pub fn cut_date(text: &[u8]) -> (&[u8], &[u8])
 pub fn cut_symbol(text: &[u8]) -> (&[u8], &[u8])
     ensures symbol { result.0.now ≡ take (prefix_len symbols.is_symbol_byte text.now) text.now }
     ensures rest { result.1.now ≡ drop (prefix_len symbols.is_symbol_byte text.now) text.now }
-    ensures utf8 { is_utf8 text.now ≡ true → (is_utf8 result.0.now ≡ true) × (is_utf8 result.1.now ≡ true) }
+    ensures utf8 { is_utf8 text.now ≡ true → (is_utf8 result.0.now ≡ true)
+        × (is_utf8 result.1.now ≡ true) }
 {
     text.split_at(symbol_length(text))
 }
@@ -294,7 +297,8 @@ pub fn cut_line(text: &[u8]) -> (&[u8], &[u8])
     requires { 0 < length text.now }
     ensures cut { spec.contents_of text.now ≡ result.0.now ∷ spec.contents_of result.1.now }
     ensures shorter { length result.1.now < length text.now }
-    ensures utf8 { is_utf8 text.now ≡ true → (is_utf8 result.0.now ≡ true) × (is_utf8 result.1.now ≡ true) }
+    ensures utf8 { is_utf8 text.now ≡ true → (is_utf8 result.0.now ≡ true)
+        × (is_utf8 result.1.now ≡ true) }
 {
     let end = place_of(text, b'\n');
     let (line, _) = text.split_at(end);

@@ -26,7 +26,8 @@ pub fn ends_amount(text: &[u8]) -> bool
 pub fn cut_name(text: &[u8]) -> (&[u8], &[u8])
     ensures name { result.0.now ≡ spec.symbol_name text.now }
     ensures rest { result.1.now ≡ spec.after_symbol text.now }
-    ensures utf8 { is_utf8 text.now ≡ true → (is_utf8 result.0.now ≡ true) × (is_utf8 result.1.now ≡ true) }
+    ensures utf8 { is_utf8 text.now ≡ true → (is_utf8 result.0.now ≡ true)
+        × (is_utf8 result.1.now ≡ true) }
 {
     if begins(text, b'"') {
         let inside = past_first(text);

@@ -9,7 +9,8 @@ use hl_base::{Shelf, Source};
 /// then the record of each change. The last image is that of the two files, where its revision is at most 2^62, as of each store
 /// that the machine keeps.
 pub fn fed_frames_are_genuine(frames: &[u8])
-    ensures { (first second : List ℕ) (fed : AreFed first second frames.now) → fed.shown.revision ≤ 2 ^ 62 → AreOfHistory frames.now fed.shown }
+    ensures { (first second : List ℕ) (fed : AreFed first second frames.now)
+        → fed.shown.revision ≤ 2 ^ 62 → AreOfHistory frames.now fed.shown }
 {}
 
 /// `feed` and `follow`: where what a store feeds is followed, as `feed_store` and `follow_store` do, by a replica that is new, or that

@@ -41,7 +41,8 @@ fn follow_next<J: Source, D: Disk>(
     follower: &mut Follower<D>,
 ) -> Result<Option<Accepted>, Stop>
     ensures steps { StepsOn J.Source D.Disk source.old source.new follower.old follower.new result }
-    ensures sound { J.IsSound source.old → IfErr result (λ stop. IfFailed stop ⊥) × J.IsSound source.new }
+    ensures sound { J.IsSound source.old → IfErr result (λ stop. IfFailed stop ⊥)
+        × J.IsSound source.new }
 {
     match next_frame(alloc, source) {
         Err(fault) => Err(Stop::Unread(fault)),
@@ -59,7 +60,8 @@ fn follow_all<J: Source, D: Disk>(
     follower: &mut Follower<D>,
     tally: &mut Tally,
 ) -> Result<(), Stop>
-    ensures { Follows J.Source D.Disk source.old source.new follower.old follower.new tally.entry.now tally.exit.now result }
+    ensures { Follows J.Source D.Disk source.old source.new follower.old follower.new
+        tally.entry.now tally.exit.now result }
 {
     for _ in 0..u64::MAX {
         match follow_next(alloc, source, follower) {
@@ -81,7 +83,8 @@ pub fn follow_source<J: Source, D: Disk>(
     follower: &mut Follower<D>,
     tally: &mut Tally,
 ) -> Result<(), Stop>
-    ensures follows { Follows J.Source D.Disk source.old source.new follower.old follower.new tally.entry.now tally.exit.now result }
+    ensures follows { Follows J.Source D.Disk source.old source.new follower.old follower.new
+        tally.entry.now tally.exit.now result }
 
     // Over frames of one history, in any cutting into reads, a follower that has an image of it has one that isn't earlier.
     ensures genuine { LeadsOn (J.left source.old) follower.old.image follower.new.image }

@@ -25,13 +25,15 @@ fn read_some<J: Source>(
 ) -> Result<(), FrameFault>
     requires room { 0 < length room.old }
     requires below { vec_len bytes.old < most }
-    ensures read { OnOk result (ReadsOn (J.left source.old) (J.left source.new) bytes.old.items bytes.new.items) }
+    ensures read { OnOk result (ReadsOn (J.left source.old) (J.left source.new) bytes.old.items
+        bytes.new.items) }
     ensures longer { vec_len bytes.old ≤ vec_len bytes.new }
     ensures within { vec_len bytes.new ≤ most }
     ensures refused { IfErr result (ReadRefused (J.faults source.old) (J.faults source.new)) }
     ensures counted { J.faults source.old ≤ J.faults source.new }
     ensures steady { OnOk result (J.faults source.new ≡ J.faults source.old) }
-    ensures sound { J.IsSound source.old → (result ≢ Err FrameFault.ReadFault) × J.IsSound source.new }
+    ensures sound { J.IsSound source.old → (result ≢ Err FrameFault.ReadFault)
+        × J.IsSound source.new }
 {
     let wanted = room.len().min(most - bytes.len());
     let front = &mut room[..wanted];
@@ -49,14 +51,17 @@ pub fn fill<J: Source>(
     count: usize,
 ) -> Result<(), FrameFault>
     requires { vec_len bytes.old ≤ count }
-    ensures read { OnOk result (FillsOn (J.left source.old) (J.left source.new) bytes.old.items bytes.new.items) }
-    ensures end { OnOk result (vec_len bytes.new < count → Ends (J.left source.old) (J.left source.new)) }
+    ensures read { OnOk result (FillsOn (J.left source.old) (J.left source.new) bytes.old.items
+        bytes.new.items) }
+    ensures end { OnOk result (vec_len bytes.new < count
+        → Ends (J.left source.old) (J.left source.new)) }
     ensures longer { vec_len bytes.old ≤ vec_len bytes.new }
     ensures within { vec_len bytes.new ≤ count }
     ensures refused { IfErr result (ReadRefused (J.faults source.old) (J.faults source.new)) }
     ensures counted { J.faults source.old ≤ J.faults source.new }
     ensures steady { OnOk result (J.faults source.new ≡ J.faults source.old) }
-    ensures sound { J.IsSound source.old → (result ≢ Err FrameFault.ReadFault) × J.IsSound source.new }
+    ensures sound { J.IsSound source.old → (result ≢ Err FrameFault.ReadFault)
+        × J.IsSound source.new }
 {
     let mut room = zeros(alloc, ROOM.min(count - bytes.len()))?;
     while bytes.len() < count {

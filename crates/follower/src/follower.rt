@@ -58,14 +58,20 @@ impl<D: Disk> Follower<D> {
         frame: &Frame,
         limit: u64,
     ) -> Result<Follower<D>, (D, D, FollowFault)>
-        ensures made { IfOk result (λ made. (frame.now.kind ≡ 67) × (snapshot frame.now ≡ Some made.image)
-            × Told D.Disk (first, second) (λ f s. (f ≡ []) × (s ≡ []) × Stands made.store made.image None)) }
-        ensures numbers { IfOk result (λ made. (size_of made.store ≡ whole_size made.image) × (limit_of made.store ≡ limit)) }
-        ensures cause { IfErr result (λ e. MakingRefused D.Disk (first, second) (e.0, e.1) frame.now limit e.2) }
+        ensures made { IfOk result (λ made. (frame.now.kind ≡ 67)
+            × (snapshot frame.now ≡ Some made.image)
+            × Told D.Disk (first, second) (λ f s. (f ≡ []) × (s ≡ [])
+            × Stands made.store made.image None)) }
+        ensures numbers { IfOk result (λ made. (size_of made.store ≡ whole_size made.image)
+            × (limit_of made.store ≡ limit)) }
+        ensures cause { IfErr result (λ e.
+            MakingRefused D.Disk (first, second) (e.0, e.1) frame.now limit e.2) }
 
         // A crash at any moment leaves files that it might have left before, files without an image, or the frame's.
-        ensures any_moment { Told D.Disk (first, second) (λ _ _. Tell D.Disk (first, second) → (shown : Image) → snapshot frame.now ≡ Some shown
-            → Throughout D.Disk (first, second) (disks_of result) (WhileMade D.Disk (first, second) shown)) }
+        ensures any_moment { Told D.Disk (first, second) (λ _ _. Tell D.Disk (first, second)
+            → (shown : Image) → snapshot frame.now ≡ Some shown
+            → Throughout D.Disk (first, second) (disks_of result)
+            (WhileMade D.Disk (first, second) shown)) }
         ensures keeps { Keeps D.Disk (first, second) (disks_of result) (limit, limit) }
     {
         if frame.kind != b'C' {
@@ -84,21 +90,28 @@ impl<D: Disk> Follower<D> {
 
     /// Opens two files as a follower.
     pub fn open(alloc: Global, first: D, second: D) -> Result<Follower<D>, (D, D, FollowFault)>
-        ensures opened { IfOk result (λ opened. Told D.Disk (first, second) (λ f s. (files.image f s ≡ Ok opened.image) × Stands opened.store opened.image None
+        ensures opened { IfOk result (λ opened.
+            Told D.Disk (first, second) (λ f s. (files.image f s ≡ Ok opened.image)
+            × Stands opened.store opened.image None
             × (limit_of opened.store ≡ opened_limit f s))) }
         ensures cause { IfErr result (λ e. OpeningRefused D.Disk (first, second) (e.0, e.1) e.2) }
 
         // A crash at any moment leaves files that it might have left before, or files with the image, or the want of one, of
         // those that the disks read as, which it might have left before.
         ensures any_moment { Told D.Disk (first, second) (λ f s. Tell D.Disk (first, second)
-            → Throughout D.Disk (first, second) (disks_of result) (WhileOpened D.Disk (first, second) f s)) }
-        ensures keeps { Told D.Disk (first, second) (λ f s. Keeps D.Disk (first, second) (disks_of result)
+            → Throughout D.Disk (first, second) (disks_of result)
+            (WhileOpened D.Disk (first, second) f s)) }
+        ensures keeps { Told D.Disk (first, second) (λ f s.
+            Keeps D.Disk (first, second) (disks_of result)
             (max (opened_limit f s) (length f), max (opened_limit f s) (length s))) }
 
         // No call since reaches further than the limit, or than the length that the file had.
-        ensures bounds { IfOk result (λ opened. Told D.Disk (first, second) (λ f s. ((bounds opened.store).0 ≤ max (limit_of opened.store) (length f))
+        ensures bounds { IfOk result (λ opened.
+            Told D.Disk (first, second) (λ f s.
+            ((bounds opened.store).0 ≤ max (limit_of opened.store) (length f))
             × ((bounds opened.store).1 ≤ max (limit_of opened.store) (length s)))) }
-        ensures no_fault { IfOk result (λ opened. fault_count D.Disk (disks opened.store) ≡ fault_count D.Disk (first, second)) }
+        ensures no_fault { IfOk result (λ opened.
+            fault_count D.Disk (disks opened.store) ≡ fault_count D.Disk (first, second)) }
     {
         match Store::open(alloc, first, second) {
             Ok((store, image)) => Ok(Follower { store, image }),
@@ -150,11 +163,16 @@ impl<D: Disk> Follower<D> {
         requires writable { IsWritable shown }
         requires revision { shown.revision ≤ 2 ^ 62 }
         ensures image { IfOk result (λ made. made.image ≡ shown) }
-        ensures made { IfOk result (λ made. Told D.Disk (first, second) (λ f s. (f ≡ []) × (s ≡ []) × Stands made.store shown None)) }
-        ensures numbers { IfOk result (λ made. (size_of made.store ≡ whole_size shown) × (limit_of made.store ≡ limit)) }
-        ensures cause { IfErr result (λ e. IsUnmade D.Disk (first, second) (e.0, e.1) (whole_size shown) limit e.2) }
+        ensures made { IfOk result (λ made.
+            Told D.Disk (first, second) (λ f s. (f ≡ []) × (s ≡ [])
+            × Stands made.store shown None)) }
+        ensures numbers { IfOk result (λ made. (size_of made.store ≡ whole_size shown)
+            × (limit_of made.store ≡ limit)) }
+        ensures cause { IfErr result (λ e.
+            IsUnmade D.Disk (first, second) (e.0, e.1) (whole_size shown) limit e.2) }
         ensures any_moment { Told D.Disk (first, second) (λ _ _. Tell D.Disk (first, second)
-            → Throughout D.Disk (first, second) (disks_of result) (WhileMade D.Disk (first, second) shown)) }
+            → Throughout D.Disk (first, second) (disks_of result)
+            (WhileMade D.Disk (first, second) shown)) }
         ensures keeps { Keeps D.Disk (first, second) (disks_of result) (limit, limit) }
     {
         match Store::create_image(alloc, first, second, &shown, limit) {

@@ -21,12 +21,15 @@ pub struct Frame {
 /// length in 8 bytes, and the payload, at most 33,554,432 bytes; numbers have their low byte first. Its bytes are judged in their
 /// order, and no byte behind it is read.
 pub fn next_frame<J: Source>(alloc: Global, source: &mut J) -> Result<Option<Frame>, FrameFault>
-    ensures found { IfOk result (λ found. IfSome (J.left source.old) (λ bytes. (rest : List ℕ) × (J.left source.new ≡ Some rest)
+    ensures found { IfOk result (λ found.
+        IfSome (J.left source.old) (λ bytes. (rest : List ℕ) × (J.left source.new ≡ Some rest)
         × BeginsWith bytes found rest)) }
-    ensures refused { IfErr result (NextRefused (J.left source.old) (J.faults source.old) (J.faults source.new)) }
+    ensures refused { IfErr result (NextRefused (J.left source.old) (J.faults source.old)
+        (J.faults source.new)) }
     ensures counted { J.faults source.old ≤ J.faults source.new }
     ensures steady { OnOk result (J.faults source.new ≡ J.faults source.old) }
-    ensures sound { J.IsSound source.old → (result ≢ Err FrameFault.ReadFault) × J.IsSound source.new }
+    ensures sound { J.IsSound source.old → (result ≢ Err FrameFault.ReadFault)
+        × J.IsSound source.new }
 {
     let Some(head) = next_head(alloc, source)? else {
         return Ok(None);

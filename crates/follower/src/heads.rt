@@ -48,7 +48,8 @@ fn number_at(bytes: &[u8], at: usize) -> u64
 // The same, of which these are the bytes.
 fn spelled_at(bytes: &[u8], at: usize) -> u64
     requires { at + 8 ≤ length bytes.now }
-    ensures { (result ≡ from_le_bytes w64 (take 8 (drop at bytes.now))) × (to_le_bytes w64 result ≡ take 8 (drop at bytes.now)) }
+    ensures { (result ≡ from_le_bytes w64 (take 8 (drop at bytes.now)))
+        × (to_le_bytes w64 result ≡ take 8 (drop at bytes.now)) }
 {
     number_at(bytes, at)
 }
@@ -60,13 +61,17 @@ fn next_kind<J: Source>(
     read: &mut Vec<u8>,
 ) -> Result<Option<u8>, FrameFault>
     requires { read.old.items ≡ [] }
-    ensures found { IfOk result (λ found. IfSome (J.left source.old) (λ bytes. (rest : List ℕ) × (J.left source.new ≡ Some rest)
+    ensures found { IfOk result (λ found.
+        IfSome (J.left source.old) (λ bytes. (rest : List ℕ) × (J.left source.new ≡ Some rest)
         × BeginsUpTo bytes found read.new.items rest)) }
-    ensures nine { IfOk result (λ found. IfSome found (λ kind. (vec_len read.new ≡ 9) × (is_kind kind ≡ true))) }
-    ensures refused { IfErr result (NextRefused (J.left source.old) (J.faults source.old) (J.faults source.new)) }
+    ensures nine { IfOk result (λ found.
+        IfSome found (λ kind. (vec_len read.new ≡ 9) × (is_kind kind ≡ true))) }
+    ensures refused { IfErr result (NextRefused (J.left source.old) (J.faults source.old)
+        (J.faults source.new)) }
     ensures counted { J.faults source.old ≤ J.faults source.new }
     ensures steady { OnOk result (J.faults source.new ≡ J.faults source.old) }
-    ensures sound { J.IsSound source.old → (result ≢ Err FrameFault.ReadFault) × J.IsSound source.new }
+    ensures sound { J.IsSound source.old → (result ≢ Err FrameFault.ReadFault)
+        × J.IsSound source.new }
 {
     fill(alloc, source, read, 9)?;
     let had = read.len();
@@ -85,13 +90,17 @@ fn next_kind<J: Source>(
 
 /// The head of the next frame, none at the end. Its bytes are judged in their order.
 pub fn next_head<J: Source>(alloc: Global, source: &mut J) -> Result<Option<Head>, FrameFault>
-    ensures found { IfOk result (λ found. IfSome (J.left source.old) (λ bytes. (rest : List ℕ) × (J.left source.new ≡ Some rest)
+    ensures found { IfOk result (λ found.
+        IfSome (J.left source.old) (λ bytes. (rest : List ℕ) × (J.left source.new ≡ Some rest)
         × BeginsAt bytes found rest)) }
-    ensures small { IfOk result (λ found. IfSome found (λ head. (head.len ≤ most) × (is_kind head.kind ≡ true))) }
-    ensures refused { IfErr result (NextRefused (J.left source.old) (J.faults source.old) (J.faults source.new)) }
+    ensures small { IfOk result (λ found.
+        IfSome found (λ head. (head.len ≤ most) × (is_kind head.kind ≡ true))) }
+    ensures refused { IfErr result (NextRefused (J.left source.old) (J.faults source.old)
+        (J.faults source.new)) }
     ensures counted { J.faults source.old ≤ J.faults source.new }
     ensures steady { OnOk result (J.faults source.new ≡ J.faults source.old) }
-    ensures sound { J.IsSound source.old → (result ≢ Err FrameFault.ReadFault) × J.IsSound source.new }
+    ensures sound { J.IsSound source.old → (result ≢ Err FrameFault.ReadFault)
+        × J.IsSound source.new }
 {
     let mut read = Vec::new(alloc);
     let Some(kind) = next_kind(alloc, source, &mut read)? else {

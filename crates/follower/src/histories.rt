@@ -15,15 +15,18 @@ use hl_base::Disk;
 /// that isn't earlier: its text, its import states and its revision are those after the first so many changes, as many as its revision
 /// says, and its revision never falls. Each step is as `Follower::accept` answers.
 pub fn genuine_frames_lead_on()
-    ensures { (start : Image) (changes : List Change) (n : ℕ) (shown end : Image) (steps : List (Frame × Result Accepted FollowFault))
+    ensures { (start : Image) (changes : List Change) (n : ℕ) (shown end : Image)
+        (steps : List (Frame × Result Accepted FollowFault))
         → IsAfter start n changes shown → AreGenuine start changes steps → LeadTo shown steps end
-        → (m : ℕ) × (n ≤ m) × (end.revision ≡ start.revision + m) × (shown.revision ≤ end.revision) × IsAfter start m changes end }
+        → (m : ℕ) × (n ≤ m) × (end.revision ≡ start.revision + m) × (shown.revision ≤ end.revision)
+        × IsAfter start m changes end }
 {}
 
 /// The `C` of a history gives an image of it, with which a follower begins.
 pub fn genuine_snapshots_begin()
     ensures { (start : Image) (changes : List Change) (frame : Frame) (shown : Image)
-        → IsGenuine start changes frame → frame.kind ≡ 67 → snapshot frame ≡ Some shown → (n : ℕ) × IsAfter start n changes shown }
+        → IsGenuine start changes frame → frame.kind ≡ 67 → snapshot frame ≡ Some shown → (n : ℕ)
+        × IsAfter start n changes shown }
 {}
 
 /// Whatever frames a follower has accepted since it was made or opened, a crash at any moment of the next `Follower::accept` leaves its

@@ -23,7 +23,9 @@ pub struct Prepared {
 /// The image of a `C`, if its payload reads and its revision is at most 2^62.
 pub fn snapshot_of(alloc: Global, frame: &Frame) -> Result<Option<Image>, Memory>
     ensures image { IfOk result (λ found. found ≡ snapshot frame.now) }
-    ensures writable { IfOk result (λ found. IfSome found (λ image. IsWritable image × (image.revision ≤ 2 ^ 62) × (image.revision ≡ frame.now.revision))) }
+    ensures writable { IfOk result (λ found.
+        IfSome found (λ image. IsWritable image × (image.revision ≤ 2 ^ 62)
+        × (image.revision ≡ frame.now.revision))) }
 {
     if frame.revision > LAST {
         return Ok(None);

@@ -20,7 +20,8 @@ pub fn take_text(alloc: Global, image: &mut Image) -> Vec<u8>
 fn reserve_part(text: &mut Vec<u8>, part: &Splice) -> Result<(), Memory>
     ensures items { text.new.items ≡ text.old.items }
     ensures len { vec_len text.new ≡ vec_len text.old }
-    ensures room { OnOk result (vec_len text.new + length part.now.inserted ≤ vec_capacity text.new) }
+    ensures room { OnOk result (vec_len text.new + length part.now.inserted
+        ≤ vec_capacity text.new) }
 {
     text.reserve(part.inserted.as_slice().len())?;
     Ok(())

@@ -63,7 +63,8 @@ pub fn report_follower<D: Disk, M: Maker, L: Ledger>(
     steps: &mut Steps<L>,
 ) -> Result<Bytes, ShowFault>
     requires { IsDay day.0 }
-    ensures { Shows day.0 follower.now.image.text words.now (M.refusals maker.old) (M.refusals maker.new)
+    ensures { Shows day.0 follower.now.image.text words.now (M.refusals maker.old)
+        (M.refusals maker.new)
         (M.last_refused maker.old) (M.last_refused maker.new) result }
 {
     let image = follower.image();

@@ -22,7 +22,10 @@ pub fn div_round(num: i128, den: i128, places: u8) -> Result<Dec, DivRange>
     requires positive { pos 0 <ℤ den }
     requires few { places ≤ 18 }
     ensures { result ≡ (if nat_lt (unsigned_abs num * 10 ^ places) (2 ^ 127)
-        then Ok (record { mantissa = signed_half_even (num *ℤ pos (10 ^ places)) (unsigned_abs den); places = places })
+        then Ok (record {
+          mantissa = signed_half_even (num *ℤ pos (10 ^ places)) (unsigned_abs den);
+          places = places;
+        })
         else Err (record { num = num; den = den })) }
 {
     match num.unsigned_abs().checked_mul(power_of_ten(places)) {
@@ -94,7 +97,8 @@ impl Dec {
     /// The product, without zeros at the end of its decimals. `Range` comes exactly where the product of the
     /// mantissas reaches 2^127, or the places sum past 36.
     pub fn mul(self, other: Dec) -> Result<Dec, Range>
-        ensures value { IfOk result (λ product. units_of product *ℤ pos (10 ^ 36) ≡ units_of self *ℤ units_of other) }
+        ensures value { IfOk result (λ product.
+            units_of product *ℤ pos (10 ^ 36) ≡ units_of self *ℤ units_of other) }
         ensures trimmed { IfOk result IsTrimmed }
         ensures fits { is_ok result ≡ mul_fits self other }
         ensures range { IfErr result (λ range. range ≡ record { a = self; b = other }) }
@@ -130,7 +134,8 @@ impl Dec {
 
     /// How far the value is above that integer, in units of 10^-36.
     fn above_floor(self) -> u128
-        ensures { result ≡ unsigned_abs (int_rem_euclid self.mantissa (pos (10 ^ self.places))) * 10 ^ (36 - self.places) }
+        ensures { result ≡ unsigned_abs (int_rem_euclid self.mantissa (pos (10 ^ self.places))) * 10
+            ^ (36 - self.places) }
     {
         let rest = self.mantissa.rem_euclid(power_of_ten(self.places) as i128);
         rest.unsigned_abs() * power_of_ten(36 - self.places)

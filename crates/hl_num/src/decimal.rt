@@ -156,7 +156,8 @@ impl Dec {
         requires more { self.places ≤ places }
         requires more_still { other.places ≤ places }
         requires few { places ≤ 36 }
-        ensures value { IfSome result (λ sum. sum ≡ mantissa_at self places +ℤ mantissa_at other places) }
+        ensures value { IfSome result (λ sum.
+            sum ≡ mantissa_at self places +ℤ mantissa_at other places) }
         ensures fits { is_some result ≡ sum_fits_at self other places }
     {
         if self.places == places && other.places == places {
@@ -170,7 +171,8 @@ impl Dec {
     #[inline]
     fn sum_alike(self, other: Dec) -> Option<i128>
         ensures value { IfSome result (λ sum. sum ≡ self.mantissa +ℤ other.mantissa) }
-        ensures fits { is_some result ≡ nat_lt (unsigned_abs (self.mantissa +ℤ other.mantissa)) (2 ^ 127) }
+        ensures fits { is_some result
+            ≡ nat_lt (unsigned_abs (self.mantissa +ℤ other.mantissa)) (2 ^ 127) }
     {
         bounded(self.mantissa.checked_add(other.mantissa)?)
     }
@@ -181,7 +183,8 @@ impl Dec {
         requires more { self.places ≤ places }
         requires more_still { other.places ≤ places }
         requires few { places ≤ 36 }
-        ensures value { IfSome result (λ sum. sum ≡ mantissa_at self places +ℤ mantissa_at other places) }
+        ensures value { IfSome result (λ sum.
+            sum ≡ mantissa_at self places +ℤ mantissa_at other places) }
         ensures fits { is_some result ≡ sum_fits_at self other places }
     {
         let a = self.mantissa_at(places)?;

@@ -73,7 +73,8 @@ fn push_decimals(
     places: u8,
     shape: &Shape,
 ) -> Result<(), Memory>
-    ensures { OnOk result (string_bytes text.new ≡ string_bytes text.old ++ decimals shape.now places fraction) }
+    ensures { OnOk result (string_bytes text.new ≡ string_bytes text.old
+        ++ decimals shape.now places fraction) }
 {
     if 0 < places {
         text.push(char::from(shape.mark))?;
@@ -85,8 +86,10 @@ fn push_decimals(
 /// The digits left and right of the decimal mark, as numbers, of the magnitude that is rounded to that many places.
 fn rounded_parts(value: Dec, places: u8) -> (u128, u128)
     requires { places ≤ 36 }
-    ensures whole { result.0 ≡ half_even (unsigned_abs (units_of value)) (10 ^ (36 - places)) / 10 ^ places }
-    ensures fraction { result.1 ≡ half_even (unsigned_abs (units_of value)) (10 ^ (36 - places)) % 10 ^ places }
+    ensures whole { result.0 ≡ half_even (unsigned_abs (units_of value)) (10 ^ (36 - places)) / 10 ^
+        places }
+    ensures fraction { result.1 ≡ half_even (unsigned_abs (units_of value)) (10 ^ (36 - places)) %
+        10 ^ places }
 {
     let magnitude = value.magnitude();
     if value.places <= places {
@@ -104,7 +107,8 @@ fn rounded_parts(value: Dec, places: u8) -> (u128, u128)
 
 /// Puts the digits of a number with their group marks.
 fn push_grouped(alloc: Global, text: &mut String, number: u128, shape: &Shape) -> Result<(), Memory>
-    ensures { OnOk result (string_bytes text.new ≡ string_bytes text.old ++ grouped shape.now (decimal number)) }
+    ensures { OnOk result (string_bytes text.new ≡ string_bytes text.old
+        ++ grouped shape.now (decimal number)) }
 {
     let digits = number.to_string(alloc)?;
     let bytes = digits.as_bytes();
@@ -117,7 +121,8 @@ fn push_grouped(alloc: Global, text: &mut String, number: u128, shape: &Shape) -
 
 /// Puts a group mark, where a group ends.
 fn push_separator(text: &mut String, shape: &Shape, after: usize) -> Result<(), Memory>
-    ensures { OnOk result (string_bytes text.new ≡ string_bytes text.old ++ separator shape.now after) }
+    ensures { OnOk result (string_bytes text.new ≡ string_bytes text.old
+        ++ separator shape.now after) }
 {
     if shape.ends_group(after)
         && let Some(mark) = shape.group
@@ -129,7 +134,8 @@ fn push_separator(text: &mut String, shape: &Shape, after: usize) -> Result<(), 
 
 /// Puts the digits of a number, after as many zeros as make up the width.
 fn push_padded(alloc: Global, text: &mut String, number: u128, width: usize) -> Result<(), Memory>
-    ensures { OnOk result (string_bytes text.new ≡ string_bytes text.old ++ zero_padded width number) }
+    ensures { OnOk result (string_bytes text.new ≡ string_bytes text.old
+        ++ zero_padded width number) }
 {
     let digits = number.to_string(alloc)?;
     for _ in 0..width.saturating_sub(digits.len()) {

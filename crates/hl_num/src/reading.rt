@@ -82,7 +82,8 @@ fn count_of(text: &[u8], byte: u8) -> usize
 
 /// Whether the last mark is the decimal mark.
 fn is_kept(text: &[u8], mark: u8) -> bool
-    ensures { result ≡ (list_any (λ b. b == other_mark mark) text.now || nat_lt (count_by (λ b. b == mark) text.now) 2) }
+    ensures { result ≡ (list_any (λ b.
+        b == other_mark mark) text.now || nat_lt (count_by (λ b. b == mark) text.now) 2) }
 {
     has_byte(text, other_mark(mark)) || count_of(text, mark) < 2
 }
@@ -160,7 +161,8 @@ fn place_of(text: &[u8], byte: u8) -> usize
 
 /// The value of the digits, where it stays below 2^127.
 fn mantissa(text: &[u8]) -> Option<u128>
-    ensures { result ≡ (if nat_lt (mantissa_of text.now) (2 ^ 127) then Some (mantissa_of text.now) else None) }
+    ensures { result ≡ (if nat_lt (mantissa_of text.now) (2 ^ 127) then Some (mantissa_of text.now)
+        else None) }
 {
     let mut value: u128 = 0;
     for byte in text {
@@ -199,7 +201,8 @@ struct Groups {
 
 /// The groups of the bytes left of the decimal mark.
 fn groups_of(whole: &[u8]) -> Groups
-    ensures { IsSummary (group_sizes whole.now) result.marks result.last result.previous result.are_full }
+    ensures { IsSummary (group_sizes whole.now) result.marks result.last result.previous
+        result.are_full }
 {
     let mut groups = Groups {
         marks: 0,

@@ -21,9 +21,11 @@ const EPOCH_DAY: i32 = 719_163;
 
 /// The day of a year, month and day of the month, where the calendar has it.
 pub fn day_of(year: u16, month: u8, day: u8) -> Option<Day>
-    ensures number { result ≡ (if has_day year month day then Some (record { 0 = day_number year month day }) else None) }
+    ensures number { result ≡ (if has_day year month day then Some
+        (record { 0 = day_number year month day }) else None) }
     ensures range { IfSome result (λ found. IsDay found.0) }
-    ensures back { IfSome result (λ found. (year_of found.0 ≡ year) × (month_of found.0 ≡ month) × (day_of_month found.0 ≡ day)) }
+    ensures back { IfSome result (λ found. (year_of found.0 ≡ year) × (month_of found.0 ≡ month)
+        × (day_of_month found.0 ≡ day)) }
 {
     if year < 1 || year > 9999 || month > 12 || day > 31 {
         return None;

@@ -220,7 +220,8 @@ fn after_dots(
     requires small { at ≤ 12 }
     requires first { (1 ≤ first) × (first ≤ day_end) }
     requires units { IfSome interval (λ i. 1 ≤ i.n) }
-    ensures answer { result ≡ spec.dots_by (spec.word_at words.now at) first interval today.0 words.now at }
+    ensures answer { result ≡ spec.dots_by (spec.word_at words.now at) first interval today.0
+        words.now at }
     ensures valid { IfOk result IsPeriod }
 {
     match word_at(words, at) {
@@ -292,7 +293,8 @@ fn interval_then(unit: Unit, n: u16, today: Day, words: &[Word], at: usize) -> R
     requires today { IsDay today.0 }
     requires small { at ≤ 8 }
     requires units { 1 ≤ n }
-    ensures answer { result ≡ spec.interval_then (record { unit = unit; n = n }) today.0 words.now at }
+    ensures answer { result ≡ spec.interval_then (record { unit = unit; n = n }) today.0 words.now
+        at }
     ensures valid { IfOk result IsPeriod }
 {
     let interval = Interval { unit, n };

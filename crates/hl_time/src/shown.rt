@@ -50,7 +50,8 @@ pub fn print_day(day: Day) -> [u8; 10]
 
 fn push_two(text: &mut String, number: u8) -> Result<(), Memory>
     requires { number < 100 }
-    ensures { OnOk result (string_bytes text.new ≡ string_bytes text.old ++ spec.two_digits number) }
+    ensures { OnOk result (string_bytes text.new ≡ string_bytes text.old
+        ++ spec.two_digits number) }
 {
     text.push(char::from(tens(number)))?;
     text.push(char::from(ones(number)))?;
@@ -93,7 +94,8 @@ fn push_days(text: &mut String, first: Day, end: u32) -> Result<(), Memory>
     requires first { IsDay first.0 }
     requires some { first.0 < end }
     requires last { end ≤ day_end }
-    ensures { OnOk result (string_bytes text.new ≡ string_bytes text.old ++ spec.days_text first.0 end) }
+    ensures { OnOk result (string_bytes text.new ≡ string_bytes text.old
+        ++ spec.days_text first.0 end) }
 {
     let date = civil_of(first);
     if is_unit(Unit::Year, first, end) {

@@ -42,7 +42,8 @@ pub fn unit_of(unit: Unit, day: Day) -> u32
 /// The first day of a month, if it begins by the end of all days.
 #[tactic(auto, unfolding(crate::specs::Units::month_start))]
 fn month_start(months: u32) -> Option<u32>
-    ensures { result ≡ (if nat_le (spec.month_start months) day_end then Some (spec.month_start months) else None) }
+    ensures { result ≡ (if nat_le (spec.month_start months) day_end then Some
+        (spec.month_start months) else None) }
 {
     if months > ALL_MONTHS {
         return None;

@@ -199,7 +199,8 @@ pub(crate) fn whole(unit: Unit, index: u32) -> Option<Span>
 
 #[tactic(auto, unfolding(crate::specs::Words::is_quarter))]
 fn quarter_of(word: &[u8]) -> Option<u8>
-    ensures { result ≡ (if spec.is_quarter word.now then Some (slice_index word.now 5 - 49) else None) }
+    ensures { result ≡ (if spec.is_quarter word.now then Some (slice_index word.now 5 - 49) else
+        None) }
 {
     if word.len() == 6
         && (word[4] == b'Q' || word[4] == b'q')

@@ -23,7 +23,8 @@ pub(crate) fn byte_at(text: &[u8], at: usize) -> u8
 
 /// What the digit at a place counts, if one stands there.
 pub(crate) fn digit_at(text: &[u8], at: usize) -> Option<u8>
-    ensures { result ≡ (if spec.is_digit_at text.now at then Some (spec.digit_at text.now at) else None) }
+    ensures { result ≡ (if spec.is_digit_at text.now at then Some (spec.digit_at text.now at) else
+        None) }
 {
     let byte = byte_at(text, at);
     if byte.is_ascii_digit() {
@@ -125,7 +126,8 @@ pub(crate) fn is_separator(byte: u8) -> bool
 /// The year that four digits write, or the place of the first that is none.
 #[tactic(auto, unfolding(crate::specs::Date::year_digits, crate::specs::Date::year_value))]
 pub(crate) fn read_year(text: &[u8]) -> Result<u16, usize>
-    ensures { result ≡ (if spec.year_digits text.now == 4 then Ok (spec.year_value text.now) else Err (spec.year_digits text.now)) }
+    ensures { result ≡ (if spec.year_digits text.now == 4 then Ok (spec.year_value text.now) else
+        Err (spec.year_digits text.now)) }
 {
     let Some(thousands) = digit_at(text, 0) else {
         return Err(0)

@@ -148,7 +148,8 @@ fn account_list(alloc: Global, takings: &[Taking], columns: List<Span>) -> Resul
 
 /// The line of each row's account.
 fn row_accounts(alloc: Global, rows: &[CellRow]) -> Result<Bytes, Memory>
-    ensures { IfOk result (λ text. text ≡ flat_map (λ row. row.account ++ line_feed ∷ []) rows.now) }
+    ensures { IfOk result (λ text.
+        text ≡ flat_map (λ row. row.account ++ line_feed ∷ []) rows.now) }
 {
     let mut out = Vec::new(alloc);
     for row in rows {

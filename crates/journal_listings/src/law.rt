@@ -19,5 +19,6 @@ pub fn nothing_asked()
         → print_text (question_of scope) (styled styles)
         ≡ journal_text (styled styles) (detail_of scope.options.now) scope.book.now.txns }
     ensures accounts { (scope : Scope) → AsksNothing scope → AreDays scope
-        → accounts_text (question_of scope) ≡ account_lines (accounts_of (postings_of scope.book.now.txns)) }
+        → accounts_text (question_of scope)
+        ≡ account_lines (accounts_of (postings_of scope.book.now.txns)) }
 {}

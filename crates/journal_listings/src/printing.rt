@@ -18,7 +18,8 @@ use std::alloc::Global;
 /// each as `print_txn` gives it and with an empty line after it; with `-x` all amounts and costs that balancing found are
 /// shown. A missing bound narrows nothing (docs/DECISIONS.md). Fails only for want of memory.
 pub fn print_report(alloc: Global, scope: &Scope, styles: &Styles) -> Result<Bytes, Memory>
-    ensures { IfOk result (λ text. text ≡ spec.print_text (question_of scope.now) (styled styles.now)) }
+    ensures { IfOk result (λ text.
+        text ≡ spec.print_text (question_of scope.now) (styled styles.now)) }
 {
     let chosen = chosen_of(alloc, scope)?;
     print_chosen(
@@ -123,7 +124,8 @@ fn is_printed(search: &mut Search, scope: &Scope, bounds: Period, txn: &Txn) -> 
 /// Which transactions are printed, an item for each.
 fn chosen_of(alloc: Global, scope: &Scope) -> Result<Vec<bool>, Memory>
     ensures { IfOk result
-        (λ chosen. chosen.items ≡ map (spec.is_printed (question_of scope.now)) scope.now.book.now.txns) }
+        (λ chosen. chosen.items
+        ≡ map (spec.is_printed (question_of scope.now)) scope.now.book.now.txns) }
 {
     let bounds = given(scope);
     let mut search = scope.query.search(alloc)?;

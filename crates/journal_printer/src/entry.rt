@@ -31,7 +31,8 @@ impl Shapes for Context {
 /// amounts without group marks and with the decimal mark that the context decides for the symbol, else a point. What
 /// balancing found isn't shown. Fails only for want of memory.
 pub fn print_entry(alloc: Global, txn: &Txn, context: &Context) -> Result<Bytes, Memory>
-    ensures { IfOk result (λ text. text ≡ txn_text (entry_shape context.now) detailed.Written txn.now) }
+    ensures { IfOk result (λ text.
+        text ≡ txn_text (entry_shape context.now) detailed.Written txn.now) }
 {
     let mut out = Vec::new(alloc);
     push_txn(alloc, &mut out, context, Detail::Written, txn)?;

@@ -75,7 +75,9 @@ pub fn fields_shown<'a, S: Shapes>(
     detail: Detail,
     postings: &'a [Posting],
 ) -> Result<Vec<Fields<'a>>, Memory>
-    ensures { IfOk result (λ fields. fields.items ≡ map (spec.fields_of (S.shape_of shapes.now) detail) (spec.postings_shown detail postings.now)) }
+    ensures { IfOk result (λ fields.
+        fields.items ≡ map (spec.fields_of (S.shape_of shapes.now) detail)
+        (spec.postings_shown detail postings.now)) }
 {
     match detail {
         Detail::Written => fields_written(alloc, shapes, postings),
@@ -89,7 +91,9 @@ fn fields_of_all<'a, S: Shapes>(
     shapes: &S,
     postings: &'a [Posting],
 ) -> Result<Vec<Fields<'a>>, Memory>
-    ensures { IfOk result (λ fields. fields.items ≡ map (spec.fields_of (S.shape_of shapes.now) detailed.Explicit) postings.now) }
+    ensures { IfOk result (λ fields.
+        fields.items ≡ map (spec.fields_of (S.shape_of shapes.now) detailed.Explicit)
+        postings.now) }
 {
     let mut all = Vec::new(alloc);
     for posting in postings {
@@ -105,7 +109,9 @@ fn fields_written<'a, S: Shapes>(
     shapes: &S,
     postings: &'a [Posting],
 ) -> Result<Vec<Fields<'a>>, Memory>
-    ensures { IfOk result (λ fields. fields.items ≡ map (spec.fields_of (S.shape_of shapes.now) detailed.Written) (spec.written_postings postings.now)) }
+    ensures { IfOk result (λ fields.
+        fields.items ≡ map (spec.fields_of (S.shape_of shapes.now) detailed.Written)
+        (spec.written_postings postings.now)) }
 {
     let mut all = Vec::new(alloc);
     let Some((first, rest)) = postings.split_first() else {
@@ -128,7 +134,9 @@ fn add_written<'a, S: Shapes>(
     before: &Posting,
     posting: &'a Posting,
 ) -> Result<(), Memory>
-    ensures { OnOk result (all.new.items ≡ all.old.items ++ map (spec.fields_of (S.shape_of shapes.now) detailed.Written) (spec.unless_of_one before.now posting.now)) }
+    ensures { OnOk result (all.new.items ≡ all.old.items
+        ++ map (spec.fields_of (S.shape_of shapes.now) detailed.Written)
+        (spec.unless_of_one before.now posting.now)) }
 {
     if !are_of_one(before, posting) {
         all.push(fields_of(alloc, shapes, Detail::Written, posting)?)?;
@@ -143,7 +151,8 @@ fn fields_of<'a, S: Shapes>(
     detail: Detail,
     posting: &'a Posting,
 ) -> Result<Fields<'a>, Memory>
-    ensures { IfOk result (λ fields. fields ≡ spec.fields_of (S.shape_of shapes.now) detail posting.now) }
+    ensures { IfOk result (λ fields.
+        fields ≡ spec.fields_of (S.shape_of shapes.now) detail posting.now) }
 {
     let account = account_text(alloc, posting)?;
     let shown = amount_shown(detail, posting);
@@ -189,7 +198,8 @@ fn push_mark(text: &mut String, mark: Mark) -> Result<(), Memory>
 
 /// Puts an account in the brackets of its side.
 fn push_account(text: &mut String, side: Side, account: &str) -> Result<(), Memory>
-    ensures { OnOk result (string_bytes text.new ≡ string_bytes text.old ++ in_brackets side account.now) }
+    ensures { OnOk result (string_bytes text.new ≡ string_bytes text.old
+        ++ in_brackets side account.now) }
 {
     match side {
         Side::Real => Ok(text.push_str(account)?),
@@ -200,7 +210,8 @@ fn push_account(text: &mut String, side: Side, account: &str) -> Result<(), Memo
 
 /// Puts a text between two brackets.
 fn push_between(text: &mut String, open: &str, inner: &str, close: &str) -> Result<(), Memory>
-    ensures { OnOk result (string_bytes text.new ≡ string_bytes text.old ++ «open».now ++ inner.now ++ close.now) }
+    ensures { OnOk result (string_bytes text.new ≡ string_bytes text.old ++ «open».now ++ inner.now
+        ++ close.now) }
 {
     text.push_str(open)?;
     text.push_str(inner)?;
@@ -215,7 +226,8 @@ fn amount_field<S: Shapes>(
     is_found: bool,
     amount: Option<&Amount>,
 ) -> Result<Text, Memory>
-    ensures { IfOk result (λ text. text ≡ spec.amount_field (S.shape_of shapes.now) is_found (option_copied amount.entry)) }
+    ensures { IfOk result (λ text.
+        text ≡ spec.amount_field (S.shape_of shapes.now) is_found (option_copied amount.entry)) }
 {
     match amount {
         Some(amount) => amount_text(alloc, amount, &shapes.shape_of(amount), is_found),
@@ -232,7 +244,8 @@ fn push_signed<S: Shapes>(
     is_found: bool,
     amount: &Amount,
 ) -> Result<(), Memory>
-    ensures { OnOk result (string_bytes text.new ≡ string_bytes text.old ++ sign.now ++ amount_text (S.shape_of shapes.now amount.now) is_found amount.now) }
+    ensures { OnOk result (string_bytes text.new ≡ string_bytes text.old ++ sign.now
+        ++ amount_text (S.shape_of shapes.now amount.now) is_found amount.now) }
 {
     let shown = amount_text(alloc, amount, &shapes.shape_of(amount), is_found)?;
     text.push_str(sign)?;
@@ -248,7 +261,8 @@ fn push_cost<S: Shapes>(
     is_found: bool,
     cost: Option<&Cost>,
 ) -> Result<(), Memory>
-    ensures { OnOk result (string_bytes text.new ≡ string_bytes text.old ++ cost_text (S.shape_of shapes.now) is_found (option_copied cost.entry)) }
+    ensures { OnOk result (string_bytes text.new ≡ string_bytes text.old
+        ++ cost_text (S.shape_of shapes.now) is_found (option_copied cost.entry)) }
 {
     match cost {
         None => Ok(()),
@@ -264,7 +278,8 @@ fn push_assertion<S: Shapes>(
     shapes: &S,
     wanted: &Option<Boxed<Assertion>>,
 ) -> Result<(), Memory>
-    ensures { OnOk result (string_bytes text.new ≡ string_bytes text.old ++ assertion_text (S.shape_of shapes.now) wanted.now) }
+    ensures { OnOk result (string_bytes text.new ≡ string_bytes text.old
+        ++ assertion_text (S.shape_of shapes.now) wanted.now) }
 {
     match wanted {
         None => Ok(()),

@@ -46,7 +46,8 @@ pub fn push_postings(out: &mut Vec<u8>, fields: &[Fields]) -> Result<(), Memory>
 
 /// Puts the lines of some postings, in columns.
 fn push_lines(out: &mut Vec<u8>, widths: Widths, fields: &[Fields]) -> Result<(), Memory>
-    ensures { OnOk result (out.new.items ≡ out.old.items ++ flat_map (spec.posting_text widths) fields.now) }
+    ensures { OnOk result (out.new.items ≡ out.old.items
+        ++ flat_map (spec.posting_text widths) fields.now) }
 {
     for posting in fields {
         push_posting(out, widths, posting)?;

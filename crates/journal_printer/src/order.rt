@@ -82,7 +82,8 @@ fn sorted(alloc: Global, names: &[Name]) -> Result<Vec<Name>, Memory>
 /// Puts a name into a set.
 fn insert_at(set: &mut BTreeSet<Name>, names: &[Name], at: usize) -> Result<(), Memory>
     requires { at < length names.now }
-    ensures { OnOk result ((d : spec.Name) → set.new.keys ≡ insert_key spec.name_cmp set.old.keys (slice_index_or names.now at d)) }
+    ensures { OnOk result ((d : spec.Name)
+        → set.new.keys ≡ insert_key spec.name_cmp set.old.keys (slice_index_or names.now at d)) }
 {
     let name = names[at];
     set.insert(name)?;

@@ -88,7 +88,8 @@ fn push_named<S: Shapes>(
     names: &[Name],
 ) -> Result<(), Memory>
     ensures { OnOk result (out.new.items ≡ out.old.items
-        ++ flat_map (λ name. spaced_text (S.shape_of shapes.now) detail (slice_get txns.now name.1)) names.now) }
+        ++ flat_map (λ name.
+        spaced_text (S.shape_of shapes.now) detail (slice_get txns.now name.1)) names.now) }
 {
     for name in names {
         push_spaced(alloc, out, shapes, detail, txn_at(txns, name.1))?;
@@ -111,7 +112,8 @@ fn push_spaced<S: Shapes>(
     detail: Detail,
     txn: Option<&Txn>,
 ) -> Result<(), Memory>
-    ensures { OnOk result (out.new.items ≡ out.old.items ++ spaced_text (S.shape_of shapes.now) detail (option_copied txn.entry)) }
+    ensures { OnOk result (out.new.items ≡ out.old.items
+        ++ spaced_text (S.shape_of shapes.now) detail (option_copied txn.entry)) }
 {
     let Some(txn) = txn else {
         return Ok(());
@@ -129,7 +131,8 @@ pub fn push_txn<S: Shapes>(
     detail: Detail,
     txn: &Txn,
 ) -> Result<(), Memory>
-    ensures { OnOk result (out.new.items ≡ out.old.items ++ txn_text (S.shape_of shapes.now) detail txn.now) }
+    ensures { OnOk result (out.new.items ≡ out.old.items
+        ++ txn_text (S.shape_of shapes.now) detail txn.now) }
 {
     push_head(out, txn)?;
     let fields = fields_shown(alloc, shapes, detail, txn.postings.as_slice())?;

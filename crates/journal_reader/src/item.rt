@@ -28,7 +28,8 @@ use std::sync::ledger::Ledger;
 fn check_utf8(bytes: &[u8], line: u64) -> Result<(), ReadFault>
     requires { line + length (contents_of bytes.now) < 2 ^ 64 }
     ensures ok { OnOk result (is_utf8 bytes.now ≡ true) }
-    ensures broken { IfErr result (λ e. e ≡ Read (causes.fault_at (spec.broken_line line bytes.now) Encoding)) }
+    ensures broken { IfErr result (λ e.
+        e ≡ Read (causes.fault_at (spec.broken_line line bytes.now) Encoding)) }
     ensures none { IfErr result (λ e. is_utf8 bytes.now ≡ false) }
 {
     match std::str::from_utf8(bytes) {
@@ -59,7 +60,9 @@ fn kind_at(bytes: &[u8]) -> Kind
 fn read_piece(alloc: Global, bytes: &[u8], context: &Context, line: u64) -> Result<Item, ReadFault>
     requires utf8 { is_utf8 bytes.now ≡ true }
     requires lines { line + length (contents_of bytes.now) < 2 ^ 64 }
-    ensures { Gives (λ item. item) cause_in result (spec.said_by (items.kind_of (first_line bytes.now)) context.now line bytes.now) }
+    ensures { Gives (λ item.
+        item) cause_in result
+        (spec.said_by (items.kind_of (first_line bytes.now)) context.now line bytes.now) }
 {
     match kind_at(bytes) {
         Kind::Gap => Ok(Item::Gap),
@@ -110,7 +113,10 @@ pub fn read_item<L: Ledger>(
 ) -> Result<Item, ReadFault>
     requires { line + length (contents_of bytes.now) < 2 ^ 64 }
     ensures value { Gives (λ item. item) cause_in result (spec.reading context.now line bytes.now) }
-    ensures steps { steps.new ≡ record steps.old { bytes_read = steps.old.bytes_read + length bytes.now } }
+    ensures steps { steps.new ≡ record steps.old {
+      bytes_read = steps.old.bytes_read
+          + length bytes.now;
+    } }
 {
     steps.read_bytes(bytes.len() as u64);
     read_uncounted(alloc, bytes, context, line)

@@ -32,7 +32,8 @@ pub fn read_items<L: Ledger>(
     steps: &mut Steps<L>,
 ) -> Result<Items, ReadFault>
     requires { AreWithin text.now pieces.now }
-    ensures value { Gives (λ items. items) cause_in result (spec.reading_from year [] text.now pieces.now) }
+    ensures value { Gives (λ items.
+        items) cause_in result (spec.reading_from year [] text.now pieces.now) }
     ensures read { OnOk result (steps.new.bytes_read ≡ steps.old.bytes_read + bytes_in pieces.now) }
     ensures bound { steps.new.bytes_read ≤ steps.old.bytes_read + bytes_in pieces.now }
     ensures others { steps.new ≡ record steps.old { bytes_read = steps.new.bytes_read } }

@@ -37,7 +37,8 @@ fn asked_after(
     day: Day,
 ) -> Result<Asked, WordsFault>
     requires { IsDay day.0 }
-    ensures answer { Gives (λ asked. asked) words_cause result (spec.asked_by (reading command day.0 rest.now)) }
+    ensures answer { Gives (λ asked.
+        asked) words_cause result (spec.asked_by (reading command day.0 rest.now)) }
     ensures valid { IfOk result (λ asked. IsValid asked.options) }
 {
     let (options, words) = read_options(alloc, command, rest, day)?;
@@ -80,7 +81,8 @@ fn given_after(
     day: Day,
 ) -> Result<(Given, Asked), WordsFault>
     requires { IsDay day.0 }
-    ensures answer { Gives (λ read. read) words_cause result (spec.given_by (program_reading command day.0 rest.now)) }
+    ensures answer { Gives (λ read.
+        read) words_cause result (spec.given_by (program_reading command day.0 rest.now)) }
     ensures valid { IfOk result (λ read. IsValid read.1.options) }
 {
     let (given, options, words) = read_program_options(alloc, command, rest, day)?;

@@ -32,7 +32,8 @@ fn budget_of(alloc: Global, asked: &Asked, items: &Items, job: &Job) -> Result<B
     requires valid { IsPeriod asked.now.options.bounds }
     requires made { IsMadeFor asked.now items.now job.now }
     ensures { Gives (λ text. text) plan_cause result
-        (reports.budget_over asked.now.options job.now.scope.day.0 items.now job.now.scope.query.now.terms.items
+        (reports.budget_over asked.now.options job.now.scope.day.0 items.now
+        job.now.scope.query.now.terms.items
         job.now.scope.book.now) }
 {
     budget(alloc, items, job)
@@ -70,9 +71,11 @@ pub(crate) fn without_rules<M: Maker>(
     requires day { IsDay material.now.day.0 }
     requires valid { IsValid asked.now.options }
     ensures { (items : List Placed) → IsMaterialOf items material.now
-        → spec.Tells material.now.day.0 asked.now.words (M.refusals maker.old) (M.refusals maker.new)
+        → spec.Tells material.now.day.0 asked.now.words (M.refusals maker.old)
+        (M.refusals maker.new)
         (M.last_refused maker.old) (M.last_refused maker.new)
-        (widened (answer_over asked.now material.now.day.0 items material.now.book.now)) spec.Never result }
+        (widened (answer_over asked.now material.now.day.0 items material.now.book.now)) spec.Never
+        result }
 {
     match report_of(alloc, asked, material, maker) {
         Ok(text) => Ok(text),
@@ -89,7 +92,8 @@ fn plain_over<M: Maker>(
 ) -> Result<Bytes, PlanFault>
     requires { IsPlan plan.now }
     ensures { spec.Tells plan.now.day.0 plan.now.asked.now.words
-        (M.refusals maker.old) (M.refusals maker.new) (M.last_refused maker.old) (M.last_refused maker.new)
+        (M.refusals maker.old) (M.refusals maker.new) (M.last_refused maker.old)
+        (M.last_refused maker.new)
         (reports.plain_over plan.now.asked.now.options plan.now.day.0 plan.now.items.now
         (terms_in plan.now) book.now)
         spec.Never result }
@@ -113,8 +117,10 @@ fn report_over<M: Maker>(
 ) -> Result<Bytes, PlanFault>
     requires { IsPlan plan.now }
     ensures { spec.Tells plan.now.day.0 plan.now.asked.now.words
-        (M.refusals maker.old) (M.refusals maker.new) (M.last_refused maker.old) (M.last_refused maker.new)
-        (reports.report_on plan.now.asked.now.options.budget plan.now.asked.now.options plan.now.day.0
+        (M.refusals maker.old) (M.refusals maker.new) (M.last_refused maker.old)
+        (M.last_refused maker.new)
+        (reports.report_on plan.now.asked.now.options.budget plan.now.asked.now.options
+        plan.now.day.0
         plan.now.items.now (terms_in plan.now) book.now)
         spec.Never result }
 {
@@ -134,7 +140,8 @@ fn with_rules<M: Maker>(
 ) -> Result<Bytes, PlanFault>
     requires { IsPlan plan.now }
     ensures { spec.TellsRuled plan.now true book.now
-        (M.refusals maker.old) (M.refusals maker.new) (M.last_refused maker.old) (M.last_refused maker.new) result }
+        (M.refusals maker.old) (M.refusals maker.new) (M.last_refused maker.old)
+        (M.last_refused maker.new) result }
 {
     match with_auto(alloc, plan.items, book, plan.day, maker) {
         Ok(made) => report_over(alloc, plan, &made, maker),
@@ -151,7 +158,8 @@ fn after_forecast<M: Maker>(
 ) -> Result<Bytes, PlanFault>
     requires { IsPlan plan.now }
     ensures { spec.TellsRuled plan.now plan.now.asked.now.options.auto book.now
-        (M.refusals maker.old) (M.refusals maker.new) (M.last_refused maker.old) (M.last_refused maker.new) result }
+        (M.refusals maker.old) (M.refusals maker.new) (M.last_refused maker.old)
+        (M.last_refused maker.new) result }
 {
     if plan.asked.options.auto {
         with_rules(alloc, plan, book, maker)
@@ -187,7 +195,8 @@ fn with_forecast<M: Maker>(
     requires plan { IsPlan plan.now }
     requires asked { IsPeriod asked }
     ensures { spec.TellsPlanned plan.now (Some asked) book.now
-        (M.refusals maker.old) (M.refusals maker.new) (M.last_refused maker.old) (M.last_refused maker.new) result }
+        (M.refusals maker.old) (M.refusals maker.new) (M.last_refused maker.old)
+        (M.last_refused maker.new) result }
 {
     let window = window_in(plan, asked, book);
     match forecast(alloc, plan.items, book, window) {
@@ -206,7 +215,8 @@ pub(crate) fn planned<M: Maker>(
 ) -> Result<Bytes, PlanFault>
     requires { IsPlan plan.now }
     ensures { spec.TellsPlanned plan.now plan.now.asked.now.options.forecast book.now
-        (M.refusals maker.old) (M.refusals maker.new) (M.last_refused maker.old) (M.last_refused maker.new) result }
+        (M.refusals maker.old) (M.refusals maker.new) (M.last_refused maker.old)
+        (M.last_refused maker.new) result }
 {
     match plan.asked.options.forecast {
         Some(asked) => with_forecast(alloc, plan, asked, book, maker),

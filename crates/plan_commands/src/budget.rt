@@ -26,7 +26,8 @@ use std::alloc::Global;
 /// its columns.
 pub(crate) fn budget(alloc: Global, items: &Items, job: &Job) -> Result<Bytes, PlanFault>
     requires { IfSome job.now.scope.options.now.bounds.interval (λ interval. 1 ≤ interval.n) }
-    ensures { Gives (λ text. text) plan_cause result (reports.budget_in items.now (matter_of job.now)) }
+    ensures { Gives (λ text.
+        text) plan_cause result (reports.budget_in items.now (matter_of job.now)) }
 {
     match all_columns(alloc, &job.scope) {
         Ok(columns) => budget_by(alloc, items, job, columns),
@@ -42,7 +43,8 @@ fn budget_by(
     columns: List<Span>,
 ) -> Result<Bytes, PlanFault>
     requires { Follow columns }
-    ensures { Gives (λ text. text) plan_cause result (reports.budget_by items.now (matter_of job.now) columns) }
+    ensures { Gives (λ text.
+        text) plan_cause result (reports.budget_by items.now (matter_of job.now) columns) }
 {
     let span = goal_span(columns.as_slice());
     match goals(alloc, items, span) {

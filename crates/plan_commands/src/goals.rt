@@ -21,7 +21,8 @@ use std::alloc::Global;
 
 /// The same options with the days of a span as their bounds, and their own interval.
 fn options_over(alloc: Global, options: &Options, span: Span) -> Result<Options, Memory>
-    ensures { IfOk result (λ made. made ≡ with_bounds options.now (spec.bounds_of options.now span)) }
+    ensures { IfOk result (λ made.
+        made ≡ with_bounds options.now (spec.bounds_of options.now span)) }
 {
     let bounds = Period {
         from: Some(span.from),

@@ -13,7 +13,8 @@ ghost use Rattle.plan_commands.specs.Reports.{answer_over, asks_rules, report_ov
 /// Where neither entries of rules nor a budget are asked for, a report is that of `report_commands`.
 #[tactic(auto, using(crate::proofs::Plain::plain_reports))]
 pub fn plain_reports()
-    ensures { (asked : Asked) (day : ℕ) (items : List Placed) (book : Book) → asks_rules asked.options ≡ false
+    ensures { (asked : Asked) (day : ℕ) (items : List Placed) (book : Book)
+        → asks_rules asked.options ≡ false
         → answer_over asked day items book ≡ widened (plain.answer_over asked day items book) }
 {}
 
@@ -37,5 +38,6 @@ pub fn request_refused()
 #[tactic(auto, using(crate::proofs::AnyYear::any_year))]
 pub fn any_year()
     ensures { (asked : Asked) (day year : ℕ) (text : List ℕ)
-        → IfOk (report_over asked day None text) (λ report. report_over asked day (Some year) text ≡ Ok report) }
+        → IfOk (report_over asked day None text) (λ report.
+        report_over asked day (Some year) text ≡ Ok report) }
 {}

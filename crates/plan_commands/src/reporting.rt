@@ -34,9 +34,11 @@ pub fn report<M: Maker>(
 ) -> Result<Bytes, PlanFault>
     requires day { IsDay loaded.now.day.0 }
     requires valid { IsValid asked.now.options }
-    requires styles { (symbol : List ℕ) → style_in loaded.now.styles.now symbol ≡ style_of loaded.now.items.now symbol }
+    requires styles { (symbol : List ℕ)
+        → style_in loaded.now.styles.now symbol ≡ style_of loaded.now.items.now symbol }
     ensures { Answers asked.now loaded.now.day.0 loaded.now.items.now loaded.now.book.now
-        (M.refusals maker.old) (M.refusals maker.new) (M.last_refused maker.old) (M.last_refused maker.new) result }
+        (M.refusals maker.old) (M.refusals maker.new) (M.last_refused maker.old)
+        (M.last_refused maker.new) result }
 {
     let types = Types::new(alloc, loaded.items)?;
     let prices = Prices::new(alloc, loaded.items)?;
@@ -69,7 +71,8 @@ pub fn report_of<M: Maker>(
     requires valid { IsValid asked.now.options }
     requires made { IsMaterialOf items.now material.now }
     ensures { Answers asked.now material.now.day.0 items.now material.now.book.now
-        (M.refusals maker.old) (M.refusals maker.new) (M.last_refused maker.old) (M.last_refused maker.new) result }
+        (M.refusals maker.old) (M.refusals maker.new) (M.last_refused maker.old)
+        (M.last_refused maker.new) result }
 {
     if asks_rules(&asked.options) {
         with_query(alloc, asked, items, material, maker)
@@ -90,7 +93,8 @@ fn with_query<M: Maker>(
     requires valid { IsValid asked.now.options }
     requires made { IsMaterialOf items.now material.now }
     ensures { Answers asked.now material.now.day.0 items.now material.now.book.now
-        (M.refusals maker.old) (M.refusals maker.new) (M.last_refused maker.old) (M.last_refused maker.new) result }
+        (M.refusals maker.old) (M.refusals maker.new) (M.last_refused maker.old)
+        (M.last_refused maker.new) result }
 {
     match make_query(alloc, asked.words.as_slice(), material.day, maker) {
         Ok(query) => by_query(alloc, asked, items, material, &query, maker),
@@ -112,7 +116,8 @@ fn by_query<M: Maker>(
     requires made { IsMaterialOf items.now material.now }
     requires query { IsQueryOf material.now.day.0 asked.now.words query.now }
     ensures { Answers asked.now material.now.day.0 items.now material.now.book.now
-        (M.refusals maker.old) (M.refusals maker.new) (M.last_refused maker.old) (M.last_refused maker.new) result }
+        (M.refusals maker.old) (M.refusals maker.new) (M.last_refused maker.old)
+        (M.last_refused maker.new) result }
 {
     let plan = Plan {
         asked,
@@ -135,7 +140,8 @@ fn over_text<M: Maker>(
 ) -> Result<Bytes, PlanFault>
     requires { IsPlan plan.now }
     ensures { Answers plan.now.asked.now plan.now.day.0 plan.now.items.now book.now
-        (M.refusals maker.old) (M.refusals maker.new) (M.last_refused maker.old) (M.last_refused maker.new) result }
+        (M.refusals maker.old) (M.refusals maker.new) (M.last_refused maker.old)
+        (M.last_refused maker.new) result }
 {
     planned(alloc, plan, book, maker)
 }

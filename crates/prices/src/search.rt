@@ -95,7 +95,8 @@ fn onward<'a>(
     level: u8,
 ) -> Result<Option<Found>, Memory>
     requires { level < 255 }
-    ensures { IfOk result (λ way. way ≡ onward level step.now (way_in found.now.entries step.now.to)) }
+    ensures { IfOk result (λ way.
+        way ≡ onward level step.now (way_in found.now.entries step.now.to)) }
 {
     match found.get(&SymbolKey::new(step.to)) {
         Some(next) if next.level <= level => Ok(Some(Found {

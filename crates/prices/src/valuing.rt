@@ -39,7 +39,11 @@ fn value_of_parts(number: i128, num: i128, den: u128, scale: u128, places: u8) -
     requires second { 0 < scale }
     ensures { result ≡ (if nat_lt (unsigned_abs number * unsigned_abs num * 10 ^ places) (2 ^ 127)
         && nat_lt (den * scale) (2 ^ 127)
-        then Some (record { mantissa = signed_half_even (number *ℤ num *ℤ pos (10 ^ places)) (den * scale); places = places })
+        then Some (record {
+          mantissa = signed_half_even (number *ℤ num *ℤ pos (10 ^ places)) (den * scale);
+          places =
+              places;
+        })
         else None) }
 {
     match bounded_product(number, num) {
@@ -55,7 +59,10 @@ fn over(product: i128, den: u128, scale: u128, places: u8) -> Option<Dec>
     requires second { 0 < scale }
     ensures { result ≡ (if nat_lt (unsigned_abs product * 10 ^ places) (2 ^ 127)
         && nat_lt (den * scale) (2 ^ 127)
-        then Some (record { mantissa = signed_half_even (product *ℤ pos (10 ^ places)) (den * scale); places = places })
+        then Some (record {
+          mantissa = signed_half_even (product *ℤ pos (10 ^ places)) (den * scale);
+          places = places;
+        })
         else None) }
 {
     match bounded_natural(den, scale) {
@@ -70,7 +77,8 @@ fn rounded(number: i128, divisor: u128, places: u8) -> Option<Dec>
     requires above { 0 < divisor }
     requires below { divisor < 2 ^ 127 }
     ensures { result ≡ (if nat_lt (unsigned_abs number * 10 ^ places) (2 ^ 127)
-        then Some (record { mantissa = signed_half_even (number *ℤ pos (10 ^ places)) divisor; places = places })
+        then Some (record
+        { mantissa = signed_half_even (number *ℤ pos (10 ^ places)) divisor; places = places })
         else None) }
 {
     match div_round(number, divisor as i128, places) {

@@ -154,7 +154,9 @@ fn put(
     name: &Text,
     letter: u8,
 ) -> Result<(), Memory>
-    ensures { OnOk result ((q : List ℕ) → get_by_text letters.new q ≡ (if bytes_eq q name.now then Some letter else get_by_text letters.old q)) }
+    ensures { OnOk result ((q : List ℕ)
+        → get_by_text letters.new q
+        ≡ (if bytes_eq q name.now then Some letter else get_by_text letters.old q)) }
 {
     let key = String::from_str(alloc, name.as_str())?;
     letters.insert(key, letter)?;
@@ -175,7 +177,10 @@ fn keep(
     name: &Text,
     letter: u8,
 ) -> Result<(), Memory>
-    ensures { OnOk result ((q : List ℕ) → get_by_text letters.new q ≡ (if bytes_eq q name.now then Some (spec.greater_letter (get_by_text letters.old q) letter) else get_by_text letters.old q)) }
+    ensures { OnOk result ((q : List ℕ)
+        → get_by_text letters.new q
+        ≡ (if bytes_eq q name.now then Some (spec.greater_letter (get_by_text letters.old q) letter)
+        else get_by_text letters.old q)) }
 {
     let before = letter_in(letters, name.as_str());
     put(letters, alloc, name, greater_letter(before, letter))
@@ -187,7 +192,9 @@ fn note_directive(
     alloc: Global,
     directive: &Directive,
 ) -> Result<(), Memory>
-    ensures { OnOk result ((name : List ℕ) → get_by_text letters.new name ≡ spec.noted (spec.declared_by directive.now) (get_by_text letters.old name) name) }
+    ensures { OnOk result ((name : List ℕ)
+        → get_by_text letters.new name
+        ≡ spec.noted (spec.declared_by directive.now) (get_by_text letters.old name) name) }
 {
     match directive {
         Directive::Account(name, Some(letter)) => keep(letters, alloc, name, *letter),
@@ -197,7 +204,9 @@ fn note_directive(
 
 /// Keeps the letter that an item declares.
 fn note(letters: &mut HashMap<String, u8>, alloc: Global, item: &Item) -> Result<(), Memory>
-    ensures { OnOk result ((name : List ℕ) → get_by_text letters.new name ≡ spec.noted (spec.declared_in item.now) (get_by_text letters.old name) name) }
+    ensures { OnOk result ((name : List ℕ)
+        → get_by_text letters.new name
+        ≡ spec.noted (spec.declared_in item.now) (get_by_text letters.old name) name) }
 {
     match item {
         Item::Directive(directive) => note_directive(letters, alloc, directive),
@@ -212,7 +221,8 @@ impl Types {
     /// counts, in whatever order they are declared.
     #[tactic(auto, using(crate::proofs::Names::noted_more, crate::proofs::Names::noted_all))]
     pub fn new(alloc: Global, items: &Items) -> Result<Types, Memory>
-        ensures { IfOk result (λ types. (name : List ℕ) → own_in types name ≡ spec.own_letter (spec.declared_of items.now) name) }
+        ensures { IfOk result (λ types. (name : List ℕ)
+            → own_in types name ≡ spec.own_letter (spec.declared_of items.now) name) }
     {
         let mut letters = HashMap::new(alloc);
         for placed in items.as_slice() {

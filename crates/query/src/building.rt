@@ -57,8 +57,10 @@ fn build_pattern<M: Maker>(
     regexes: &mut Vec<Regex>,
     maker: &mut M,
 ) -> Result<(), MakeFault>
-    ensures grows { OnOk result (Grows (reading.source_of pattern.now) regexes.old.items regexes.new.items) }
-    ensures tells { TellsOf (reading.source_of pattern.now) (M.refusals maker.old) (M.refusals maker.new) (M.last_refused maker.old) (M.last_refused maker.new) result }
+    ensures grows { OnOk result (Grows (reading.source_of pattern.now) regexes.old.items
+        regexes.new.items) }
+    ensures tells { TellsOf (reading.source_of pattern.now) (M.refusals maker.old)
+        (M.refusals maker.new) (M.last_refused maker.old) (M.last_refused maker.new) result }
 {
     match pattern {
         Pattern::Word(_) => Ok(()),
@@ -76,8 +78,10 @@ fn build_value<M: Maker>(
     regexes: &mut Vec<Regex>,
     maker: &mut M,
 ) -> Result<(), MakeFault>
-    ensures grows { OnOk result (Grows (reading.sources_in value.now) regexes.old.items regexes.new.items) }
-    ensures tells { TellsOf (reading.sources_in value.now) (M.refusals maker.old) (M.refusals maker.new) (M.last_refused maker.old) (M.last_refused maker.new) result }
+    ensures grows { OnOk result (Grows (reading.sources_in value.now) regexes.old.items
+        regexes.new.items) }
+    ensures tells { TellsOf (reading.sources_in value.now) (M.refusals maker.old)
+        (M.refusals maker.new) (M.last_refused maker.old) (M.last_refused maker.new) result }
 {
     match value {
         Some(pattern) => build_pattern(alloc, pattern, regexes, maker),
@@ -93,8 +97,11 @@ fn build_tag<M: Maker>(
     regexes: &mut Vec<Regex>,
     maker: &mut M,
 ) -> Result<(), MakeFault>
-    ensures grows { OnOk result (Grows (reading.source_of name.now ++ reading.sources_in value.now) regexes.old.items regexes.new.items) }
-    ensures tells { TellsOf (reading.source_of name.now ++ reading.sources_in value.now) (M.refusals maker.old) (M.refusals maker.new) (M.last_refused maker.old) (M.last_refused maker.new) result }
+    ensures grows { OnOk result (Grows (reading.source_of name.now
+        ++ reading.sources_in value.now) regexes.old.items regexes.new.items) }
+    ensures tells { TellsOf (reading.source_of name.now
+        ++ reading.sources_in value.now) (M.refusals maker.old) (M.refusals maker.new)
+        (M.last_refused maker.old) (M.last_refused maker.new) result }
 {
     match build_pattern(alloc, name, regexes, maker) {
         Ok(()) => build_value(alloc, value, regexes, maker),
@@ -109,8 +116,10 @@ fn build_kind<M: Maker>(
     regexes: &mut Vec<Regex>,
     maker: &mut M,
 ) -> Result<(), MakeFault>
-    ensures grows { OnOk result (Grows (reading.kind_sources kind.now) regexes.old.items regexes.new.items) }
-    ensures tells { TellsOf (reading.kind_sources kind.now) (M.refusals maker.old) (M.refusals maker.new) (M.last_refused maker.old) (M.last_refused maker.new) result }
+    ensures grows { OnOk result (Grows (reading.kind_sources kind.now) regexes.old.items
+        regexes.new.items) }
+    ensures tells { TellsOf (reading.kind_sources kind.now) (M.refusals maker.old)
+        (M.refusals maker.new) (M.last_refused maker.old) (M.last_refused maker.new) result }
 {
     match kind {
         Kind::Said(_, pattern) => build_pattern(alloc, pattern, regexes, maker),
@@ -129,8 +138,10 @@ fn build_word<M: Maker>(
     regexes: &mut Vec<Regex>,
     maker: &mut M,
 ) -> Result<(), QueryFault>
-    ensures grows { OnOk result (Grows (reading.kind_sources kind.now) regexes.old.items regexes.new.items) }
-    ensures tells { TellsWord word.now (reading.kind_sources kind.now) (M.refusals maker.old) (M.refusals maker.new) (M.last_refused maker.old) (M.last_refused maker.new) result }
+    ensures grows { OnOk result (Grows (reading.kind_sources kind.now) regexes.old.items
+        regexes.new.items) }
+    ensures tells { TellsWord word.now (reading.kind_sources kind.now) (M.refusals maker.old)
+        (M.refusals maker.new) (M.last_refused maker.old) (M.last_refused maker.new) result }
 {
     // The word is copied first, so that a refusal that was counted is always told.
     let word = match Text::copied(alloc, word.as_str()) {
@@ -154,7 +165,8 @@ pub(crate) fn build_all<M: Maker>(
 ) -> Result<Vec<Regex>, QueryFault>
     requires { reading.terms_of day.0 words.now ≡ Ok terms.now }
     ensures built { IfOk result (λ regexes. AreBuilt (reading.sources_of terms.now) regexes.items) }
-    ensures tells { TellsWords day.0 words.now (M.refusals maker.old) (M.refusals maker.new) (M.last_refused maker.old) (M.last_refused maker.new) result }
+    ensures tells { TellsWords day.0 words.now (M.refusals maker.old) (M.refusals maker.new)
+        (M.last_refused maker.old) (M.last_refused maker.new) result }
 {
     let mut regexes = Vec::new(alloc);
     for i in 0..terms.len() {

@@ -221,7 +221,8 @@ fn either_has_tag(
     first: &[Tag],
     second: &[Tag],
 ) -> bool
-    ensures found { result ≡ (spec.has_tag (known_in finder.old) name.now value.now first.now || spec.has_tag (known_in finder.old) name.now value.now second.now) }
+    ensures found { result ≡ (spec.has_tag (known_in finder.old) name.now value.now first.now ||
+        spec.has_tag (known_in finder.old) name.now value.now second.now) }
     ensures same { known_in finder.new ≡ known_in finder.old }
 {
     if has_tag(finder, name, value, first) {
@@ -255,7 +256,8 @@ fn has_letter(letters: &Text, letter: Option<u8>) -> bool
 
 /// Whether what a term asks holds of a posting.
 fn kind_holds(finder: &mut Finder, types: &Types, posting: &Posting, txn: &Txn, kind: &Kind) -> bool
-    ensures found { result ≡ spec.kind_holds (known_in finder.old) (own_in types.now) posting.now txn.now kind.now }
+    ensures found { result ≡ spec.kind_holds (known_in finder.old) (own_in types.now) posting.now
+        txn.now kind.now }
     ensures same { known_in finder.new ≡ known_in finder.old }
 {
     match kind {
@@ -288,7 +290,8 @@ fn under(nots: usize, holds: bool) -> bool
 
 /// Whether what a term asks, under some `not:`, holds of some posting of a transaction.
 fn holds_of_some(finder: &mut Finder, types: &Types, txn: &Txn, nots: usize, kind: &Kind) -> bool
-    ensures found { result ≡ spec.holds_of_some (known_in finder.old) (own_in types.now) txn.now nots kind.now }
+    ensures found { result ≡ spec.holds_of_some (known_in finder.old) (own_in types.now) txn.now
+        nots kind.now }
     ensures same { known_in finder.new ≡ known_in finder.old }
 {
     for posting in txn.postings.as_slice() {
@@ -301,7 +304,8 @@ fn holds_of_some(finder: &mut Finder, types: &Types, txn: &Txn, nots: usize, kin
 
 /// Whether a transaction's own tags match, or those of one of its postings.
 fn tag_holds_of(finder: &mut Finder, types: &Types, txn: &Txn, kind: &Kind) -> bool
-    ensures found { result ≡ asking.tag_holds_of (known_in finder.old) (own_in types.now) txn.now kind.now }
+    ensures found { result ≡ asking.tag_holds_of (known_in finder.old) (own_in types.now) txn.now
+        kind.now }
     ensures same { known_in finder.new ≡ known_in finder.old }
 {
     if let Kind::Tag(name, value) = kind {
@@ -314,7 +318,8 @@ fn tag_holds_of(finder: &mut Finder, types: &Types, txn: &Txn, kind: &Kind) -> b
 
 /// Whether what a term asks holds of a transaction.
 fn kind_holds_of(finder: &mut Finder, types: &Types, txn: &Txn, kind: &Kind) -> bool
-    ensures found { result ≡ spec.kind_holds_of (known_in finder.old) (own_in types.now) txn.now kind.now }
+    ensures found { result ≡ spec.kind_holds_of (known_in finder.old) (own_in types.now) txn.now
+        kind.now }
     ensures same { known_in finder.new ≡ known_in finder.old }
 {
     match kind {
@@ -329,7 +334,8 @@ fn kind_holds_of(finder: &mut Finder, types: &Types, txn: &Txn, kind: &Kind) -> 
 
 /// Whether a term holds of a transaction.
 fn term_holds_of(finder: &mut Finder, types: &Types, txn: &Txn, term: &Term) -> bool
-    ensures found { result ≡ spec.term_holds_of (known_in finder.old) (own_in types.now) txn.now term.now }
+    ensures found { result ≡ spec.term_holds_of (known_in finder.old) (own_in types.now) txn.now
+        term.now }
     ensures same { known_in finder.new ≡ known_in finder.old }
 {
     if term.nots == 0 {
@@ -340,7 +346,8 @@ fn term_holds_of(finder: &mut Finder, types: &Types, txn: &Txn, term: &Term) -> 
 
 /// Whether a term holds of a posting.
 fn term_holds(finder: &mut Finder, types: &Types, posting: &Posting, txn: &Txn, term: &Term) -> bool
-    ensures found { result ≡ spec.term_holds (known_in finder.old) (own_in types.now) posting.now txn.now term.now }
+    ensures found { result ≡ spec.term_holds (known_in finder.old) (own_in types.now) posting.now
+        txn.now term.now }
     ensures same { known_in finder.new ≡ known_in finder.old }
 {
     under(
@@ -370,7 +377,8 @@ fn bounds_days(term: &Term) -> bool
 
 /// Whether a term holds of what is asked about.
 fn holds(finder: &mut Finder, types: &Types, asked: Asked, term: &Term) -> bool
-    ensures found { result ≡ asking.holds (known_in finder.old) (own_in types.now) asked.entry term.now }
+    ensures found { result ≡ asking.holds (known_in finder.old) (own_in types.now) asked.entry
+        term.now }
     ensures same { known_in finder.new ≡ known_in finder.old }
 {
     match asked {
@@ -440,7 +448,8 @@ fn walk_group(
     group: Group,
     terms: &[Term],
 ) -> bool
-    ensures found { result ≡ asking.one_in group (asking.holds (known_in finder.old) (own_in types.now) asked.entry) terms.now }
+    ensures found { result ≡ asking.one_in group
+        (asking.holds (known_in finder.old) (own_in types.now) asked.entry) terms.now }
     ensures same { known_in finder.new ≡ known_in finder.old }
 {
     let mut none = true;
@@ -457,7 +466,8 @@ fn walk_group(
 
 /// Whether every term that counts by itself holds, one term after the other.
 fn walk_others(finder: &mut Finder, types: &Types, asked: Asked, terms: &[Term]) -> bool
-    ensures found { result ≡ asking.all_others (asking.holds (known_in finder.old) (own_in types.now) asked.entry) terms.now }
+    ensures found { result ≡ asking.all_others
+        (asking.holds (known_in finder.old) (own_in types.now) asked.entry) terms.now }
     ensures same { known_in finder.new ≡ known_in finder.old }
 {
     for term in terms {
@@ -473,7 +483,9 @@ fn walk_others(finder: &mut Finder, types: &Types, asked: Asked, terms: &[Term])
 /// Whether a term of a group holds, or there is none.
 #[tactic(auto, using(crate::proofs::Walks::one_is))]
 fn one_holds(finder: &mut Finder, types: &Types, asked: Asked, group: Group, terms: &[Term]) -> bool
-    ensures found { result ≡ spec.one_holds (asking.holds (known_in finder.old) (own_in types.now) asked.entry) (spec.among group terms.now) }
+    ensures found { result ≡ spec.one_holds
+        (asking.holds (known_in finder.old) (own_in types.now) asked.entry)
+        (spec.among group terms.now) }
     ensures same { known_in finder.new ≡ known_in finder.old }
 {
     walk_group(finder, types, asked, group, terms)
@@ -482,7 +494,9 @@ fn one_holds(finder: &mut Finder, types: &Types, asked: Asked, group: Group, ter
 /// Whether every term that counts by itself holds.
 #[tactic(auto, using(crate::proofs::Walks::others_are))]
 fn others_hold(finder: &mut Finder, types: &Types, asked: Asked, terms: &[Term]) -> bool
-    ensures found { result ≡ list_all (asking.holds (known_in finder.old) (own_in types.now) asked.entry) (spec.among Group.Other terms.now) }
+    ensures found { result ≡ list_all
+        (asking.holds (known_in finder.old) (own_in types.now) asked.entry)
+        (spec.among Group.Other terms.now) }
     ensures same { known_in finder.new ≡ known_in finder.old }
 {
     walk_others(finder, types, asked, terms)
@@ -490,7 +504,8 @@ fn others_hold(finder: &mut Finder, types: &Types, asked: Asked, terms: &[Term])
 
 /// Whether the terms mean what is asked about.
 pub(crate) fn matches(finder: &mut Finder, types: &Types, asked: Asked, terms: &[Term]) -> bool
-    ensures found { result ≡ spec.matches (asking.holds (known_in finder.old) (own_in types.now) asked.entry) terms.now }
+    ensures found { result ≡ spec.matches
+        (asking.holds (known_in finder.old) (own_in types.now) asked.entry) terms.now }
     ensures same { known_in finder.new ≡ known_in finder.old }
 {
     if !one_holds(finder, types, asked, Group::Description, terms) {

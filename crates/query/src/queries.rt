@@ -39,7 +39,8 @@ pub fn make_query<M: Maker>(
     maker: &mut M,
 ) -> Result<Query, QueryFault>
     requires { IsDay day.0 }
-    ensures { Makes day.0 words.now (M.refusals maker.old) (M.refusals maker.new) (M.last_refused maker.old) (M.last_refused maker.new) result }
+    ensures { Makes day.0 words.now (M.refusals maker.old) (M.refusals maker.new)
+        (M.last_refused maker.old) (M.last_refused maker.new) result }
 {
     match read_terms(alloc, words, day) {
         Ok(terms) => match build_all(alloc, words, &terms, day, maker) {
@@ -133,7 +134,8 @@ impl Query {
         txn: &Txn,
         types: &Types,
     ) -> Result<bool, Memory>
-        ensures found { IfOk result (λ b. b ≡ meaning.of_posting self.old types.now posting.now txn.now) }
+        ensures found { IfOk result (λ b.
+            b ≡ meaning.of_posting self.old types.now posting.now txn.now) }
         ensures same { self.new ≡ self.old }
         ensures free { self.old.regexes.items ≡ [] → IsOk result }
     {
@@ -149,7 +151,8 @@ impl Query {
         txn: &Txn,
         types: &Types,
     ) -> Result<bool, Memory>
-        ensures found { IfOk result (λ b. b ≡ meaning.of_undated self.old types.now posting.now txn.now) }
+        ensures found { IfOk result (λ b.
+            b ≡ meaning.of_undated self.old types.now posting.now txn.now) }
         ensures same { self.new ≡ self.old }
         ensures free { self.old.regexes.items ≡ [] → IsOk result }
     {
@@ -166,7 +169,8 @@ impl Query {
         txn: &Txn,
         types: &Types,
     ) -> Result<bool, Memory>
-        ensures found { IfOk result (λ b. b ≡ meaning.of_boundless self.old types.now posting.now txn.now) }
+        ensures found { IfOk result (λ b.
+            b ≡ meaning.of_boundless self.old types.now posting.now txn.now) }
         ensures same { self.new ≡ self.old }
         ensures free { self.old.regexes.items ≡ [] → IsOk result }
     {

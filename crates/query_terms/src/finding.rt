@@ -53,7 +53,8 @@ pub struct Finder<'q> {
 /// The place of the first one of a source.
 #[tactic(auto, using(crate::proofs::Sources::source_more, crate::proofs::Sources::source_first, crate::proofs::Sources::source_none))]
 fn place_of(sought: &[Sought], source: &str) -> Option<usize>
-    ensures some { IfSome result (λ i. (i < length sought.now) × IsFirstOf source.now sought.now i) }
+    ensures some { IfSome result (λ i. (i < length sought.now)
+        × IsFirstOf source.now sought.now i) }
     ensures none { IfNone result (spec.re_of (all_known sought.now) source.now ≡ None) }
 {
     for i in 0..sought.len() {

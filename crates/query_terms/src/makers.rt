@@ -77,7 +77,8 @@ impl Maker for RegexMaker {
 
     fn make(&mut self, alloc: Global, pattern: &Text) -> Result<Regex, MakeFault>
         ensures made { IfOk result (IsMadeOf pattern.now) }
-        ensures tells { TellsRefusal self.old.refusals self.new.refusals self.old.last self.new.last pattern.now result }
+        ensures tells { TellsRefusal self.old.refusals self.new.refusals self.old.last self.new.last
+            pattern.now result }
         ensures refuses { RefusesFor (IsRefusedByRegex pattern.now) result }
         ensures counts { CountsFor self.old.refusals self.new.refusals result }
     {
@@ -140,7 +141,8 @@ impl Maker for ListMaker {
 
     fn make(&mut self, alloc: Global, pattern: &Text) -> Result<Regex, MakeFault>
         ensures made { IfOk result (IsMadeOf pattern.now) }
-        ensures tells { TellsRefusal self.old.inner.refusals self.new.inner.refusals self.old.inner.last self.new.inner.last pattern.now result }
+        ensures tells { TellsRefusal self.old.inner.refusals self.new.inner.refusals
+            self.old.inner.last self.new.inner.last pattern.now result }
         ensures refuses { RefusesFor (IsRefusable self.old.refused pattern.now) result }
         ensures counts { CountsFor self.old.inner.refusals self.new.inner.refusals result }
         ensures listed { spec.is_listed self.old.refused pattern.now ≡ true → IsErr result }

@@ -18,5 +18,6 @@ pub trait Maker {
     /// The regex of a pattern.
     fn make(&mut self, alloc: Global, pattern: &Text) -> Result<Regex, MakeFault>
         ensures made { IfOk result (IsMadeOf pattern.now) }
-        ensures tells { TellsRefusal (refusals self.old) (refusals self.new) (last_refused self.old) (last_refused self.new) pattern.now result };
+        ensures tells { TellsRefusal (refusals self.old) (refusals self.new) (last_refused self.old)
+            (last_refused self.new) pattern.now result };
 }

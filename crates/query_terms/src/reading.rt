@@ -363,7 +363,8 @@ fn value_pattern(alloc: Global, text: &[u8]) -> Result<Option<Pattern>, Memory>
 /// A term on what a transaction says.
 fn read_said(alloc: Global, field: Field, text: &[u8]) -> Result<Option<Kind>, Memory>
     requires { is_utf8 text.now ≡ true }
-    ensures value { IfOk result (λ kind. kind ≡ Some (kinds.Said field (patterns.pattern_of text.now))) }
+    ensures value { IfOk result (λ kind.
+        kind ≡ Some (kinds.Said field (patterns.pattern_of text.now))) }
     ensures days { IfOk result (λ kind. IfSome kind spec.HasDays) }
 {
     Ok(Some(Kind::Said(field, read_pattern(alloc, text)?)))
@@ -372,7 +373,8 @@ fn read_said(alloc: Global, field: Field, text: &[u8]) -> Result<Option<Kind>, M
 /// A term on accounts.
 fn read_account(alloc: Global, text: &[u8]) -> Result<Option<Kind>, Memory>
     requires { is_utf8 text.now ≡ true }
-    ensures value { IfOk result (λ kind. kind ≡ Some (kinds.Account (patterns.pattern_of text.now))) }
+    ensures value { IfOk result (λ kind.
+        kind ≡ Some (kinds.Account (patterns.pattern_of text.now))) }
     ensures days { IfOk result (λ kind. IfSome kind spec.HasDays) }
 {
     Ok(Some(Kind::Account(read_pattern(alloc, text)?)))

@@ -78,7 +78,8 @@ fn push_postings(
 ) -> Result<(), Memory>
     requires { SumsFit sums.old shown.now }
     ensures { OnOk result (out.new.items
-        ≡ out.old.items ++ kept_lines (style_in styles.now) sums.old None (zip heads.now shown.now)) }
+        ≡ out.old.items
+        ++ kept_lines (style_in styles.now) sums.old None (zip heads.now shown.now)) }
 {
     let mut last = None;
     for at in 0..heads.len().min(shown.len()) {

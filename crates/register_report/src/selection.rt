@@ -57,7 +57,8 @@ fn append<'a>(all: &mut Vec<Entry<'a>>, more: &mut Vec<Entry<'a>>) -> Result<(),
 
 /// The postings that come before the first day of a span, where sums begin before all days.
 fn earlier_in<'a>(alloc: Global, scope: &Scope<'a>, span: Span) -> Result<Vec<Entry<'a>>, Memory>
-    ensures { IfOk result (λ earlier. earlier.items ≡ spec.earlier_in (question_of scope.now) span) }
+    ensures { IfOk result (λ earlier.
+        earlier.items ≡ spec.earlier_in (question_of scope.now) span) }
 {
     match scope.options.start {
         Start::Historical => {

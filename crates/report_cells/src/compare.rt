@@ -15,7 +15,8 @@ pub(crate) fn compare_names(left: &[u8], right: &[u8]) -> Ordering
 /// How many bytes at the front of two names are known to be the same. Names share long fronts, so these are passed eight
 /// bytes at a time.
 fn shared_front(left: &[u8], right: &[u8]) -> usize
-    ensures same { account_cmp left.now right.now ≡ account_cmp (drop result left.now) (drop result right.now) }
+    ensures same { account_cmp left.now right.now
+        ≡ account_cmp (drop result left.now) (drop result right.now) }
     ensures left { result ≤ length left.now }
     ensures right { result ≤ length right.now }
 {

@@ -74,7 +74,8 @@ impl<'a> Gatherer<'a> {
     /// The sums of the takings that came. `Range` names the least symbol whose amounts are too large.
     pub fn finish(self, alloc: Global) -> Result<Cells, ReportFault>
         requires { IsBegun self }
-        ensures { (columns : List Span) (reach : Reach) (ts : List Taken) → Gathers columns reach ts self.entry
+        ensures { (columns : List Span) (reach : Reach) (ts : List Taken)
+            → Gathers columns reach ts self.entry
             → Makes columns reach ts result }
     {
         let rows = self.rows;

@@ -50,7 +50,8 @@ fn unbuilt(options: &Options) -> Option<&'static str>
 
 /// What options and the words of a query ask for.
 fn asked_with(alloc: Global, options: Options, words: List<Text>) -> Result<Asked, WordsFault>
-    ensures answer { Gives (λ asked. asked) spec.words_cause result (spec.asked_with options words) }
+    ensures answer { Gives (λ asked.
+        asked) spec.words_cause result (spec.asked_with options words) }
 {
     if let Some(word) = unbuilt(&options) {
         let word = Text::copied(alloc, word)?;
@@ -68,7 +69,8 @@ fn asked_after(
     day: Day,
 ) -> Result<Asked, WordsFault>
     requires { IsDay day.0 }
-    ensures answer { Gives (λ asked. asked) spec.words_cause result (spec.asked_after command day.0 rest.now) }
+    ensures answer { Gives (λ asked.
+        asked) spec.words_cause result (spec.asked_after command day.0 rest.now) }
     ensures valid { IfOk result (λ asked. IsValid asked.options) }
 {
     let (options, words) = read_options(alloc, command, rest, day)?;
@@ -89,7 +91,8 @@ fn no_command(alloc: Global, word: &str) -> WordsFault
 /// first word that is no option or no value; the first two words that exclude each other.
 pub fn read_report(alloc: Global, words: &[Text], day: Day) -> Result<Asked, WordsFault>
     requires { IsDay day.0 }
-    ensures answer { Gives (λ asked. asked) spec.words_cause result (spec.asked_of day.0 words.now) }
+    ensures answer { Gives (λ asked.
+        asked) spec.words_cause result (spec.asked_of day.0 words.now) }
     ensures valid { IfOk result (λ asked. IsValid asked.options) }
 {
     match words {
@@ -109,7 +112,8 @@ fn given_after(
     day: Day,
 ) -> Result<(Given, Asked), WordsFault>
     requires { IsDay day.0 }
-    ensures answer { Gives (λ read. read) spec.words_cause result (spec.given_by (program_reading command day.0 rest.now)) }
+    ensures answer { Gives (λ read.
+        read) spec.words_cause result (spec.given_by (program_reading command day.0 rest.now)) }
     ensures valid { IfOk result (λ read. IsValid read.1.options) }
 {
     let (given, options, words) = read_program_options(alloc, command, rest, day)?;

@@ -18,7 +18,8 @@ ghost use Rattle.report_commands.specs.Reports.{report_over};
 #[tactic(auto, using(crate::proofs::AnyYear::any_year))]
 pub fn any_year()
     ensures { (asked : Asked) (day year : ℕ) (text : List ℕ)
-        → IfOk (report_over asked day None text) (λ report. report_over asked day (Some year) text ≡ Ok report) }
+        → IfOk (report_over asked day None text) (λ report.
+        report_over asked day (Some year) text ≡ Ok report) }
 {}
 
 /// What words ask for in a request they ask for behind the program's name too, over a journal that they don't name: so a

@@ -54,9 +54,11 @@ pub fn report<M: Maker>(
 ) -> Result<Bytes, WordsFault>
     requires day { IsDay loaded.now.day.0 }
     requires valid { IsValid asked.now.options }
-    requires styles { (symbol : List ℕ) → style_in loaded.now.styles.now symbol ≡ style_of loaded.now.items.now symbol }
+    requires styles { (symbol : List ℕ)
+        → style_in loaded.now.styles.now symbol ≡ style_of loaded.now.items.now symbol }
     ensures { Answers asked.now loaded.now.day.0 loaded.now.items.now loaded.now.book.now
-        (M.refusals maker.old) (M.refusals maker.new) (M.last_refused maker.old) (M.last_refused maker.new) result }
+        (M.refusals maker.old) (M.refusals maker.new) (M.last_refused maker.old)
+        (M.last_refused maker.new) result }
 {
     let types = Types::new(alloc, loaded.items)?;
     let prices = Prices::new(alloc, loaded.items)?;
@@ -81,7 +83,8 @@ pub fn report_of<M: Maker>(
     requires valid { IsValid asked.now.options }
     ensures { (items : List Placed) → IsMaterialOf items material.now
         → Answers asked.now material.now.day.0 items material.now.book.now
-        (M.refusals maker.old) (M.refusals maker.new) (M.last_refused maker.old) (M.last_refused maker.new) result }
+        (M.refusals maker.old) (M.refusals maker.new) (M.last_refused maker.old)
+        (M.last_refused maker.new) result }
 {
     match make_query(alloc, asked.words.as_slice(), material.day, maker) {
         Ok(query) => answer(alloc, asked, material, &query),

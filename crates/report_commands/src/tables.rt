@@ -24,7 +24,8 @@ use std::alloc::Global;
 /// The columns of a report. `TooWide` comes exactly where there are more than 1,200.
 pub(crate) fn columns_in(alloc: Global, scope: &Scope) -> Result<List<Span>, ReportFault>
     requires { IsValid scope.now.options.now }
-    ensures told { Gives (λ columns. columns) cause result (spec.columns_in (question_of scope.now)) }
+    ensures told { Gives (λ columns.
+        columns) cause result (spec.columns_in (question_of scope.now)) }
     ensures follow { IfOk result Follow }
     ensures few { IfOk result (λ columns. length columns < 2 ^ 32) }
 {

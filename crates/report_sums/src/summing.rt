@@ -108,7 +108,8 @@ fn cells_by<'a>(
     requires follow { Follow columns }
     requires few { length columns < 2 ^ 32 }
     ensures columns { IfOk result (λ c. c.columns ≡ columns) }
-    ensures told { Gives celled_of cause result (spec.cells_by way (matter_of job.now) columns takings.now) }
+    ensures told { Gives celled_of cause result
+        (spec.cells_by way (matter_of job.now) columns takings.now) }
 {
     let reach = reach_of(job.scope.options.start);
     match way {
@@ -178,7 +179,8 @@ fn planned_cells(alloc: Global, takings: &[Taking], plan: &Plan) -> Result<Cells
     requires follow { Follow plan.now.columns.now }
     requires few { length plan.now.columns.now < 2 ^ 32 }
     ensures columns { IfOk result (λ c. c.columns ≡ plan.now.columns.now) }
-    ensures told { Gives celled_of cause result (spec.column_cells (planned_of plan.now) takings.now) }
+    ensures told { Gives celled_of cause result
+        (spec.column_cells (planned_of plan.now) takings.now) }
 {
     cells_on(alloc, takings, plan)
 }

@@ -95,7 +95,8 @@ pub fn cells_then<'x>(
     ensures rows { IfOk result (λ c. map row_seen c.rows
         ≡ rows_in reach columns (values_of (priced_of market.now) (day_by dates.Own) takings.now)) }
     ensures totals { IfOk result (λ c. map seen c.totals
-        ≡ totals_in reach columns (values_of (priced_of market.now) (day_by dates.Own) takings.now)) }
+        ≡ totals_in reach columns
+        (values_of (priced_of market.now) (day_by dates.Own) takings.now)) }
     ensures within { OnOk result
         (first_refused (priced_of market.now) (day_by dates.Own) takings.now ≡ None) }
     ensures fault { IfErr result

@@ -27,7 +27,8 @@ fn status_and_line(refusal: &Refusal) -> (u8, &[u8])
 fn refuse<E: Sink>(err: &mut E, refusal: &Refusal) -> Status
     ensures told { Says result.0 (status_of refusal.now) (line_of refusal.now)
         (E.written err.old) (E.written err.new) (E.faults err.old) (E.faults err.new) }
-    ensures sound { E.HasRoom err.old (length (line_of refusal.now)) → result.0 ≡ status_of refusal.now }
+    ensures sound { E.HasRoom err.old (length (line_of refusal.now))
+        → result.0 ≡ status_of refusal.now }
 {
     let (status, line) = status_and_line(refusal);
     say(err, status, line)
@@ -38,7 +39,8 @@ fn say_end<E: Sink>(err: &mut E, failed: bool) -> Status
     ensures well { failed ≡ false → (result.0 ≡ 0) × (E.written err.new ≡ E.written err.old) }
     ensures fault { failed ≡ true → Says result.0 9 door_fault_line
         (E.written err.old) (E.written err.new) (E.faults err.old) (E.faults err.new) }
-    ensures sound { (failed ≡ true → E.HasRoom err.old (length door_fault_line)) → result.0 ≡ end_status failed }
+    ensures sound { (failed ≡ true → E.HasRoom err.old (length door_fault_line))
+        → result.0 ≡ end_status failed }
 {
     if failed {
         say(err, 9, b"error: door fault\n")
@@ -53,7 +55,8 @@ fn finish<O: Sink, E: Sink>(out: &mut O, err: &mut E, ended: &Ended) -> Status
     ensures written { IsWritten ended.now.failed ended.now.line result.0
         (sinks O.Sink E.Sink out.old err.old) (sinks O.Sink E.Sink out.new err.new) }
     ensures sound { O.HasRoom out.old (length ended.now.line)
-        → (ended.now.failed ≡ true → E.HasRoom err.old (length door_fault_line)) → result.0 ≡ end_status ended.now.failed }
+        → (ended.now.failed ≡ true → E.HasRoom err.old (length door_fault_line))
+        → result.0 ≡ end_status ended.now.failed }
 {
     match write_all(out, ended.line.as_slice()) {
         Ok(()) => say_end(err, ended.failed),
@@ -68,7 +71,8 @@ pub(crate) fn end_serve<J: Source, O: Sink, E: Sink, S: Shelf, M: Maker>(
 ) -> Status
     ensures ends { EndsServe answer.now result.0
         (sinks_of O.Sink E.Sink outside.old) (sinks_of O.Sink E.Sink outside.new) }
-    ensures soundly { EndsSoundly O.Sink E.Sink outside.old.streams.output outside.old.err answer.now result.0 }
+    ensures soundly { EndsSoundly O.Sink E.Sink outside.old.streams.output outside.old.err
+        answer.now result.0 }
     ensures stays { outside.new ≡ record outside.old {
       streams = record (outside.old.streams) { output = outside.new.streams.output };
       err = outside.new.err;

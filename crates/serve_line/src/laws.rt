@@ -14,7 +14,8 @@ use shared_desk::{each_is_answered, reports_are_fresh};
 /// it: a report byte for byte as a fresh run of its words over the text there, and a good edit by a fresh load of its text.
 pub fn histories_are_answered<D: Disk>()
     ensures { (opening last : Desk D D.Disk) (history : List (Entered Entry))
-        → IsLegal opening history last → Loads (state_of opening) → AnswersEach opening history last }
+        → IsLegal opening history last → Loads (state_of opening)
+        → AnswersEach opening history last }
 {
     each_is_answered::<D>();
     reports_are_fresh::<D>();

@@ -27,7 +27,8 @@ fn with_option<'a>(
     command: Command<'a>,
     name: &'a str,
 ) -> Result<Command<'a>, Memory>
-    ensures { IfOk result (λ more. app_of more ≡ with_rule (app_of command.entry) (spec.option_rule name.now)) }
+    ensures { IfOk result (λ more.
+        app_of more ≡ with_rule (app_of command.entry) (spec.option_rule name.now)) }
 {
     let option = Arg::new(alloc, name).long(name);
     let more = command.arg(option)?;
@@ -110,7 +111,8 @@ fn values_of(alloc: Global, matches: &ArgMatches<'_>) -> Result<Said, Memory>
 
 /// What the words say.
 pub(crate) fn said_by<'a>(alloc: Global, words: &'a [&'a str]) -> Result<Said, NoReading>
-    ensures { Gives (λ said. said) spec.no_reading_cause result (spec.said_by (spec.lent_texts words.now)) }
+    ensures { Gives (λ said.
+        said) spec.no_reading_cause result (spec.said_by (spec.lent_texts words.now)) }
 {
     let command = serve_command(alloc)?;
     let matches = match_words(command, words)?;

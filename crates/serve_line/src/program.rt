@@ -120,8 +120,10 @@ fn run_serve<
     site: &mut Site<J, O, E, S, M, H>,
     steps: &mut Steps<L>,
 ) -> Status
-    ensures { RunsServe O.Sink E.Sink S.Shelf S.Disk.Disk (kit_told H.Door.Door H.Clock.Clock H.Maker.Maker)
-        H.Door.Link.coming H.Door.Link.sent H.told (serve_read words.now) result.0 site.old site.new }
+    ensures { RunsServe O.Sink E.Sink S.Shelf S.Disk.Disk
+        (kit_told H.Door.Door H.Clock.Clock H.Maker.Maker)
+        H.Door.Link.coming H.Door.Link.sent H.told (serve_read words.now) result.0 site.old
+        site.new }
 {
     let answer = answer_serve(rt, alloc, words, site, steps);
     end_serve(&mut site.outside, &answer)
@@ -146,7 +148,8 @@ fn run_other<
     steps: &mut Steps<L>,
 ) -> Status
     requires { IsDay day.0 }
-    ensures { RunsOther J.Source O.Sink E.Sink S.Shelf S.Disk.Disk M.Maker words.now day result.0 site.old site.new }
+    ensures { RunsOther J.Source O.Sink E.Sink S.Shelf S.Disk.Disk M.Maker words.now day result.0
+        site.old site.new }
 {
     run_waiting(rt, alloc, words, day, &mut site.outside, steps)
 }
@@ -175,9 +178,11 @@ pub fn run_program<
 ) -> Status
     requires { IsDay day.0 }
     ensures served { is_serve words.now ≡ true → RunsServe O.Sink E.Sink S.Shelf S.Disk.Disk
-        (kit_told H.Door.Door H.Clock.Clock H.Maker.Maker) H.Door.Link.coming H.Door.Link.sent H.told
+        (kit_told H.Door.Door H.Clock.Clock H.Maker.Maker) H.Door.Link.coming H.Door.Link.sent
+        H.told
         (serve_read words.now) result.0 site.old site.new }
-    ensures other { is_serve words.now ≡ false → RunsOther J.Source O.Sink E.Sink S.Shelf S.Disk.Disk M.Maker
+    ensures other { is_serve words.now ≡ false
+        → RunsOther J.Source O.Sink E.Sink S.Shelf S.Disk.Disk M.Maker
         words.now day result.0 site.old site.new }
 {
     if asks_serve(words) {

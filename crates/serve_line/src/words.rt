@@ -41,7 +41,8 @@ fn lent_words<'a>(alloc: Global, words: &'a [Text]) -> Result<Vec<&'a str>, Memo
 
 /// What the words ask for.
 fn read_lent<'a>(alloc: Global, words: &'a [&'a str]) -> Result<Serving, NoReading>
-    ensures { Gives (λ asked. asked) spec.no_reading_cause result (spec.serve_read (spec.lent_texts words.now)) }
+    ensures { Gives (λ asked.
+        asked) spec.no_reading_cause result (spec.serve_read (spec.lent_texts words.now)) }
 {
     let said = said_by(alloc, words)?;
     asked_by(alloc, said)

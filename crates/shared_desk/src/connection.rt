@@ -35,10 +35,12 @@ fn serve_locked<'a, D: Disk, W: Wait, K: Link, C: Clock, M: Maker, L: Ledger>(
         × AreAsked (C.always clock.old) (M.refusals maker.old) (M.refusals maker.new)
         (M.last_refused maker.old) (M.last_refused maker.new) entries
         × IfSome (K.coming link.old)
-        (λ bytes. Sends (K.sent link.old) (K.sent link.new) (λ text. Served bytes result entries text))
+        (λ bytes. Sends (K.sent link.old) (K.sent link.new) (λ text.
+        Served bytes result entries text))
         × length entries ≤ most_messages }
     ensures counted { Counted result
-        (K.read_faults link.old) (K.read_faults link.new) (K.write_faults link.old) (K.write_faults link.new) }
+        (K.read_faults link.old) (K.read_faults link.new) (K.write_faults link.old)
+        (K.write_faults link.new) }
     ensures always { C.always clock.new ≡ C.always clock.old }
     ensures sound { IfSome (K.coming link.old) (λ bytes. IsOfWhole bytes → EndsWell result) }
     ensures spent { result ≡ ConnEnd.Spent → IsFull ask.new.pass.now }
@@ -68,10 +70,12 @@ pub fn serve_connection<D: Disk, W: Wait, K: Link, C: Clock, M: Maker, L: Ledger
         × AreAsked (C.always clock.old) (M.refusals maker.old) (M.refusals maker.new)
         (M.last_refused maker.old) (M.last_refused maker.new) entries
         × IfSome (K.coming link.old)
-        (λ bytes. Sends (K.sent link.old) (K.sent link.new) (λ text. Served bytes result entries text))
+        (λ bytes. Sends (K.sent link.old) (K.sent link.new) (λ text.
+        Served bytes result entries text))
         × length entries ≤ most_messages }
     ensures counted { Counted result
-        (K.read_faults link.old) (K.read_faults link.new) (K.write_faults link.old) (K.write_faults link.new) }
+        (K.read_faults link.old) (K.read_faults link.new) (K.write_faults link.old)
+        (K.write_faults link.new) }
     ensures always { C.always clock.new ≡ C.always clock.old }
     ensures sound { IfSome (K.coming link.old) (λ bytes. IsOfWhole bytes → EndsWell result) }
     ensures spent { result ≡ ConnEnd.Spent → IsFull pass.new }

@@ -21,8 +21,10 @@ use hl_base::Disk;
 /// run of its words over the text there, and a good edit, an import's among them, by what a fresh load of its text comes
 /// to.
 pub fn each_is_answered<D: Disk>()
-    ensures { (opening last : Desk D D.Disk) (earlier later : List (Entered Entry)) (x : Entered Entry)
-        → IsLegal opening (earlier ++ x ∷ later) last → IsAnswered opening earlier x.entry later last }
+    ensures { (opening last : Desk D D.Disk) (earlier later : List (Entered Entry))
+        (x : Entered Entry)
+        → IsLegal opening (earlier ++ x ∷ later) last
+        → IsAnswered opening earlier x.entry later last }
 {}
 
 /// Where the text of the machine that a legal history begins with makes a journal, so does the text at each place; and a
@@ -42,13 +44,15 @@ pub fn done_is_a_change<D: Disk>()
     ensures { (before after : Desk D D.Disk) (entry : Entry)
         → IsServed before entry after → is_done entry.reply ≡ true
         → (deed : Deed) × (deed_in (state_of before) entry.request ≡ Some deed)
-        × (edited (shown_by before) (change_of (state_of before).text deed) ≡ Some (shown_by after)) }
+        × (edited (shown_by before) (change_of (state_of before).text deed)
+        ≡ Some (shown_by after)) }
 {}
 
 /// At the end of a legal history the disks show the last state, and beside it at most one edit that was refused for a
 /// disk fault since the last one that was acknowledged; or, where none was, what they might show at first.
 pub fn disks_show_the_last<D: Disk>()
-    ensures { (opening last : Desk D D.Disk) (history : List (Entered Entry)) (pending : Option Image)
+    ensures { (opening last : Desk D D.Disk) (history : List (Entered Entry))
+        (pending : Option Image)
         → IsLegal opening history last → Stands opening.store (shown_by opening) pending
         → (after : Option Image) × MayBeLeft opening history pending after
         × Stands last.store (shown_by last) after }
@@ -65,7 +69,8 @@ pub fn faults_are_counted<D: Disk>()
 /// were refused, by counts that stay at their last value.
 pub fn counts_are_kept<D: Disk>()
     ensures { (opening last : Desk D D.Disk) (history : List (Entered Entry))
-        → IsLegal opening history last → counts_of opening ≡ (0, 0) → counts_of last ≡ tally history }
+        → IsLegal opening history last → counts_of opening ≡ (0, 0)
+        → counts_of last ≡ tally history }
 {}
 
 /// Along the entries of a connection, or of a worker, the maker's count of refused patterns rises by at least the number of

@@ -59,7 +59,8 @@ fn serve_given<D: Disk, W: Wait, R: Door, C: Clock, M: Maker, L: Ledger>(
 ) -> DoorEnd
     requires free { IsFree turn.now pass.old }
     requires fresh { (R.Link.read_faults link ≡ 0) × (R.Link.write_faults link ≡ 0) }
-    ensures { ServesGiven R.Link.coming R.Link.sent result link (kit_told R.Door C.Clock M.Maker kit.old)
+    ensures { ServesGiven R.Link.coming R.Link.sent result link
+        (kit_told R.Door C.Clock M.Maker kit.old)
         (kit_told R.Door C.Clock M.Maker kit.new) pass.old pass.new }
 {
     let mut link = link;
@@ -87,7 +88,8 @@ fn serve_next<D: Disk, W: Wait, R: Door, C: Clock, M: Maker, L: Ledger>(
     steps: &mut Steps<L>,
 ) -> DoorEnd
     requires { IsFree turn.now pass.old }
-    ensures { ServesDoor R.Link.coming R.Link.sent 1 result (kit_told R.Door C.Clock M.Maker kit.old)
+    ensures { ServesDoor R.Link.coming R.Link.sent 1 result
+        (kit_told R.Door C.Clock M.Maker kit.old)
         (kit_told R.Door C.Clock M.Maker kit.new) pass.old pass.new }
 {
     match kit.door.next() {
@@ -109,7 +111,8 @@ pub fn serve_door<D: Disk, W: Wait, R: Door, C: Clock, M: Maker, L: Ledger>(
     steps: &mut Steps<L>,
 ) -> DoorEnd
     requires { IsFree turn.now pass.old }
-    ensures { ServesDoor R.Link.coming R.Link.sent limit result (kit_told R.Door C.Clock M.Maker kit.old)
+    ensures { ServesDoor R.Link.coming R.Link.sent limit result
+        (kit_told R.Door C.Clock M.Maker kit.old)
         (kit_told R.Door C.Clock M.Maker kit.new) pass.old pass.new }
 {
     'links: for _served in 0..limit {

@@ -88,7 +88,13 @@ impl<D: Disk> Shared<D> {
     ) -> Answered
         requires { IsDay day.0 }
         ensures note { result.note
-            ≡ record { request = request.now; day = day; reply = result.reply; revision = result.revision } }
+            ≡ record {
+              request = request.now;
+              day = day;
+              reply = result.reply;
+              revision =
+                  result.revision;
+            } }
         ensures maker { TellsReply request.now day.0 (M.refusals maker.old) (M.refusals maker.new)
             (M.last_refused maker.old) (M.last_refused maker.new) result.reply }
         ensures rule { TellsRule request.now (state_of self.old.desk).text day.0

@@ -50,7 +50,8 @@ impl<T: Ranked + Drop> SharedSet<T> {
 
     /// The item that is looked for.
     pub fn get<Q: Seek<T>>(&self, sought: &Q) -> Option<&T>
-        ensures item { option_copied result ≡ find (λ item. is_eq (Q.side sought.now item)) self.now }
+        ensures item { option_copied result ≡ find (λ item.
+            is_eq (Q.side sought.now item)) self.now }
         ensures rises { Rises T.rank self.now }
     {
         find_equal(&self.tree, sought)
@@ -58,7 +59,8 @@ impl<T: Ranked + Drop> SharedSet<T> {
 
     /// The first item above what is looked for.
     pub fn above<Q: Seek<T>>(&self, sought: &Q) -> Option<&T>
-        ensures item { option_copied result ≡ find (λ item. is_lt (Q.side sought.now item)) self.now }
+        ensures item { option_copied result ≡ find (λ item.
+            is_lt (Q.side sought.now item)) self.now }
         ensures rises { Rises T.rank self.now }
     {
         find_above(&self.tree, sought)
@@ -66,7 +68,8 @@ impl<T: Ranked + Drop> SharedSet<T> {
 
     /// The last item below what is looked for.
     pub fn below<Q: Seek<T>>(&self, sought: &Q) -> Option<&T>
-        ensures item { option_copied result ≡ find_last (λ item. is_gt (Q.side sought.now item)) self.now }
+        ensures item { option_copied result ≡ find_last (λ item.
+            is_gt (Q.side sought.now item)) self.now }
         ensures rises { Rises T.rank self.now }
     {
         find_below(&self.tree, sought)

@@ -41,7 +41,8 @@ pub fn section(
     least: &mut Option<Text>,
 ) -> Result<Section, Memory>
     requires some { 0 < page.now.columns }
-    requires fits { SectionFits (layout_on page.now) page.now.columns (map row_seen rows) (map seen totals) }
+    requires fits { SectionFits (layout_on page.now) page.now.columns (map row_seen rows)
+        (map seen totals) }
     ensures section { IfOk result (λ section. exactly section ≡ part_section (layout_on page.now)
         page.now.columns (style_on page.now) part (map row_seen rows) (map seen totals)) }
     ensures least { OnOk result (least.new ≡ least_with least.old (part_out (layout_on page.now)
@@ -72,7 +73,8 @@ fn unnamed(alloc: Global, totals: &[Mixed], turn: bool) -> Result<CellRow, Memor
 
 /// The totals of two sections as rows, the second turned.
 fn net_rows(alloc: Global, first: &[Mixed], second: &[Mixed]) -> Result<Vec<CellRow>, Memory>
-    ensures { IfOk result (λ rows. map row_seen rows.items ≡ net_rows (map seen first.now) (map seen second.now)) }
+    ensures { IfOk result (λ rows.
+        map row_seen rows.items ≡ net_rows (map seen first.now) (map seen second.now)) }
 {
     let mut rows = Vec::new(alloc);
     rows.push(unnamed(alloc, first, false)?)?;
@@ -89,7 +91,8 @@ fn net(
     columns: usize,
 ) -> Result<List<Mixed>, Memory>
     requires { ColumnsFit (net_rows (map seen first.now) (map seen second.now)) }
-    ensures { IfOk result (λ sums. map seen sums ≡ net columns (map seen first.now) (map seen second.now)) }
+    ensures { IfOk result (λ sums.
+        map seen sums ≡ net columns (map seen first.now) (map seen second.now)) }
 {
     let rows = net_rows(alloc, first, second)?;
     totals_of(alloc, rows.as_slice(), columns)
@@ -122,10 +125,13 @@ pub fn net_line(
     least: &mut Option<Text>,
 ) -> Result<Option<(Text, List<Mixed>)>, Memory>
     requires some { 0 < page.now.columns }
-    requires fits { NetFits (layout_on page.now) (net_rows (map seen first.now) (map seen second.now)) }
-    ensures line { IfOk result (λ line. exact_last line ≡ net_line (layout_on page.now) page.now.columns
+    requires fits { NetFits (layout_on page.now)
+        (net_rows (map seen first.now) (map seen second.now)) }
+    ensures line { IfOk result (λ line.
+        exact_last line ≡ net_line (layout_on page.now) page.now.columns
         (style_on page.now) (net page.now.columns (map seen first.now) (map seen second.now))) }
-    ensures least { OnOk result (least.new ≡ least_with least.old (totals_out (layout_on page.now) page.now.columns
+    ensures least { OnOk result (least.new
+        ≡ least_with least.old (totals_out (layout_on page.now) page.now.columns
         (style_on page.now) (net page.now.columns (map seen first.now) (map seen second.now)))) }
 {
     let sums = net(alloc, first, second, page.columns)?;

@@ -62,9 +62,11 @@ fn body_of(
 ) -> Result<Body, ReportFault>
     requires some { 0 < page.now.columns }
     requires fits { PartsFit (layout_on page.now) (map row_seen upper) (map row_seen lower) }
-    ensures body { IfOk result (IsBody statement (layout_on page.now) page.now.columns (style_on page.now)
+    ensures body { IfOk result (IsBody statement (layout_on page.now) page.now.columns
+        (style_on page.now)
         (map row_seen upper) (map row_seen lower)) }
-    ensures told { OnOk result (least (parts_out (layout_on page.now) page.now.columns (style_on page.now)
+    ensures told { OnOk result (least
+        (parts_out (layout_on page.now) page.now.columns (style_on page.now)
         (map row_seen upper) (map row_seen lower)) ≡ None) }
     ensures fault { IfErr result (IsFault (least (parts_out (layout_on page.now) page.now.columns
         (style_on page.now) (map row_seen upper) (map row_seen lower)))) }
@@ -97,9 +99,11 @@ fn statement_text(
 ) -> Result<Bytes, ReportFault>
     requires some { 0 < length cells.columns }
     requires fits { CellsFit layout.now (map row_seen cells.rows) }
-    ensures text { IfOk result (λ text. text ≡ statement_text statement layout.now (own_in types.now)
+    ensures text { IfOk result (λ text.
+        text ≡ statement_text statement layout.now (own_in types.now)
         (style_in styles.now) cells.columns (map row_seen cells.rows)) }
-    ensures told { OnOk result (out_of_range statement layout.now (own_in types.now) (style_in styles.now)
+    ensures told { OnOk result (out_of_range statement layout.now (own_in types.now)
+        (style_in styles.now)
         (length cells.columns) (map row_seen cells.rows) ≡ None) }
     ensures fault { IfErr result (IsFault (out_of_range statement layout.now (own_in types.now)
         (style_in styles.now) (length cells.columns) (map row_seen cells.rows))) }
@@ -138,11 +142,14 @@ pub fn income_text(
 ) -> Result<Bytes, ReportFault>
     requires some { 0 < length cells.columns }
     requires fits { CellsFit layout.now (map row_seen cells.rows) }
-    ensures text { IfOk result (λ text. text ≡ statement_text Statement.Income layout.now (own_in types.now)
+    ensures text { IfOk result (λ text.
+        text ≡ statement_text Statement.Income layout.now (own_in types.now)
         (style_in styles.now) cells.columns (map row_seen cells.rows)) }
-    ensures told { OnOk result (out_of_range Statement.Income layout.now (own_in types.now) (style_in styles.now)
+    ensures told { OnOk result (out_of_range Statement.Income layout.now (own_in types.now)
+        (style_in styles.now)
         (length cells.columns) (map row_seen cells.rows) ≡ None) }
-    ensures fault { IfErr result (IsFault (out_of_range Statement.Income layout.now (own_in types.now)
+    ensures fault { IfErr result (IsFault
+        (out_of_range Statement.Income layout.now (own_in types.now)
         (style_in styles.now) (length cells.columns) (map row_seen cells.rows))) }
 {
     statement_text(alloc, Statement::Income, cells, layout, types, styles)
@@ -159,11 +166,14 @@ pub fn sheet_text(
 ) -> Result<Bytes, ReportFault>
     requires some { 0 < length cells.columns }
     requires fits { CellsFit layout.now (map row_seen cells.rows) }
-    ensures text { IfOk result (λ text. text ≡ statement_text Statement.Sheet layout.now (own_in types.now)
+    ensures text { IfOk result (λ text.
+        text ≡ statement_text Statement.Sheet layout.now (own_in types.now)
         (style_in styles.now) cells.columns (map row_seen cells.rows)) }
-    ensures told { OnOk result (out_of_range Statement.Sheet layout.now (own_in types.now) (style_in styles.now)
+    ensures told { OnOk result (out_of_range Statement.Sheet layout.now (own_in types.now)
+        (style_in styles.now)
         (length cells.columns) (map row_seen cells.rows) ≡ None) }
-    ensures fault { IfErr result (IsFault (out_of_range Statement.Sheet layout.now (own_in types.now)
+    ensures fault { IfErr result (IsFault
+        (out_of_range Statement.Sheet layout.now (own_in types.now)
         (style_in styles.now) (length cells.columns) (map row_seen cells.rows))) }
 {
     statement_text(alloc, Statement::Sheet, cells, layout, types, styles)

@@ -19,7 +19,8 @@ fn follow_beside<J: Source, S: Shelf>(
     shelf: &mut S,
 ) -> Result<Followed, FollowRefusal>
     requires { beside.now ≡ second_name_of name.now }
-    ensures { FollowsStore J.Source S.Shelf S.Disk.Disk name.now limit source.old source.new shelf.old shelf.new result }
+    ensures { FollowsStore J.Source S.Shelf S.Disk.Disk name.now limit source.old source.new
+        shelf.old shelf.new result }
 {
     match take_disks(alloc, shelf, name, beside, true) {
         Ok((first, second)) => {
@@ -44,7 +45,8 @@ pub fn follow_store<J: Source, S: Shelf>(
     source: &mut J,
     shelf: &mut S,
 ) -> Result<Followed, FollowRefusal>
-    ensures { FollowsStore J.Source S.Shelf S.Disk.Disk name.now limit source.old source.new shelf.old shelf.new result }
+    ensures { FollowsStore J.Source S.Shelf S.Disk.Disk name.now limit source.old source.new
+        shelf.old shelf.new result }
 {
     let Ok(beside) = second_name(alloc, name) else {
         return Err(FollowRefusal::Store(StoreRefusal::Memory));

@@ -23,8 +23,10 @@ fn is_empty<D: Disk>(device: &mut D) -> Result<bool, Failed>
 pub(crate) fn are_empty<D: Disk>(first: &mut D, second: &mut D) -> Result<bool, Failed>
     ensures empty { IfOk result (λ empty. Told D.Disk (first.old, second.old) (AreEmpty empty)) }
     ensures reads { IsReadOn D.Disk first.old first.new × IsReadOn D.Disk second.old second.new }
-    ensures rose { OnErr result (Rose (fault_count D.Disk (first.old, second.old)) (fault_count D.Disk (first.new, second.new))) }
-    ensures same { OnOk result (fault_count D.Disk (first.new, second.new) ≡ fault_count D.Disk (first.old, second.old)) }
+    ensures rose { OnErr result (Rose (fault_count D.Disk (first.old, second.old))
+        (fault_count D.Disk (first.new, second.new))) }
+    ensures same { OnOk result (fault_count D.Disk (first.new, second.new)
+        ≡ fault_count D.Disk (first.old, second.old)) }
 {
     let of_first = is_empty(first)?;
     let of_second = is_empty(second)?;

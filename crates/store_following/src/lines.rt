@@ -29,7 +29,8 @@ fn line_of(alloc: Global, text: &str) -> Result<Bytes, Memory>
 
 /// A text with another one and a number behind it.
 fn with_count(alloc: Global, mut line: String, front: &str, number: u64) -> Result<String, Memory>
-    ensures { IfOk result (λ longer. string_bytes longer ≡ spec.with_count (string_bytes line) front.now number) }
+    ensures { IfOk result (λ longer.
+        string_bytes longer ≡ spec.with_count (string_bytes line) front.now number) }
 {
     line.push_str(front)?;
     line.push_str(number.to_string(alloc)?.as_str())?;

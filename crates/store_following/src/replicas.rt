@@ -24,7 +24,8 @@ fn lead<J: Source, D: Disk>(
     follower: Follower<D>,
     tally: Tally,
 ) -> (D, D, Result<Followed, FollowRefusal>)
-    ensures { IsLed J.Source D.Disk source.old source.new follower tally (result.0, result.1) result.2 }
+    ensures { IsLed J.Source D.Disk source.old source.new follower tally (result.0, result.1)
+        result.2 }
 {
     let mut follower = follower;
     let mut tally = tally;
@@ -43,8 +44,10 @@ fn make<J: Source, D: Disk>(
     frame: &Frame,
     limit: u64,
 ) -> (D, D, Result<Followed, FollowRefusal>)
-    ensures makes { IsMade J.Source D.Disk frame.now source.old source.new (first, second) (result.0, result.1) limit result.2
-        ⊎ IsUnmade D.Disk frame.now source.old source.new (first, second) (result.0, result.1) limit result.2 }
+    ensures makes { IsMade J.Source D.Disk frame.now source.old source.new (first, second)
+        (result.0, result.1) limit result.2
+        ⊎ IsUnmade D.Disk frame.now source.old source.new (first, second) (result.0, result.1) limit
+        result.2 }
     ensures small { frame.now.revision < 2 ^ 64 }
 {
     let _revision = frame.revision;
@@ -69,7 +72,8 @@ fn begin<J: Source, D: Disk>(
     second: D,
     limit: u64,
 ) -> (D, D, Result<Followed, FollowRefusal>)
-    ensures { Starts J.Source D.Disk source.old source.new (first, second) (result.0, result.1) limit result.2 }
+    ensures { Starts J.Source D.Disk source.old source.new (first, second) (result.0, result.1)
+        limit result.2 }
 {
     match next_frame(alloc, source) {
         Ok(found) => match found {
@@ -87,7 +91,8 @@ fn go_on<J: Source, D: Disk>(
     first: D,
     second: D,
 ) -> (D, D, Result<Followed, FollowRefusal>)
-    ensures { IsOpened J.Source D.Disk source.old source.new (first, second) (result.0, result.1) result.2
+    ensures { IsOpened J.Source D.Disk source.old source.new (first, second) (result.0, result.1)
+        result.2
         ⊎ IsUnopened D.Disk source.old source.new (first, second) (result.0, result.1) result.2 }
 {
     match Follower::open(alloc, first, second) {
@@ -112,7 +117,8 @@ fn by_length<J: Source, D: Disk>(
     empty: bool,
     limit: u64,
 ) -> (D, D, Result<Followed, FollowRefusal>)
-    ensures { ByLength J.Source D.Disk source.old source.new (first, second) (result.0, result.1) limit result.2 empty }
+    ensures { ByLength J.Source D.Disk source.old source.new (first, second) (result.0, result.1)
+        limit result.2 empty }
 {
     if empty {
         begin(alloc, source, first, second, limit)
@@ -130,7 +136,8 @@ pub fn follow_disks<J: Source, D: Disk>(
     second: D,
     limit: u64,
 ) -> (D, D, Result<Followed, FollowRefusal>)
-    ensures { FollowsDisks J.Source D.Disk source.old source.new (first, second) (result.0, result.1) limit result.2 }
+    ensures { FollowsDisks J.Source D.Disk source.old source.new (first, second)
+        (result.0, result.1) limit result.2 }
 {
     let mut first = first;
     let mut second = second;

@@ -36,7 +36,8 @@ fn judge_and_make<S: Shelf, L: Ledger>(
     shelf: &mut S,
     steps: &mut Steps<L>,
 ) -> Result<(), JournalRefusal>
-    ensures { JudgesAndMakes S.Shelf S.Disk.Disk name.now text.now limit shelf.old shelf.new result }
+    ensures { JudgesAndMakes S.Shelf S.Disk.Disk name.now text.now limit shelf.old shelf.new
+        result }
 {
     if let Err(refusal) = judge_text(alloc, text, steps) {
         return Err(refusal);

@@ -25,7 +25,8 @@ fn take_second<S: Shelf>(
     first: S::Disk,
 ) -> Result<(S::Disk, S::Disk), StoreRefusal>
     requires { S.HasPlace shelf.old name.now }
-    ensures { SecondIsTaken S.Shelf S.Disk.Disk name.now beside.now first shelf.old shelf.new result }
+    ensures { SecondIsTaken S.Shelf S.Disk.Disk name.now beside.now first shelf.old shelf.new
+        result }
 {
     match shelf.take(alloc, beside, true) {
         Ok(second) => Ok((first, second)),

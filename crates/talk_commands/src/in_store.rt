@@ -62,8 +62,10 @@ pub fn talk_store<S: Shelf, W: Wait, K: Link, M: Maker, L: Ledger>(
     steps: &mut Steps<L>,
 ) -> Result<ConnEnd, JournalRefusal>
     requires { IsDay talk.now.terms.day.0 }
-    ensures talks { TalksStore S.Shelf S.Disk.Disk talk.now.store talk.now.terms.allow talk.now.terms.day.0
-        (told_by M.Maker maker.old maker.new) (wire K.Link link.old link.new) shelf.old shelf.new result }
+    ensures talks { TalksStore S.Shelf S.Disk.Disk talk.now.store talk.now.terms.allow
+        talk.now.terms.day.0
+        (told_by M.Maker maker.old maker.new) (wire K.Link link.old link.new) shelf.old shelf.new
+        result }
     ensures untouched { OnErr result ((link.new ≡ link.old) × (maker.new ≡ maker.old)) }
 {
     let Ok(beside) = second_name(alloc, &talk.store) else {

@@ -45,7 +45,8 @@ fn talk_under<D: Disk, W: Wait, K: Link, M: Maker, L: Ledger>(
     requires first { lock.1 ≡ first_pass lock.0 }
     requires done { lock.0.done ≡ 0 }
     requires day { IsDay day.0 }
-    ensures { (entries : List Entry) × IsTalked lock.0.opening.desk day.0 (told_by M.Maker maker.old maker.new)
+    ensures { (entries : List Entry)
+        × IsTalked lock.0.opening.desk day.0 (told_by M.Maker maker.old maker.new)
         (wire K.Link link.old link.new)
         result.2 (result.0, result.1) entries }
 {

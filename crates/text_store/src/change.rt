@@ -73,7 +73,8 @@ pub fn mark_bytes(alloc: Global, latest: &Latest) -> Result<Vec<u8>, Memory>
 /// The record of a change as it is written behind a gate, with a shut gate behind it.
 pub fn record_of(alloc: Global, change: &Change) -> Result<Vec<u8>, Memory>
     requires { HasShortName change.now }
-    ensures bytes { IfOk result (λ bytes. bytes.items ≡ body (kind_of change.now) (payload_of change.now) ++ 0 ∷ []) }
+    ensures bytes { IfOk result (λ bytes.
+        bytes.items ≡ body (kind_of change.now) (payload_of change.now) ++ 0 ∷ []) }
     ensures is_change { OnOk result (IsChange change.now) }
     ensures fits { OnOk result (length (payload_of change.now) < 2 ^ 64) }
 {

@@ -27,14 +27,18 @@ fn read_more<D: Disk>(
     bytes: &mut Vec<u8>,
 ) -> Result<(), StoreFault>
     requires { 0 < length room.old }
-    ensures read { OnOk result ((file : List ℕ) → D.seen device.old ≡ Some file → length bytes.old.items ≤ length file
+    ensures read { OnOk result ((file : List ℕ) → D.seen device.old ≡ Some file
+        → length bytes.old.items ≤ length file
         → bytes.old.items ≡ take (length bytes.old.items) file
-        → (bytes.new.items ≡ take (length bytes.new.items) file) × (length bytes.new.items ≤ length file)
-        × (length bytes.new.items ≡ length bytes.old.items → length file ≤ length bytes.new.items)) }
+        → (bytes.new.items ≡ take (length bytes.new.items) file)
+        × (length bytes.new.items ≤ length file)
+        × (length bytes.new.items ≡ length bytes.old.items
+        → length file ≤ length bytes.new.items)) }
     ensures longer { vec_len bytes.old ≤ vec_len bytes.new }
     ensures room { length room.new ≡ length room.old }
     ensures reads { IsReadOn D.Disk device.old device.new }
-    ensures cause { IfErr result (λ e. ReadRefused (D.failures device.old) (D.failures device.new) e) }
+    ensures cause { IfErr result (λ e.
+        ReadRefused (D.failures device.old) (D.failures device.new) e) }
     ensures no_fault { OnOk result (D.failures device.new ≡ D.failures device.old) }
 {
     let count = device.read(bytes.len() as u64, room)?;
@@ -44,9 +48,11 @@ fn read_more<D: Disk>(
 
 /// Reads all of a file.
 pub fn read_all<D: Disk>(alloc: Global, device: &mut D) -> Result<Vec<u8>, StoreFault>
-    ensures bytes { IfOk result (λ bytes. (file : List ℕ) → D.seen device.old ≡ Some file → bytes.items ≡ file) }
+    ensures bytes { IfOk result (λ bytes. (file : List ℕ) → D.seen device.old ≡ Some file
+        → bytes.items ≡ file) }
     ensures reads { IsReadOn D.Disk device.old device.new }
-    ensures cause { IfErr result (λ e. ReadRefused (D.failures device.old) (D.failures device.new) e) }
+    ensures cause { IfErr result (λ e.
+        ReadRefused (D.failures device.old) (D.failures device.new) e) }
     ensures no_fault { OnOk result (D.failures device.new ≡ D.failures device.old) }
 {
     let len = device.len()?;
@@ -67,7 +73,8 @@ pub fn rest_whole<D: Disk>(alloc: Global, device: &mut D) -> Result<Vec<u8>, Sto
     ensures rests { IfOk result (λ bytes. (file : List ℕ) → D.seen device.old ≡ Some file
         → (bytes.items ≡ file) × RestsAs D.seen D.tells_crashes D.may_leave device.new file) }
     ensures reads { IsReadOn D.Disk device.old device.new }
-    ensures cause { IfErr result (λ e. ReadRefused (D.failures device.old) (D.failures device.new) e) }
+    ensures cause { IfErr result (λ e.
+        ReadRefused (D.failures device.old) (D.failures device.new) e) }
     ensures no_fault { OnOk result (D.failures device.new ≡ D.failures device.old) }
 {
     device.sync()?;
@@ -80,12 +87,18 @@ pub fn read_both<D: Disk>(
     first: &mut D,
     second: &mut D,
 ) -> Result<(Vec<u8>, Vec<u8>), StoreFault>
-    ensures rests { IfOk result (λ bytes. Told D.Disk (first.old, second.old) (λ f s. (bytes.0.items ≡ f) × (bytes.1.items ≡ s)
-        × RestsAs D.seen D.tells_crashes D.may_leave first.new f × RestsAs D.seen D.tells_crashes D.may_leave second.new s)) }
-    ensures any_moment { Throughout D.Disk (first.old, second.old) (first.new, second.new) (λ f s. D.may_leave first.old f × D.may_leave second.old s) }
+    ensures rests { IfOk result (λ bytes.
+        Told D.Disk (first.old, second.old) (λ f s. (bytes.0.items ≡ f) × (bytes.1.items ≡ s)
+        × RestsAs D.seen D.tells_crashes D.may_leave first.new f
+        × RestsAs D.seen D.tells_crashes D.may_leave second.new s)) }
+    ensures any_moment { Throughout D.Disk (first.old, second.old) (first.new, second.new) (λ f s.
+        D.may_leave first.old f × D.may_leave second.old s) }
     ensures reads { IsReadOn D.Disk first.old first.new × IsReadOn D.Disk second.old second.new }
-    ensures cause { IfErr result (λ e. ReadRefused (fault_count D.Disk (first.old, second.old)) (fault_count D.Disk (first.new, second.new)) e) }
-    ensures no_fault { OnOk result ((D.failures first.new ≡ D.failures first.old) × (D.failures second.new ≡ D.failures second.old)) }
+    ensures cause { IfErr result (λ e.
+        ReadRefused (fault_count D.Disk (first.old, second.old))
+        (fault_count D.Disk (first.new, second.new)) e) }
+    ensures no_fault { OnOk result ((D.failures first.new ≡ D.failures first.old)
+        × (D.failures second.new ≡ D.failures second.old)) }
 {
     let first_bytes = rest_whole(alloc, first)?;
     let second_bytes = rest_whole(alloc, second)?;

@@ -9,10 +9,13 @@ use hl_base::{Disk, Failed};
 /// Writes bytes at a place and syncs.
 pub fn write_durably<D: Disk>(device: &mut D, at: u64, piece: &[u8]) -> Result<(), Failed>
     requires { at + length piece.now < 2 ^ 64 }
-    ensures rests { OnOk result (Comes D.seen D.tells_crashes D.may_leave device.old device.new (λ file. overwritten file at piece.now)) }
+    ensures rests { OnOk result (Comes D.seen D.tells_crashes D.may_leave device.old device.new
+        (λ file. overwritten file at piece.now)) }
     ensures torn { Becomes (Torn at (length piece.now)) (D.seen device.old) (D.seen device.new) }
-    ensures crash { Follows (Torn at (length piece.now)) (D.may_leave device.old) (D.may_leave device.new) }
-    ensures any_moment { LeavesOnly D.moment D.left_since device.old device.new (AfterStep (Torn at (length piece.now)) (D.may_leave device.old)) }
+    ensures crash { Follows (Torn at (length piece.now)) (D.may_leave device.old)
+        (D.may_leave device.new) }
+    ensures any_moment { LeavesOnly D.moment D.left_since device.old device.new
+        (AfterStep (Torn at (length piece.now)) (D.may_leave device.old)) }
     ensures reach { D.reach device.new ≡ max (D.reach device.old) (at + length piece.now) }
     ensures cause { HasCause (D.failures device.old) (D.failures device.new) result }
     ensures tells { D.tells_crashes device.new ≡ D.tells_crashes device.old }
@@ -24,10 +27,12 @@ pub fn write_durably<D: Disk>(device: &mut D, at: u64, piece: &[u8]) -> Result<(
 
 /// Cuts a file to a length and syncs; a shorter one stays.
 pub fn cut_durably<D: Disk>(device: &mut D, len: u64) -> Result<(), Failed>
-    ensures rests { OnOk result (Comes D.seen D.tells_crashes D.may_leave device.old device.new (λ file. take len file)) }
+    ensures rests { OnOk result (Comes D.seen D.tells_crashes D.may_leave device.old device.new
+        (λ file. take len file)) }
     ensures partial { Becomes (Cut len) (D.seen device.old) (D.seen device.new) }
     ensures crash { Follows (Cut len) (D.may_leave device.old) (D.may_leave device.new) }
-    ensures any_moment { LeavesOnly D.moment D.left_since device.old device.new (AfterStep (Cut len) (D.may_leave device.old)) }
+    ensures any_moment { LeavesOnly D.moment D.left_since device.old device.new
+        (AfterStep (Cut len) (D.may_leave device.old)) }
     ensures reach { D.reach device.new ≡ max (D.reach device.old) len }
     ensures cause { HasCause (D.failures device.old) (D.failures device.new) result }
     ensures tells { D.tells_crashes device.new ≡ D.tells_crashes device.old }

@@ -8,7 +8,8 @@ use std::alloc::Global;
 
 /// The frames of the open records of a half, in order.
 pub fn frames_of(alloc: Global, file: &[u8]) -> Result<Vec<u8>, Memory>
-    ensures { IfOk result (λ frames. base_of file.now ≤ 2 ^ 62 → frames.items ≡ frames_of file.now) }
+    ensures { IfOk result (λ frames. base_of file.now ≤ 2 ^ 62
+        → frames.items ≡ frames_of file.now) }
 {
     let mut frames = Vec::new(alloc);
     if file.len() < 32 {
@@ -27,7 +28,8 @@ pub fn frames_of(alloc: Global, file: &[u8]) -> Result<Vec<u8>, Memory>
 // Adds the frame of a entry.
 fn push_frame(frames: &mut Vec<u8>, revision: u64, file: &[u8], entry: Record) -> Result<(), Memory>
     requires { entry.payload + entry.len ≤ length file.now }
-    ensures { OnOk result (frames.new.items ≡ frames.old.items ++ frame revision entry.kind (take entry.len (drop entry.payload file.now))) }
+    ensures { OnOk result (frames.new.items ≡ frames.old.items
+        ++ frame revision entry.kind (take entry.len (drop entry.payload file.now))) }
 {
     frames.extend_from_slice(&revision.to_le_bytes())?;
     frames.push(entry.kind)?;

@@ -128,7 +128,8 @@ fn choose(first: Option<LiveHalf>, second: Option<LiveHalf>) -> Choice
 
 /// The image of a content.
 pub fn image_of(content: Content, revision: u64) -> Image
-    ensures { result ≡ record { text = content.text.items; latest = content.latest.states.items; revision = revision } }
+    ensures { result ≡ record
+        { text = content.text.items; latest = content.latest.states.items; revision = revision } }
 {
     Image {
         text: Bytes::from_vec(content.text),
@@ -145,7 +146,8 @@ fn read_half(
     in_second: bool,
 ) -> Result<Found, StoreFault>
     requires { IsLiveHalf file.now half }
-    ensures found { IfOk result (λ found. (beside : List ℕ) → IsChosen in_second half.generation (live beside)
+    ensures found { IfOk result (λ found. (beside : List ℕ)
+        → IsChosen in_second half.generation (live beside)
         → IsInUse file.now beside in_second found.image found.place) }
     ensures writable { IfOk result (λ found. IsWritable found.image) }
     ensures refused { IfErr result (λ e. HalfRefused (half_in_code file.now half) e) }
@@ -167,7 +169,8 @@ fn read_half(
 
 // The image of a file of version 1.
 fn read_old(alloc: Global, file: &[u8]) -> Result<Image, StoreFault>
-    ensures found { IfOk result (λ image. (old_image file.now ≡ Ok image) × IsWritable image × (image.revision ≤ 2 ^ 62) × (16 ≤ length file.now)) }
+    ensures found { IfOk result (λ image. (old_image file.now ≡ Ok image) × IsWritable image
+        × (image.revision ≤ 2 ^ 62) × (16 ≤ length file.now)) }
     ensures refused { IfErr result (λ e. OldRefused (old_image file.now) e) }
 {
     if file.len() < 17 {
@@ -188,7 +191,8 @@ fn read_old(alloc: Global, file: &[u8]) -> Result<Image, StoreFault>
 
 // A text without import states.
 fn text_alone(alloc: Global, text: &[u8]) -> Result<Content, Memory>
-    ensures { IfOk result (λ content. (content.text.items ≡ text.now) × (content.latest.states.items ≡ [])) }
+    ensures { IfOk result (λ content. (content.text.items ≡ text.now)
+        × (content.latest.states.items ≡ [])) }
 {
     Ok(Content {
         text: Vec::from_slice(alloc, text)?,
@@ -198,7 +202,8 @@ fn text_alone(alloc: Global, text: &[u8]) -> Result<Content, Memory>
 
 // The image of a first file where no half is live.
 fn read_other(alloc: Global, file: &[u8]) -> Result<Found, StoreFault>
-    ensures found { IfOk result (λ found. (other_image file.now ≡ Ok found.image) × IsWritable found.image × (found.image.revision ≤ 2 ^ 62)
+    ensures found { IfOk result (λ found. (other_image file.now ≡ Ok found.image)
+        × IsWritable found.image × (found.image.revision ≤ 2 ^ 62)
         × (found.place ≡ Older (number_8 (drop 8 file.now)))) }
     ensures refused { IfErr result (λ e. OldRefused (other_image file.now) e) }
 {

@@ -54,7 +54,9 @@ fn short_number_at(file: &[u8], at: usize) -> u32
 
 // Replaces the part of a text that a splice's payload names; false, where it lies outside or the payload is short.
 fn splice_in(alloc: Global, text: &mut Pieces, payload: &[u8]) -> Result<bool, Memory>
-    ensures { IfOk result (λ good. MatchBool good (spliced text.old payload.now ≡ Some text.new) (spliced text.old payload.now ≡ None)) }
+    ensures { IfOk result (λ good.
+        MatchBool good (spliced text.old payload.now ≡ Some text.new) (spliced text.old payload.now
+        ≡ None)) }
 {
     if payload.len() < 16 {
         return Ok(false);
@@ -97,9 +99,14 @@ fn make_change(
     payload: &[u8],
 ) -> Result<bool, Memory>
     ensures changed { (at : ℕ) → IfOk result (λ good. MatchBool good
-        (changed (current_in_code content.old) (record { at = at; kind = kind; payload = payload.now }) ≡ Some (current_in_code content.new))
-        (changed (current_in_code content.old) (record { at = at; kind = kind; payload = payload.now }) ≡ None)) }
-    ensures writable { IfOk result (λ good. good ≡ true → AreWritable content.old.latest.states.items → AreWritable content.new.latest.states.items) }
+        (changed (current_in_code content.old)
+        (record { at = at; kind = kind; payload = payload.now })
+        ≡ Some (current_in_code content.new))
+        (changed (current_in_code content.old)
+        (record { at = at; kind = kind; payload = payload.now }) ≡ None)) }
+    ensures writable { IfOk result (λ good. good ≡ true
+        → AreWritable content.old.latest.states.items
+        → AreWritable content.new.latest.states.items) }
 {
     match kind {
         b'T' => {
@@ -115,9 +122,12 @@ fn make_change(
 // Puts an import's state and its splice into a content; false, where the payload doesn't read.
 fn import_in(alloc: Global, content: &mut Current, payload: &[u8]) -> Result<bool, Memory>
     ensures changed { IfOk result (λ good. MatchBool good
-        (imported (current_in_code content.old) (mark_at payload.now) ≡ Some (current_in_code content.new))
+        (imported (current_in_code content.old) (mark_at payload.now)
+        ≡ Some (current_in_code content.new))
         (imported (current_in_code content.old) (mark_at payload.now) ≡ None)) }
-    ensures writable { IfOk result (λ good. good ≡ true → AreWritable content.old.latest.states.items → AreWritable content.new.latest.states.items) }
+    ensures writable { IfOk result (λ good. good ≡ true
+        → AreWritable content.old.latest.states.items
+        → AreWritable content.new.latest.states.items) }
 {
     let Some((state, behind)) = state_at(alloc, payload, 0)? else {
         return Ok(false);
@@ -151,7 +161,8 @@ fn states_at(alloc: Global, bytes: &[u8], at: usize, count: u32) -> Result<Optio
 /// The content of a record of a whole image, if its payload reads.
 pub fn whole_content(alloc: Global, payload: &[u8]) -> Result<Option<Content>, Memory>
     ensures reads { IfOk result (λ found. checkpointed payload.now ≡ if_content_in_code found) }
-    ensures writable { IfOk result (λ found. IfSome found (λ content. AreWritable content.latest.states.items)) }
+    ensures writable { IfOk result (λ found.
+        IfSome found (λ content. AreWritable content.latest.states.items)) }
 {
     if payload.len() < 4 {
         return Ok(None);
@@ -175,9 +186,12 @@ pub fn fold_from(
     content: Content,
 ) -> Result<Result<Folded, usize>, Memory>
     requires { start < length file.now }
-    ensures folds { IfOk result (λ end. folded (from_place file.now start) (content_in_code content) ≡ end_in_code end) }
+    ensures folds { IfOk result (λ end.
+        folded (from_place file.now start) (content_in_code content) ≡ end_in_code end) }
     ensures ends { IfOk result (λ end. IfOk end (λ all. IsEnd file.now start all.gate all.count)) }
-    ensures writable { IfOk result (λ end. IfOk end (λ all. AreWritable content.latest.states.items → AreWritable all.content.latest.states.items)) }
+    ensures writable { IfOk result (λ end.
+        IfOk end (λ all. AreWritable content.latest.states.items
+        → AreWritable all.content.latest.states.items)) }
 {
     let mut current = Current {
         text: Pieces::of(alloc, content.text)?,

@@ -15,15 +15,20 @@ use hl_base::{Disk, Failed};
 pub fn append_entry<D: Disk>(device: &mut D, gate: u64, entry: &[u8]) -> Result<(), Failed>
     requires { gate + 1 + length entry.now < 2 ^ 64 }
 
-    ensures acknowledged { OnOk result ((front : List ℕ) → length front ≡ gate → RestsAs D.seen D.tells_crashes D.may_leave device.old (front ++ 0 ∷ [])
+    ensures acknowledged { OnOk result ((front : List ℕ) → length front ≡ gate
+        → RestsAs D.seen D.tells_crashes D.may_leave device.old (front ++ 0 ∷ [])
         → RestsAs D.seen D.tells_crashes D.may_leave device.new (front ++ 1 ∷ entry.now)) }
-    ensures fault { OnErr result ((front : List ℕ) → length front ≡ gate → RestsAs D.seen D.tells_crashes D.may_leave device.old (front ++ 0 ∷ [])
+    ensures fault { OnErr result ((front : List ℕ) → length front ≡ gate
+        → RestsAs D.seen D.tells_crashes D.may_leave device.old (front ++ 0 ∷ [])
         → StandsIn D.seen D.tells_crashes D.may_leave device.new (IsAt front entry.now)) }
-    ensures any_moment { (front : List ℕ) → length front ≡ gate → RestsAs D.seen D.tells_crashes D.may_leave device.old (front ++ 0 ∷ [])
-        → IsTrue (D.tells_crashes device.old) → LeavesOnly D.moment D.left_since device.old device.new (IsAt front entry.now) }
+    ensures any_moment { (front : List ℕ) → length front ≡ gate
+        → RestsAs D.seen D.tells_crashes D.may_leave device.old (front ++ 0 ∷ [])
+        → IsTrue (D.tells_crashes device.old)
+        → LeavesOnly D.moment D.left_since device.old device.new (IsAt front entry.now) }
 
     // What a crash leaves at any moment comes of what one might have left before.
-    ensures comes { LeavesOnly D.moment D.left_since device.old device.new (SomeLeft (D.may_leave device.old)) }
+    ensures comes { LeavesOnly D.moment D.left_since device.old device.new
+        (SomeLeft (D.may_leave device.old)) }
 
     ensures reach { D.reach device.new ≤ max (D.reach device.old) (gate + 1 + length entry.now) }
     ensures cause { HasCause (D.failures device.old) (D.failures device.new) result }
@@ -37,10 +42,12 @@ pub fn append_entry<D: Disk>(device: &mut D, gate: u64, entry: &[u8]) -> Result<
 /// Opens a gate. At Ok each crash leaves it open.
 fn open_gate<D: Disk>(device: &mut D, gate: u64) -> Result<(), Failed>
     requires { gate + 1 < 2 ^ 64 }
-    ensures rests { OnOk result (Comes D.seen D.tells_crashes D.may_leave device.old device.new (λ file. overwritten file gate (1 ∷ []))) }
+    ensures rests { OnOk result (Comes D.seen D.tells_crashes D.may_leave device.old device.new
+        (λ file. overwritten file gate (1 ∷ []))) }
     ensures torn { Becomes (Torn gate 1) (D.seen device.old) (D.seen device.new) }
     ensures crash { Follows (Torn gate 1) (D.may_leave device.old) (D.may_leave device.new) }
-    ensures any_moment { LeavesOnly D.moment D.left_since device.old device.new (AfterStep (Torn gate 1) (D.may_leave device.old)) }
+    ensures any_moment { LeavesOnly D.moment D.left_since device.old device.new
+        (AfterStep (Torn gate 1) (D.may_leave device.old)) }
     ensures reach { D.reach device.new ≡ max (D.reach device.old) (gate + 1) }
     ensures cause { HasCause (D.failures device.old) (D.failures device.new) result }
     ensures tells { D.tells_crashes device.new ≡ D.tells_crashes device.old }
@@ -53,23 +60,32 @@ fn open_gate<D: Disk>(device: &mut D, gate: u64) -> Result<(), Failed>
 pub fn shut_gate<D: Disk>(device: &mut D, gate: u64) -> Result<(), Failed>
     requires { gate + 1 < 2 ^ 64 }
 
-    ensures shut { OnOk result ((front entry : List ℕ) → length front ≡ gate → StandsIn D.seen D.tells_crashes D.may_leave device.old (IsAt front entry)
+    ensures shut { OnOk result ((front entry : List ℕ) → length front ≡ gate
+        → StandsIn D.seen D.tells_crashes D.may_leave device.old (IsAt front entry)
         → RestsAs D.seen D.tells_crashes D.may_leave device.new (front ++ 0 ∷ [])) }
-    ensures fault { OnErr result ((front entry : List ℕ) → length front ≡ gate → StandsIn D.seen D.tells_crashes D.may_leave device.old (IsAt front entry)
+    ensures fault { OnErr result ((front entry : List ℕ) → length front ≡ gate
+        → StandsIn D.seen D.tells_crashes D.may_leave device.old (IsAt front entry)
         → StandsIn D.seen D.tells_crashes D.may_leave device.new (IsAt front entry)) }
-    ensures any_moment { (front entry : List ℕ) → length front ≡ gate → StandsIn D.seen D.tells_crashes D.may_leave device.old (IsAt front entry)
-        → IsTrue (D.tells_crashes device.old) → LeavesOnly D.moment D.left_since device.old device.new (IsAt front entry) }
+    ensures any_moment { (front entry : List ℕ) → length front ≡ gate
+        → StandsIn D.seen D.tells_crashes D.may_leave device.old (IsAt front entry)
+        → IsTrue (D.tells_crashes device.old)
+        → LeavesOnly D.moment D.left_since device.old device.new (IsAt front entry) }
 
     // Where no open record stands behind the front, none does at any moment.
-    ensures shut_end { OnOk result ((front : List ℕ) → length front ≡ gate → StandsIn D.seen D.tells_crashes D.may_leave device.old (IsShutAt front)
+    ensures shut_end { OnOk result ((front : List ℕ) → length front ≡ gate
+        → StandsIn D.seen D.tells_crashes D.may_leave device.old (IsShutAt front)
         → RestsAs D.seen D.tells_crashes D.may_leave device.new (front ++ 0 ∷ [])) }
-    ensures fault_end { OnErr result ((front : List ℕ) → length front ≡ gate → StandsIn D.seen D.tells_crashes D.may_leave device.old (IsShutAt front)
+    ensures fault_end { OnErr result ((front : List ℕ) → length front ≡ gate
+        → StandsIn D.seen D.tells_crashes D.may_leave device.old (IsShutAt front)
         → StandsIn D.seen D.tells_crashes D.may_leave device.new (IsShutAt front)) }
-    ensures any_end { (front : List ℕ) → length front ≡ gate → StandsIn D.seen D.tells_crashes D.may_leave device.old (IsShutAt front)
-        → IsTrue (D.tells_crashes device.old) → LeavesOnly D.moment D.left_since device.old device.new (IsShutAt front) }
+    ensures any_end { (front : List ℕ) → length front ≡ gate
+        → StandsIn D.seen D.tells_crashes D.may_leave device.old (IsShutAt front)
+        → IsTrue (D.tells_crashes device.old)
+        → LeavesOnly D.moment D.left_since device.old device.new (IsShutAt front) }
 
     // What a crash leaves at any moment comes of what one might have left before.
-    ensures comes { LeavesOnly D.moment D.left_since device.old device.new (SomeLeft (D.may_leave device.old)) }
+    ensures comes { LeavesOnly D.moment D.left_since device.old device.new
+        (SomeLeft (D.may_leave device.old)) }
 
     ensures reach { D.reach device.new ≤ max (D.reach device.old) (gate + 1) }
     ensures cause { HasCause (D.failures device.old) (D.failures device.new) result }
@@ -83,14 +99,19 @@ pub fn shut_gate<D: Disk>(device: &mut D, gate: u64) -> Result<(), Failed>
 /// Empties a file and writes a header, which ends with a shut gate.
 fn head_anew<D: Disk>(device: &mut D, header: &[u8]) -> Result<(), Failed>
     requires { length header.now ≡ 33 }
-    ensures done { OnOk result ((file : List ℕ) → RestsAs D.seen D.tells_crashes D.may_leave device.old file
+    ensures done { OnOk result ((file : List ℕ)
+        → RestsAs D.seen D.tells_crashes D.may_leave device.old file
         → RestsAs D.seen D.tells_crashes D.may_leave device.new header.now) }
-    ensures fault { OnErr result ((file head entry : List ℕ) → RestsAs D.seen D.tells_crashes D.may_leave device.old file
+    ensures fault { OnErr result ((file head entry : List ℕ)
+        → RestsAs D.seen D.tells_crashes D.may_leave device.old file
         → StandsIn D.seen D.tells_crashes D.may_leave device.new (IsRewritten file head entry)) }
-    ensures any_moment { (file head entry : List ℕ) → RestsAs D.seen D.tells_crashes D.may_leave device.old file → IsTrue (D.tells_crashes device.old)
+    ensures any_moment { (file head entry : List ℕ)
+        → RestsAs D.seen D.tells_crashes D.may_leave device.old file
+        → IsTrue (D.tells_crashes device.old)
         → LeavesOnly D.moment D.left_since device.old device.new (IsRewritten file head entry) }
     // What a crash leaves at any moment comes of what one might have left before.
-    ensures comes { LeavesOnly D.moment D.left_since device.old device.new (SomeLeft (D.may_leave device.old)) }
+    ensures comes { LeavesOnly D.moment D.left_since device.old device.new
+        (SomeLeft (D.may_leave device.old)) }
     ensures reach { D.reach device.new ≤ max (D.reach device.old) 33 }
     ensures cause { HasCause (D.failures device.old) (D.failures device.new) result }
     ensures tells { D.tells_crashes device.new ≡ D.tells_crashes device.old }
@@ -105,7 +126,8 @@ fn head_new<D: Disk>(device: &mut D, header: &[u8]) -> Result<(), Failed>
     requires { length header.now ≡ 33 }
     ensures done { OnOk result (RestsAs D.seen D.tells_crashes D.may_leave device.old []
         → RestsAs D.seen D.tells_crashes D.may_leave device.new header.now) }
-    ensures any_moment { RestsAs D.seen D.tells_crashes D.may_leave device.old [] → IsTrue (D.tells_crashes device.old)
+    ensures any_moment { RestsAs D.seen D.tells_crashes D.may_leave device.old []
+        → IsTrue (D.tells_crashes device.old)
         → LeavesOnly D.moment D.left_since device.old device.new (HasHeadBegun header.now) }
     ensures reach { D.reach device.new ≤ max (D.reach device.old) 33 }
     ensures cause { HasCause (D.failures device.old) (D.failures device.new) result }
@@ -121,15 +143,21 @@ pub fn write_anew<D: Disk>(device: &mut D, header: &[u8], entry: &[u8]) -> Resul
     requires header { length header.now ≡ 33 }
     requires entry { 33 + length entry.now < 2 ^ 64 }
 
-    ensures done { OnOk result ((file head : List ℕ) → header.now ≡ head ++ 0 ∷ [] → RestsAs D.seen D.tells_crashes D.may_leave device.old file
+    ensures done { OnOk result ((file head : List ℕ) → header.now ≡ head ++ 0 ∷ []
+        → RestsAs D.seen D.tells_crashes D.may_leave device.old file
         → RestsAs D.seen D.tells_crashes D.may_leave device.new (head ++ 1 ∷ entry.now)) }
-    ensures fault { OnErr result ((file head : List ℕ) → header.now ≡ head ++ 0 ∷ [] → RestsAs D.seen D.tells_crashes D.may_leave device.old file
-        → StandsIn D.seen D.tells_crashes D.may_leave device.new (IsRewritten file head entry.now)) }
-    ensures any_moment { (file head : List ℕ) → header.now ≡ head ++ 0 ∷ [] → RestsAs D.seen D.tells_crashes D.may_leave device.old file
-        → IsTrue (D.tells_crashes device.old) → LeavesOnly D.moment D.left_since device.old device.new (IsRewritten file head entry.now) }
+    ensures fault { OnErr result ((file head : List ℕ) → header.now ≡ head ++ 0 ∷ []
+        → RestsAs D.seen D.tells_crashes D.may_leave device.old file
+        → StandsIn D.seen D.tells_crashes D.may_leave device.new
+        (IsRewritten file head entry.now)) }
+    ensures any_moment { (file head : List ℕ) → header.now ≡ head ++ 0 ∷ []
+        → RestsAs D.seen D.tells_crashes D.may_leave device.old file
+        → IsTrue (D.tells_crashes device.old)
+        → LeavesOnly D.moment D.left_since device.old device.new (IsRewritten file head entry.now) }
 
     // What a crash leaves at any moment comes of what one might have left before.
-    ensures comes { LeavesOnly D.moment D.left_since device.old device.new (SomeLeft (D.may_leave device.old)) }
+    ensures comes { LeavesOnly D.moment D.left_since device.old device.new
+        (SomeLeft (D.may_leave device.old)) }
 
     ensures reach { D.reach device.new ≤ max (D.reach device.old) (33 + length entry.now) }
     ensures cause { HasCause (D.failures device.old) (D.failures device.new) result }
@@ -145,10 +173,13 @@ pub fn write_new<D: Disk>(device: &mut D, header: &[u8], entry: &[u8]) -> Result
     requires header { length header.now ≡ 33 }
     requires entry { 33 + length entry.now < 2 ^ 64 }
 
-    ensures done { OnOk result ((head : List ℕ) → header.now ≡ head ++ 0 ∷ [] → RestsAs D.seen D.tells_crashes D.may_leave device.old []
+    ensures done { OnOk result ((head : List ℕ) → header.now ≡ head ++ 0 ∷ []
+        → RestsAs D.seen D.tells_crashes D.may_leave device.old []
         → RestsAs D.seen D.tells_crashes D.may_leave device.new (head ++ 1 ∷ entry.now)) }
-    ensures any_moment { (head : List ℕ) → header.now ≡ head ++ 0 ∷ [] → RestsAs D.seen D.tells_crashes D.may_leave device.old []
-        → IsTrue (D.tells_crashes device.old) → LeavesOnly D.moment D.left_since device.old device.new (IsBegun head entry.now) }
+    ensures any_moment { (head : List ℕ) → header.now ≡ head ++ 0 ∷ []
+        → RestsAs D.seen D.tells_crashes D.may_leave device.old []
+        → IsTrue (D.tells_crashes device.old)
+        → LeavesOnly D.moment D.left_since device.old device.new (IsBegun head entry.now) }
 
     ensures reach { D.reach device.new ≤ max (D.reach device.old) (33 + length entry.now) }
     ensures cause { HasCause (D.failures device.old) (D.failures device.new) result }
@@ -161,9 +192,12 @@ pub fn write_new<D: Disk>(device: &mut D, header: &[u8], entry: &[u8]) -> Result
 
 /// Brings a file to rest that has to be empty.
 pub fn rest_empty<D: Disk>(device: &mut D) -> Result<(), StoreFault>
-    ensures rests { OnOk result ((file : List ℕ) → D.seen device.old ≡ Some file → (file ≡ []) × RestsAs D.seen D.tells_crashes D.may_leave device.new []) }
-    ensures cause { IfErr result (λ e. EmptyRefused (D.seen device.old) (D.failures device.old) (D.failures device.new) e) }
-    ensures any_moment { LeavesOnly D.moment D.left_since device.old device.new (D.may_leave device.old) }
+    ensures rests { OnOk result ((file : List ℕ) → D.seen device.old ≡ Some file → (file ≡ [])
+        × RestsAs D.seen D.tells_crashes D.may_leave device.new []) }
+    ensures cause { IfErr result (λ e.
+        EmptyRefused (D.seen device.old) (D.failures device.old) (D.failures device.new) e) }
+    ensures any_moment { LeavesOnly D.moment D.left_since device.old device.new
+        (D.may_leave device.old) }
     ensures no_more { NoMore (D.may_leave device.old) (D.may_leave device.new) }
     ensures seen { D.seen device.new ≡ D.seen device.old }
     ensures reach { D.reach device.new ≡ D.reach device.old }

@@ -93,10 +93,13 @@ impl<D: Disk> Half<D> {
 
     /// Reads all of the file.
     pub fn read_whole(&mut self, alloc: Global) -> Result<Vec<u8>, StoreFault>
-        ensures bytes { IfOk result (λ bytes. (file : List ℕ) → D.seen self.old.device ≡ Some file → bytes.items ≡ file) }
+        ensures bytes { IfOk result (λ bytes. (file : List ℕ) → D.seen self.old.device ≡ Some file
+            → bytes.items ≡ file) }
         ensures reads { IsReadOn D.Disk self.old.device self.new.device }
-        ensures same { (self.new.gate ≡ self.old.gate) × (self.new.limit ≡ self.old.limit) × (self.new.is_torn ≡ self.old.is_torn) }
-        ensures cause { IfErr result (λ e. ReadRefused (D.failures self.old.device) (D.failures self.new.device) e) }
+        ensures same { (self.new.gate ≡ self.old.gate) × (self.new.limit ≡ self.old.limit)
+            × (self.new.is_torn ≡ self.old.is_torn) }
+        ensures cause { IfErr result (λ e.
+            ReadRefused (D.failures self.old.device) (D.failures self.new.device) e) }
         ensures no_fault { OnOk result (D.failures self.new.device ≡ D.failures self.old.device) }
     {
         read_all(alloc, &mut self.device)
@@ -114,25 +117,37 @@ impl<D: Disk> Half<D> {
     pub fn put(&mut self, entry: &[u8]) -> Result<(), Failed>
         requires { self.old.gate + 1 + length entry.now < 2 ^ 64 }
 
-        ensures acknowledged { OnOk result ((front : List ℕ) (entries : List Entry) (kind : ℕ) (payload : List ℕ) → entry.now ≡ body kind payload ++ 0 ∷ []
-            → length payload < 2 ^ 64 → IsSettled D.seen D.tells_crashes D.may_leave self.old front entries
-            → IsSettled D.seen D.tells_crashes D.may_leave self.new (front ++ 1 ∷ body kind payload) (entries ++ record { at = length front; kind = kind; payload = payload } ∷ [])) }
+        ensures acknowledged { OnOk result ((front : List ℕ) (entries : List Entry) (kind : ℕ)
+            (payload : List ℕ) → entry.now ≡ body kind payload ++ 0 ∷ []
+            → length payload < 2 ^ 64
+            → IsSettled D.seen D.tells_crashes D.may_leave self.old front entries
+            → IsSettled D.seen D.tells_crashes D.may_leave self.new (front ++ 1
+            ∷ body kind payload) (entries
+            ++ record { at = length front; kind = kind; payload = payload } ∷ [])) }
 
         // A crash at any moment of the call leaves the image from before it or the one with the record, beside any
         // other file.
-        ensures any_moment { (front other : List ℕ) (entries : List Entry) (kind : ℕ) (payload : List ℕ) → entry.now ≡ body kind payload ++ 0 ∷ []
-            → length payload < 2 ^ 64 → IsSettled D.seen D.tells_crashes D.may_leave self.old front entries → IsTrue (D.tells_crashes self.old.device)
+        ensures any_moment { (front other : List ℕ) (entries : List Entry) (kind : ℕ)
+            (payload : List ℕ) → entry.now ≡ body kind payload ++ 0 ∷ []
+            → length payload < 2 ^ 64
+            → IsSettled D.seen D.tells_crashes D.may_leave self.old front entries
+            → IsTrue (D.tells_crashes self.old.device)
             → LeavesOnly D.moment D.left_since self.old.device self.new.device
             (HasEitherImage other (front ++ 0 ∷ []) (front ++ 1 ∷ (body kind payload ++ 0 ∷ []))) }
 
-        ensures fault { OnErr result ((front : List ℕ) (entries : List Entry) (kind : ℕ) (payload : List ℕ) → entry.now ≡ body kind payload ++ 0 ∷ []
-            → length payload < 2 ^ 64 → IsSettled D.seen D.tells_crashes D.may_leave self.old front entries
-            → IsUnsettled D.seen D.tells_crashes D.may_leave self.new front entries (body kind payload ++ 0 ∷ [])) }
+        ensures fault { OnErr result ((front : List ℕ) (entries : List Entry) (kind : ℕ)
+            (payload : List ℕ) → entry.now ≡ body kind payload ++ 0 ∷ []
+            → length payload < 2 ^ 64
+            → IsSettled D.seen D.tells_crashes D.may_leave self.old front entries
+            → IsUnsettled D.seen D.tells_crashes D.may_leave self.new front entries
+            (body kind payload ++ 0 ∷ [])) }
         ensures due { OnErr result ((self.new.is_torn ≡ true) × (self.new.gate ≡ self.old.gate)) }
-        ensures grown { OnOk result ((self.new.is_torn ≡ false) × (self.new.gate ≡ self.old.gate + length entry.now)) }
+        ensures grown { OnOk result ((self.new.is_torn ≡ false)
+            × (self.new.gate ≡ self.old.gate + length entry.now)) }
         ensures same_limit { self.new.limit ≡ self.old.limit }
         ensures cause { HasCause (D.failures self.old.device) (D.failures self.new.device) result }
-        ensures reach { D.reach self.new.device ≤ max (D.reach self.old.device) (self.old.gate + 1 + length entry.now) }
+        ensures reach { D.reach self.new.device
+            ≤ max (D.reach self.old.device) (self.old.gate + 1 + length entry.now) }
         ensures tells { D.tells_crashes self.new.device ≡ D.tells_crashes self.old.device }
         ensures unfailing { D.unfailing_to self.new.device ≡ D.unfailing_to self.old.device }
     {
@@ -145,21 +160,26 @@ impl<D: Disk> Half<D> {
 
     /// Cuts off what stands behind the last acknowledged gate, and shuts it. After a fault a repair is still due.
     pub fn repair(&mut self) -> Result<(), Failed>
-        ensures mended { OnOk result ((front entry : List ℕ) (entries : List Entry) → IsUnsettled D.seen D.tells_crashes D.may_leave self.old front entries entry
+        ensures mended { OnOk result ((front entry : List ℕ) (entries : List Entry)
+            → IsUnsettled D.seen D.tells_crashes D.may_leave self.old front entries entry
             → IsSettled D.seen D.tells_crashes D.may_leave self.new front entries) }
 
         // Until it answers Ok a crash leaves either of the two images.
-        ensures any_moment { (front entry other : List ℕ) (entries : List Entry) → IsUnsettled D.seen D.tells_crashes D.may_leave self.old front entries entry
+        ensures any_moment { (front entry other : List ℕ) (entries : List Entry)
+            → IsUnsettled D.seen D.tells_crashes D.may_leave self.old front entries entry
             → IsTrue (D.tells_crashes self.old.device)
-            → LeavesOnly D.moment D.left_since self.old.device self.new.device (HasEitherImage other (front ++ 0 ∷ []) (front ++ 1 ∷ entry)) }
+            → LeavesOnly D.moment D.left_since self.old.device self.new.device
+            (HasEitherImage other (front ++ 0 ∷ []) (front ++ 1 ∷ entry)) }
 
-        ensures fault { OnErr result ((front entry : List ℕ) (entries : List Entry) → IsUnsettled D.seen D.tells_crashes D.may_leave self.old front entries entry
+        ensures fault { OnErr result ((front entry : List ℕ) (entries : List Entry)
+            → IsUnsettled D.seen D.tells_crashes D.may_leave self.old front entries entry
             → IsUnsettled D.seen D.tells_crashes D.may_leave self.new front entries entry) }
         ensures due { OnErr result (self.new.is_torn ≡ true) }
         ensures ready { OnOk result (self.new.is_torn ≡ false) }
         ensures same { (self.new.gate ≡ self.old.gate) × (self.new.limit ≡ self.old.limit) }
         ensures cause { HasCause (D.failures self.old.device) (D.failures self.new.device) result }
-        ensures reach { D.reach self.new.device ≤ max (D.reach self.old.device) (self.old.gate + 1) }
+        ensures reach { D.reach self.new.device
+            ≤ max (D.reach self.old.device) (self.old.gate + 1) }
         ensures tells { D.tells_crashes self.new.device ≡ D.tells_crashes self.old.device }
         ensures unfailing { D.unfailing_to self.new.device ≡ D.unfailing_to self.old.device }
     {

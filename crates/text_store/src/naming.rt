@@ -24,7 +24,8 @@ fn put_place(
     name: &[u8],
     place: usize,
 ) -> Result<(), Memory>
-    ensures ok { OnOk result (places_in places.new.entries ≡ put (slice_cmp nat_cmp) name.now place (places_in places.old.entries)) }
+    ensures ok { OnOk result (places_in places.new.entries
+        ≡ put (slice_cmp nat_cmp) name.now place (places_in places.old.entries)) }
     ensures err { OnErr result (places.new.entries ≡ places.old.entries) }
 {
     let copy = Vec::from_slice(alloc, name)?;
@@ -36,7 +37,8 @@ fn put_copy(
     name: Vec<u8>,
     place: usize,
 ) -> Result<(), Memory>
-    ensures ok { OnOk result (places_in places.new.entries ≡ put (slice_cmp nat_cmp) name.items place (places_in places.old.entries)) }
+    ensures ok { OnOk result (places_in places.new.entries
+        ≡ put (slice_cmp nat_cmp) name.items place (places_in places.old.entries)) }
     ensures err { OnErr result (places.new.entries ≡ places.old.entries) }
 {
     places.insert(name, place)?;
@@ -49,7 +51,8 @@ pub fn places_of(
     states: &[Latest],
 ) -> Result<Option<BTreeMap<Vec<u8>, usize>>, Memory>
     ensures { IfOk result (λ found. MatchOption found (have_own_names states.now ≡ false)
-        (λ places. (have_own_names states.now ≡ true) × ArePlaced states.now 0 (places_in places.entries))) }
+        (λ places. (have_own_names states.now ≡ true)
+        × ArePlaced states.now 0 (places_in places.entries))) }
 {
     let mut places = BTreeMap::new(alloc);
     let mut at = states.len();

@@ -78,7 +78,9 @@ fn cut_first(alloc: Global, parts: &mut Vec<Vec<u8>>, inside: usize) -> Result<V
 // Takes what stands behind a place off the parts, if the place isn't behind the text.
 fn split(alloc: Global, parts: &mut Vec<Vec<u8>>, at: usize) -> Result<Option<Vec<Vec<u8>>>, Memory>
     ensures { IfOk result (λ found. MatchOption found (length (joined parts.old.items) < at)
-        (λ behind. (at ≤ length (joined parts.old.items)) × (joined parts.new.items ≡ take at (joined parts.old.items)) × (joined behind.items ≡ drop at (joined parts.old.items)))) }
+        (λ behind. (at ≤ length (joined parts.old.items))
+        × (joined parts.new.items ≡ take at (joined parts.old.items))
+        × (joined behind.items ≡ drop at (joined parts.old.items)))) }
 {
     let Some(place) = place_of(parts, at) else {
         return Ok(None);
@@ -135,7 +137,8 @@ fn replace_in(
 ) -> Result<bool, Memory>
     ensures { IfOk result (λ good. MatchBool good
         ((at + removed ≤ length (joined parts.old.items))
-        × (joined parts.new.items ≡ take at (joined parts.old.items) ++ inserted.now ++ drop (at + removed) (joined parts.old.items)))
+        × (joined parts.new.items ≡ take at (joined parts.old.items) ++ inserted.now
+        ++ drop (at + removed) (joined parts.old.items)))
         (length (joined parts.old.items) < at + removed)) }
 {
     let Some(mut behind) = split(alloc, parts, at)? else {
@@ -168,7 +171,8 @@ impl Pieces {
         inserted: &[u8],
     ) -> Result<bool, Memory>
         ensures { IfOk result (λ good. MatchBool good
-            ((at + removed ≤ length self.old) × (self.new ≡ take at self.old ++ inserted.now ++ drop (at + removed) self.old))
+            ((at + removed ≤ length self.old)
+            × (self.new ≡ take at self.old ++ inserted.now ++ drop (at + removed) self.old))
             (length self.old < at + removed)) }
     {
         self.even_out(alloc)?;

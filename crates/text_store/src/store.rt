@@ -52,16 +52,26 @@ impl<D: Disk> Store<D> {
         text: &[u8],
         limit: u64,
     ) -> Result<Store<D>, (D, D, StoreFault)>
-        ensures made { IfOk result (λ store. Told D.Disk (first, second) (λ f s. (f ≡ []) × (s ≡ []) × Holds store (fresh text.now))) }
-        ensures bytes { IfOk result (λ store. Told D.Disk (first, second) (λ _ _. (D.seen (disks store).0 ≡ Some (new_front limit 1 (fresh text.now) ++ 0 ∷ [])) × (D.seen (disks store).1 ≡ Some []))) }
-        ensures numbers { IfOk result (λ store. (size_of store ≡ whole_size (fresh text.now)) × (size_of store ≤ limit) × (limit_of store ≡ limit) × (repair_due store ≡ false)) }
-        ensures cause { IfErr result (λ e. CreateRefused D.Disk (first, second) (e.0, e.1) (whole_size (fresh text.now)) limit e.2) }
+        ensures made { IfOk result (λ store.
+            Told D.Disk (first, second) (λ f s. (f ≡ []) × (s ≡ [])
+            × Holds store (fresh text.now))) }
+        ensures bytes { IfOk result (λ store.
+            Told D.Disk (first, second) (λ _ _.
+            (D.seen (disks store).0 ≡ Some (new_front limit 1 (fresh text.now) ++ 0 ∷ []))
+            × (D.seen (disks store).1 ≡ Some []))) }
+        ensures numbers { IfOk result (λ store. (size_of store ≡ whole_size (fresh text.now))
+            × (size_of store ≤ limit) × (limit_of store ≡ limit) × (repair_due store ≡ false)) }
+        ensures cause { IfErr result (λ e.
+            CreateRefused D.Disk (first, second) (e.0, e.1) (whole_size (fresh text.now)) limit
+            e.2) }
 
         // A crash at any moment leaves files that it might have left before, files without an image, or the store.
         ensures any_moment { Told D.Disk (first, second) (λ _ _. Tell D.Disk (first, second)
-            → Throughout D.Disk (first, second) (disks_made result) (WhileMade D.Disk (first, second) (fresh text.now))) }
+            → Throughout D.Disk (first, second) (disks_made result)
+            (WhileMade D.Disk (first, second) (fresh text.now))) }
         ensures keeps { Keeps D.Disk (first, second) (disks_made result) (limit, limit) }
-        ensures no_fault { OnOk result (fault_count D.Disk (disks_made result) ≡ fault_count D.Disk (first, second)) }
+        ensures no_fault { OnOk result (fault_count D.Disk (disks_made result)
+            ≡ fault_count D.Disk (first, second)) }
     {
         let Ok(copy) = Bytes::copied(alloc, text) else {
             return Err((first, second, StoreFault::Memory));
@@ -84,14 +94,22 @@ impl<D: Disk> Store<D> {
     ) -> Result<Store<D>, (D, D, StoreFault)>
         requires writable { IsWritable image.now }
         requires revision { image.now.revision ≤ 2 ^ 62 }
-        ensures made { IfOk result (λ store. Told D.Disk (first, second) (λ f s. (f ≡ []) × (s ≡ []) × Holds store image.now)) }
-        ensures bytes { IfOk result (λ store. Told D.Disk (first, second) (λ _ _. (D.seen (disks store).0 ≡ Some (new_front limit 1 image.now ++ 0 ∷ [])) × (D.seen (disks store).1 ≡ Some []))) }
-        ensures numbers { IfOk result (λ store. (size_of store ≡ whole_size image.now) × (size_of store ≤ limit) × (limit_of store ≡ limit) × (repair_due store ≡ false)) }
-        ensures cause { IfErr result (λ e. CreateRefused D.Disk (first, second) (e.0, e.1) (whole_size image.now) limit e.2) }
+        ensures made { IfOk result (λ store.
+            Told D.Disk (first, second) (λ f s. (f ≡ []) × (s ≡ []) × Holds store image.now)) }
+        ensures bytes { IfOk result (λ store.
+            Told D.Disk (first, second) (λ _ _.
+            (D.seen (disks store).0 ≡ Some (new_front limit 1 image.now ++ 0 ∷ []))
+            × (D.seen (disks store).1 ≡ Some []))) }
+        ensures numbers { IfOk result (λ store. (size_of store ≡ whole_size image.now)
+            × (size_of store ≤ limit) × (limit_of store ≡ limit) × (repair_due store ≡ false)) }
+        ensures cause { IfErr result (λ e.
+            CreateRefused D.Disk (first, second) (e.0, e.1) (whole_size image.now) limit e.2) }
         ensures any_moment { Told D.Disk (first, second) (λ _ _. Tell D.Disk (first, second)
-            → Throughout D.Disk (first, second) (disks_made result) (WhileMade D.Disk (first, second) image.now)) }
+            → Throughout D.Disk (first, second) (disks_made result)
+            (WhileMade D.Disk (first, second) image.now)) }
         ensures keeps { Keeps D.Disk (first, second) (disks_made result) (limit, limit) }
-        ensures no_fault { OnOk result (fault_count D.Disk (disks_made result) ≡ fault_count D.Disk (first, second)) }
+        ensures no_fault { OnOk result (fault_count D.Disk (disks_made result)
+            ≡ fault_count D.Disk (first, second)) }
     {
         let size = whole_len(image);
         if size > limit {
@@ -124,32 +142,44 @@ impl<D: Disk> Store<D> {
     /// Opens two files as a store, and gives its image. What stands behind the last acknowledged change is cut off. An
     /// older store is written into the second file, with its limit or the length that this takes, whichever is greater.
     pub fn open(alloc: Global, first: D, second: D) -> Result<(Store<D>, Image), (D, D, StoreFault)>
-        ensures opened { IfOk result (λ opened. Told D.Disk (first, second) (λ f s. (image f s ≡ Ok opened.1) × Holds opened.0 opened.1
+        ensures opened { IfOk result (λ opened.
+            Told D.Disk (first, second) (λ f s. (image f s ≡ Ok opened.1) × Holds opened.0 opened.1
             × (limit_of opened.0 ≡ opened_limit f s))) }
-        ensures size { IfOk result (λ opened. Told D.Disk (first, second) (λ f s. size_of opened.0 ≡ opened_size f s)) }
+        ensures size { IfOk result (λ opened.
+            Told D.Disk (first, second) (λ f s. size_of opened.0 ≡ opened_size f s)) }
         ensures writable { IfOk result (λ opened. IsWritable opened.1) }
         ensures ready { IfOk result (λ opened. repair_due opened.0 ≡ false) }
         ensures cause { IfErr result (λ e. OpenRefused D.Disk (first, second) (e.0, e.1) e.2) }
 
         // After a disk fault the disks read as files with the image, or the want of one, that they had.
-        ensures stays { IfErr result (λ e. e.2 ≡ FailedDisk → ImageStays D.Disk (first, second) (e.0, e.1)) }
+        ensures stays { IfErr result (λ e. e.2 ≡ FailedDisk
+            → ImageStays D.Disk (first, second) (e.0, e.1)) }
 
         // The half in use has the bytes that it had up to its last gate, which is shut and the file's last byte.
-        ensures in_use { IfOk result (λ opened. Told D.Disk (first, second) (λ f s. D.seen opened.0.live.device ≡ Some (rest_of f s))) }
+        ensures in_use { IfOk result (λ opened.
+            Told D.Disk (first, second) (λ f s. D.seen opened.0.live.device ≡ Some (rest_of f s))) }
 
         // An older store stays in the first file as it is.
-        ensures older { IfOk result (λ opened. Told D.Disk (first, second) (λ f s. chosen (live f) (live s) ≡ None
-            → (D.seen (disks opened.0).0 ≡ Some f) × (D.seen (disks opened.0).1 ≡ Some (new_front (limit_of opened.0) 1 opened.1 ++ 0 ∷ [])))) }
+        ensures older { IfOk result (λ opened.
+            Told D.Disk (first, second) (λ f s. chosen (live f) (live s) ≡ None
+            → (D.seen (disks opened.0).0 ≡ Some f)
+            × (D.seen (disks opened.0).1
+            ≡ Some (new_front (limit_of opened.0) 1 opened.1 ++ 0 ∷ [])))) }
 
         // A crash at any moment leaves files that it might have left before, or files with the image, or the want of one,
         // of those that the disks read as, which it might have left before.
         ensures any_moment { Told D.Disk (first, second) (λ f s. Tell D.Disk (first, second)
-            → Throughout D.Disk (first, second) (disks_opened result) (WhileOpened D.Disk (first, second) f s)) }
-        ensures keeps { Told D.Disk (first, second) (λ f s. Keeps D.Disk (first, second) (disks_opened result)
+            → Throughout D.Disk (first, second) (disks_opened result)
+            (WhileOpened D.Disk (first, second) f s)) }
+        ensures keeps { Told D.Disk (first, second) (λ f s.
+            Keeps D.Disk (first, second) (disks_opened result)
             (max (opened_limit f s) (length f), max (opened_limit f s) (length s))) }
-        ensures bounds { IfOk result (λ opened. Told D.Disk (first, second) (λ f s. ((bounds opened.0).0 ≤ max (limit_of opened.0) (length f))
+        ensures bounds { IfOk result (λ opened.
+            Told D.Disk (first, second) (λ f s.
+            ((bounds opened.0).0 ≤ max (limit_of opened.0) (length f))
             × ((bounds opened.0).1 ≤ max (limit_of opened.0) (length s)))) }
-        ensures no_fault { OnOk result (fault_count D.Disk (disks_opened result) ≡ fault_count D.Disk (first, second)) }
+        ensures no_fault { OnOk result (fault_count D.Disk (disks_opened result)
+            ≡ fault_count D.Disk (first, second)) }
     {
         let mut first = first;
         let mut second = second;
@@ -179,20 +209,35 @@ impl<D: Disk> Store<D> {
     fn resume(first: D, second: D, place: InUse) -> Result<Store<D>, (D, D, StoreFault)>
         requires gate { place.gate + 1 < 2 ^ 64 }
         requires generation { place.generation < 3 }
-        ensures opened { IfOk result (λ store. (f s : List ℕ) (shown : Image) → RestsAs D.seen D.tells_crashes D.may_leave first f
-            → RestsAs D.seen D.tells_crashes D.may_leave second s → half_found f s place.in_second place shown → Holds store shown) }
-        ensures bytes { IfOk result (λ store. (f s : List ℕ) (shown : Image) → RestsAs D.seen D.tells_crashes D.may_leave first f
-            → RestsAs D.seen D.tells_crashes D.may_leave second s → half_found f s place.in_second place shown
-            → D.seen store.live.device ≡ Some (take place.gate (placed place.in_second f s).0 ++ 0 ∷ [])) }
-        ensures numbers { IfOk result (λ store. (limit_of store ≡ place.limit) × (size_of store ≡ place.gate + 1) × (store.in_second ≡ place.in_second) × (repair_due store ≡ false)) }
-        ensures any_moment { (f s : List ℕ) (shown : Image) → RestsAs D.seen D.tells_crashes D.may_leave first f
-            → RestsAs D.seen D.tells_crashes D.may_leave second s → half_found f s place.in_second place shown → Tell D.Disk (first, second)
-            → Throughout D.Disk (first, second) (disks_made result) (ShowsOf D.Disk (first, second) f s shown) }
-        ensures stays { IfErr result (λ e. (f s : List ℕ) (shown : Image) → RestsAs D.seen D.tells_crashes D.may_leave first f
-            → RestsAs D.seen D.tells_crashes D.may_leave second s → half_found f s place.in_second place shown → TellImage D.Disk (e.0, e.1) (Ok shown)) }
-        ensures cause { IfErr result (λ e. (e.2 ≡ FailedDisk) × Rose (fault_count D.Disk (first, second)) (fault_count D.Disk (e.0, e.1))) }
-        ensures keeps { Keeps D.Disk (first, second) (disks_made result) (if place.in_second then (0, place.gate + 1) else (place.gate + 1, 0)) }
-        ensures no_fault { OnOk result (fault_count D.Disk (disks_made result) ≡ fault_count D.Disk (first, second)) }
+        ensures opened { IfOk result (λ store. (f s : List ℕ) (shown : Image)
+            → RestsAs D.seen D.tells_crashes D.may_leave first f
+            → RestsAs D.seen D.tells_crashes D.may_leave second s
+            → half_found f s place.in_second place shown → Holds store shown) }
+        ensures bytes { IfOk result (λ store. (f s : List ℕ) (shown : Image)
+            → RestsAs D.seen D.tells_crashes D.may_leave first f
+            → RestsAs D.seen D.tells_crashes D.may_leave second s
+            → half_found f s place.in_second place shown
+            → D.seen store.live.device
+            ≡ Some (take place.gate (placed place.in_second f s).0 ++ 0 ∷ [])) }
+        ensures numbers { IfOk result (λ store. (limit_of store ≡ place.limit)
+            × (size_of store ≡ place.gate + 1) × (store.in_second ≡ place.in_second)
+            × (repair_due store ≡ false)) }
+        ensures any_moment { (f s : List ℕ) (shown : Image)
+            → RestsAs D.seen D.tells_crashes D.may_leave first f
+            → RestsAs D.seen D.tells_crashes D.may_leave second s
+            → half_found f s place.in_second place shown → Tell D.Disk (first, second)
+            → Throughout D.Disk (first, second) (disks_made result)
+            (ShowsOf D.Disk (first, second) f s shown) }
+        ensures stays { IfErr result (λ e. (f s : List ℕ) (shown : Image)
+            → RestsAs D.seen D.tells_crashes D.may_leave first f
+            → RestsAs D.seen D.tells_crashes D.may_leave second s
+            → half_found f s place.in_second place shown → TellImage D.Disk (e.0, e.1) (Ok shown)) }
+        ensures cause { IfErr result (λ e. (e.2 ≡ FailedDisk)
+            × Rose (fault_count D.Disk (first, second)) (fault_count D.Disk (e.0, e.1))) }
+        ensures keeps { Keeps D.Disk (first, second) (disks_made result)
+            (if place.in_second then (0, place.gate + 1) else (place.gate + 1, 0)) }
+        ensures no_fault { OnOk result (fault_count D.Disk (disks_made result)
+            ≡ fault_count D.Disk (first, second)) }
     {
         let (mut live, spare) = Store::in_order(first, second, place.in_second);
         match shut_gate(&mut live, place.gate) {
@@ -220,22 +265,32 @@ impl<D: Disk> Store<D> {
     ) -> Result<Store<D>, (D, D, StoreFault)>
         requires writable { IsWritable shown.now }
         requires revision { shown.now.revision ≤ 2 ^ 62 }
-        ensures opened { IfOk result (λ store. (f s : List ℕ) → RestsAs D.seen D.tells_crashes D.may_leave first f
-            → RestsAs D.seen D.tells_crashes D.may_leave second s → chosen (live f) (live s) ≡ None → Holds store shown.now) }
-        ensures numbers { IfOk result (λ store. (limit_of store ≡ max limit (whole_size shown.now)) × (size_of store ≡ whole_size shown.now)
+        ensures opened { IfOk result (λ store. (f s : List ℕ)
+            → RestsAs D.seen D.tells_crashes D.may_leave first f
+            → RestsAs D.seen D.tells_crashes D.may_leave second s → chosen (live f) (live s) ≡ None
+            → Holds store shown.now) }
+        ensures numbers { IfOk result (λ store. (limit_of store ≡ max limit (whole_size shown.now))
+            × (size_of store ≡ whole_size shown.now)
             × (store.in_second ≡ true) × (repair_due store ≡ false)) }
         ensures beside { IfOk result (λ store. (disks store).0 ≡ first) }
-        ensures stays { IfErr result (λ e. e.2 ≡ FailedDisk → (f s : List ℕ) → RestsAs D.seen D.tells_crashes D.may_leave first f
-            → RestsAs D.seen D.tells_crashes D.may_leave second s → chosen (live f) (live s) ≡ None → image f s ≡ Ok shown.now
+        ensures stays { IfErr result (λ e. e.2 ≡ FailedDisk → (f s : List ℕ)
+            → RestsAs D.seen D.tells_crashes D.may_leave first f
+            → RestsAs D.seen D.tells_crashes D.may_leave second s → chosen (live f) (live s) ≡ None
+            → image f s ≡ Ok shown.now
             → TellImage D.Disk (e.0, e.1) (Ok shown.now)) }
-        ensures bytes { IfOk result (λ store. (s : List ℕ) → RestsAs D.seen D.tells_crashes D.may_leave second s
+        ensures bytes { IfOk result (λ store. (s : List ℕ)
+            → RestsAs D.seen D.tells_crashes D.may_leave second s
             → D.seen (disks store).1 ≡ Some (new_front (limit_of store) 1 shown.now ++ 0 ∷ [])) }
         ensures any_moment { (f s : List ℕ) → RestsAs D.seen D.tells_crashes D.may_leave first f
-            → RestsAs D.seen D.tells_crashes D.may_leave second s → chosen (live f) (live s) ≡ None → image f s ≡ Ok shown.now → Tell D.Disk (first, second)
-            → Throughout D.Disk (first, second) (disks_made result) (ShowsOf D.Disk (first, second) f s shown.now) }
+            → RestsAs D.seen D.tells_crashes D.may_leave second s → chosen (live f) (live s) ≡ None
+            → image f s ≡ Ok shown.now → Tell D.Disk (first, second)
+            → Throughout D.Disk (first, second) (disks_made result)
+            (ShowsOf D.Disk (first, second) f s shown.now) }
         ensures cause { IfErr result (λ e. RenewRefused D.Disk (first, second) (e.0, e.1) e.2) }
-        ensures keeps { Keeps D.Disk (first, second) (disks_made result) (0, max limit (whole_size shown.now)) }
-        ensures no_fault { OnOk result (fault_count D.Disk (disks_made result) ≡ fault_count D.Disk (first, second)) }
+        ensures keeps { Keeps D.Disk (first, second) (disks_made result)
+            (0, max limit (whole_size shown.now)) }
+        ensures no_fault { OnOk result (fault_count D.Disk (disks_made result)
+            ≡ fault_count D.Disk (first, second)) }
     {
         let size = whole_len(shown);
         let limit = limit.max(size);
@@ -264,31 +319,48 @@ impl<D: Disk> Store<D> {
         second: D,
         found: Found,
     ) -> Result<(Store<D>, Image), (D, D, StoreFault)>
-        requires found { (f : List ℕ) × (s : List ℕ) × (length f < 2 ^ 63) × (length s < 2 ^ 63) × IsFound f s found.image found.place }
+        requires found { (f : List ℕ) × (s : List ℕ) × (length f < 2 ^ 63) × (length s < 2 ^ 63)
+            × IsFound f s found.image found.place }
         requires writable { IsWritable found.image }
-        ensures opened { IfOk result (λ opened. (f s : List ℕ) → RestsAs D.seen D.tells_crashes D.may_leave first f
-            → RestsAs D.seen D.tells_crashes D.may_leave second s → IsFound f s found.image found.place
+        ensures opened { IfOk result (λ opened. (f s : List ℕ)
+            → RestsAs D.seen D.tells_crashes D.may_leave first f
+            → RestsAs D.seen D.tells_crashes D.may_leave second s
+            → IsFound f s found.image found.place
             → Holds opened.0 opened.1 × (limit_of opened.0 ≡ opened_limit f s)) }
-        ensures size { IfOk result (λ opened. (f s : List ℕ) → IsFound f s found.image found.place → size_of opened.0 ≡ opened_size f s) }
-        ensures in_use { IfOk result (λ opened. (f s : List ℕ) → RestsAs D.seen D.tells_crashes D.may_leave first f
-            → RestsAs D.seen D.tells_crashes D.may_leave second s → IsFound f s found.image found.place
+        ensures size { IfOk result (λ opened. (f s : List ℕ) → IsFound f s found.image found.place
+            → size_of opened.0 ≡ opened_size f s) }
+        ensures in_use { IfOk result (λ opened. (f s : List ℕ)
+            → RestsAs D.seen D.tells_crashes D.may_leave first f
+            → RestsAs D.seen D.tells_crashes D.may_leave second s
+            → IsFound f s found.image found.place
             → D.seen opened.0.live.device ≡ Some (rest_of f s)) }
-        ensures stays { IfErr result (λ e. e.2 ≡ FailedDisk → (f s : List ℕ) → RestsAs D.seen D.tells_crashes D.may_leave first f
-            → RestsAs D.seen D.tells_crashes D.may_leave second s → IsFound f s found.image found.place → TellImage D.Disk (e.0, e.1) (Ok found.image)) }
+        ensures stays { IfErr result (λ e. e.2 ≡ FailedDisk → (f s : List ℕ)
+            → RestsAs D.seen D.tells_crashes D.may_leave first f
+            → RestsAs D.seen D.tells_crashes D.may_leave second s
+            → IsFound f s found.image found.place → TellImage D.Disk (e.0, e.1) (Ok found.image)) }
         ensures image { IfOk result (λ opened. opened.1 ≡ found.image) }
         ensures ready { IfOk result (λ opened. repair_due opened.0 ≡ false) }
-        ensures older { IfOk result (λ opened. (f s : List ℕ) → RestsAs D.seen D.tells_crashes D.may_leave first f
-            → RestsAs D.seen D.tells_crashes D.may_leave second s → IsFound f s found.image found.place → chosen (live f) (live s) ≡ None
-            → (D.seen (disks opened.0).0 ≡ Some f) × (D.seen (disks opened.0).1 ≡ Some (new_front (limit_of opened.0) 1 opened.1 ++ 0 ∷ []))) }
+        ensures older { IfOk result (λ opened. (f s : List ℕ)
+            → RestsAs D.seen D.tells_crashes D.may_leave first f
+            → RestsAs D.seen D.tells_crashes D.may_leave second s
+            → IsFound f s found.image found.place → chosen (live f) (live s) ≡ None
+            → (D.seen (disks opened.0).0 ≡ Some f)
+            × (D.seen (disks opened.0).1
+            ≡ Some (new_front (limit_of opened.0) 1 opened.1 ++ 0 ∷ []))) }
         ensures any_moment { (f s : List ℕ) → RestsAs D.seen D.tells_crashes D.may_leave first f
-            → RestsAs D.seen D.tells_crashes D.may_leave second s → IsFound f s found.image found.place → Tell D.Disk (first, second)
-            → Throughout D.Disk (first, second) (disks_opened result) (ShowsOf D.Disk (first, second) f s found.image) }
+            → RestsAs D.seen D.tells_crashes D.may_leave second s
+            → IsFound f s found.image found.place → Tell D.Disk (first, second)
+            → Throughout D.Disk (first, second) (disks_opened result)
+            (ShowsOf D.Disk (first, second) f s found.image) }
         ensures cause { IfErr result (λ e. RenewRefused D.Disk (first, second) (e.0, e.1) e.2) }
-        ensures keeps { (f s : List ℕ) → IsFound f s found.image found.place → Keeps D.Disk (first, second) (disks_opened result)
+        ensures keeps { (f s : List ℕ) → IsFound f s found.image found.place
+            → Keeps D.Disk (first, second) (disks_opened result)
             (max (opened_limit f s) (length f), max (opened_limit f s) (length s)) }
-        ensures bounds { IfOk result (λ opened. (f s : List ℕ) → IsFound f s found.image found.place → ((bounds opened.0).0 ≤ max (limit_of opened.0) (length f))
+        ensures bounds { IfOk result (λ opened. (f s : List ℕ) → IsFound f s found.image found.place
+            → ((bounds opened.0).0 ≤ max (limit_of opened.0) (length f))
             × ((bounds opened.0).1 ≤ max (limit_of opened.0) (length s))) }
-        ensures no_fault { OnOk result (fault_count D.Disk (disks_opened result) ≡ fault_count D.Disk (first, second)) }
+        ensures no_fault { OnOk result (fault_count D.Disk (disks_opened result)
+            ≡ fault_count D.Disk (first, second)) }
     {
         match found.place {
             Place::Half(place) => match Store::resume(first, second, place) {
@@ -308,24 +380,36 @@ impl<D: Disk> Store<D> {
         requires ready { repair_due self.old ≡ false }
         requires name { HasShortName change.now }
 
-        ensures acknowledged { OnOk result ((shown next : Image) → Holds self.old shown → edited shown change.now ≡ Some next → Holds self.new next) }
+        ensures acknowledged { OnOk result ((shown next : Image) → Holds self.old shown
+            → edited shown change.now ≡ Some next → Holds self.new next) }
 
         // A crash at any moment leaves the image from before or the one with the change.
-        ensures any_moment { (shown next : Image) → Holds self.old shown → edited shown change.now ≡ Some next → Tell D.Disk (disks self.old)
+        ensures any_moment { (shown next : Image) → Holds self.old shown
+            → edited shown change.now ≡ Some next → Tell D.Disk (disks self.old)
             → Throughout D.Disk (disks self.old) (disks self.new) (ShowsEither shown next) }
-        ensures fault { result ≡ Err StoreFault.DiskFault → (shown next : Image) → Holds self.old shown → edited shown change.now ≡ Some next → MayShow self.new shown next }
-        ensures cause { IfErr result (λ e. PutRefused self.old self.new (size_of self.old + 10 + length (payload_of change.now)) e) }
-        ensures size { OnOk result ((size_of self.new ≡ size_of self.old + 10 + length (payload_of change.now)) × (size_of self.new ≤ limit_of self.old)) }
+        ensures fault { result ≡ Err StoreFault.DiskFault → (shown next : Image)
+            → Holds self.old shown → edited shown change.now ≡ Some next
+            → MayShow self.new shown next }
+        ensures cause { IfErr result (λ e.
+            PutRefused self.old self.new (size_of self.old + 10
+            + length (payload_of change.now)) e) }
+        ensures size { OnOk result ((size_of self.new ≡ size_of self.old + 10
+            + length (payload_of change.now)) × (size_of self.new ≤ limit_of self.old)) }
         ensures same_size { OnErr result (size_of self.new ≡ size_of self.old) }
         ensures ready { OnOk result (repair_due self.new ≡ false) }
         ensures same { (limit_of self.new ≡ limit_of self.old) × NoWider self.old self.new }
         ensures keeps { Keeps D.Disk (disks self.old) (disks self.new) (bounds self.old) }
-        ensures no_fault { OnOk result (fault_count D.Disk (disks self.new) ≡ fault_count D.Disk (disks self.old)) }
+        ensures no_fault { OnOk result (fault_count D.Disk (disks self.new)
+            ≡ fault_count D.Disk (disks self.old)) }
 
         // The record stands behind the file's last gate, which is open then, and a shut gate behind that.
         ensures bytes { OnOk result ((shown : Image) (held : Holds self.old shown)
-            → D.seen self.new.live.device ≡ Some (held.front ++ 1 ∷ (body (kind_of change.now) (payload_of change.now) ++ 0 ∷ []))) }
-        ensures beside { (self.new.spare ≡ self.old.spare) × (self.new.in_second ≡ self.old.in_second) × (self.new.generation ≡ self.old.generation) }
+            → D.seen self.new.live.device
+            ≡ Some (held.front ++ 1
+            ∷ (body (kind_of change.now) (payload_of change.now) ++ 0 ∷ []))) }
+        ensures beside { (self.new.spare ≡ self.old.spare)
+            × (self.new.in_second ≡ self.old.in_second)
+            × (self.new.generation ≡ self.old.generation) }
     {
         let entry = record_of(alloc, change)?;
         let len = entry.len() as u64;
@@ -345,24 +429,32 @@ impl<D: Disk> Store<D> {
         requires writable { IsWritable image.now }
         requires revision { image.now.revision ≤ 2 ^ 62 }
 
-        ensures acknowledged { OnOk result ((shown : Image) → Holds self.old shown → Holds self.new image.now) }
+        ensures acknowledged { OnOk result ((shown : Image) → Holds self.old shown
+            → Holds self.new image.now) }
 
         // A crash at any moment leaves the image from before or the given one.
         ensures any_moment { (shown : Image) → Holds self.old shown → Tell D.Disk (disks self.old)
             → Throughout D.Disk (disks self.old) (disks self.new) (ShowsEither shown image.now) }
-        ensures fault { result ≡ Err StoreFault.DiskFault → (shown : Image) → Holds self.old shown → MayShow self.new shown image.now }
+        ensures fault { result ≡ Err StoreFault.DiskFault → (shown : Image) → Holds self.old shown
+            → MayShow self.new shown image.now }
         ensures cause { IfErr result (λ e. PutRefused self.old self.new (whole_size image.now) e) }
-        ensures size { OnOk result ((size_of self.new ≡ whole_size image.now) × (size_of self.new ≤ limit_of self.old)) }
+        ensures size { OnOk result ((size_of self.new ≡ whole_size image.now)
+            × (size_of self.new ≤ limit_of self.old)) }
         ensures same_size { OnErr result (size_of self.new ≡ size_of self.old) }
         ensures ready { OnOk result (repair_due self.new ≡ false) }
         ensures same { (limit_of self.new ≡ limit_of self.old) × NoWider self.old self.new }
         ensures keeps { Keeps D.Disk (disks self.old) (disks self.new) (bounds self.old) }
-        ensures no_fault { OnOk result (fault_count D.Disk (disks self.new) ≡ fault_count D.Disk (disks self.old)) }
+        ensures no_fault { OnOk result (fault_count D.Disk (disks self.new)
+            ≡ fault_count D.Disk (disks self.old)) }
 
         // The half in use stays as it is, and the other file holds the image alone.
-        ensures beside { OnOk result ((shown : Image) → Holds self.old shown → (self.new.spare ≡ self.old.live.device)
-            × (D.seen self.new.live.device ≡ Some (new_front (limit_of self.old) (next_generation self.old.generation) image.now ++ 0 ∷ []))) }
-        ensures turned { OnOk result ((self.new.generation ≡ next_generation self.old.generation) × (self.new.in_second ≡ not self.old.in_second)) }
+        ensures beside { OnOk result ((shown : Image) → Holds self.old shown
+            → (self.new.spare ≡ self.old.live.device)
+            × (D.seen self.new.live.device
+            ≡ Some (new_front (limit_of self.old) (next_generation self.old.generation) image.now
+            ++ 0 ∷ []))) }
+        ensures turned { OnOk result ((self.new.generation ≡ next_generation self.old.generation)
+            × (self.new.in_second ≡ not self.old.in_second)) }
     {
         let limit = self.live.limit();
         let size = whole_len(image);
@@ -382,16 +474,24 @@ impl<D: Disk> Store<D> {
         requires header { length header.now ≡ 33 }
         requires entry { 33 + length entry.now < 2 ^ 64 }
         requires ready { self.old.live.is_torn ≡ false }
-        ensures moves { (self.new.live ≡ self.old.live) × (self.new.in_second ≡ self.old.in_second) × (self.new.generation ≡ self.old.generation) }
+        ensures moves { (self.new.live ≡ self.old.live) × (self.new.in_second ≡ self.old.in_second)
+            × (self.new.generation ≡ self.old.generation) }
         ensures due { OnErr result (self.new.is_torn ≡ true) }
         ensures ready { OnOk result (self.new.is_torn ≡ self.old.is_torn) }
-        ensures done { OnOk result ((file head : List ℕ) → header.now ≡ head ++ 0 ∷ [] → RestsAs D.seen D.tells_crashes D.may_leave self.old.spare file
+        ensures done { OnOk result ((file head : List ℕ) → header.now ≡ head ++ 0 ∷ []
+            → RestsAs D.seen D.tells_crashes D.may_leave self.old.spare file
             → RestsAs D.seen D.tells_crashes D.may_leave self.new.spare (head ++ 1 ∷ entry.now)) }
-        ensures fault { OnErr result ((file head : List ℕ) → header.now ≡ head ++ 0 ∷ [] → RestsAs D.seen D.tells_crashes D.may_leave self.old.spare file
-            → StandsIn D.seen D.tells_crashes D.may_leave self.new.spare (IsRewritten file head entry.now)) }
-        ensures any_moment { (file head : List ℕ) → header.now ≡ head ++ 0 ∷ [] → RestsAs D.seen D.tells_crashes D.may_leave self.old.spare file
-            → IsTrue (D.tells_crashes self.old.spare) → LeavesOnly D.moment D.left_since self.old.spare self.new.spare (IsRewritten file head entry.now) }
-        ensures reach { D.reach self.new.spare ≤ max (D.reach self.old.spare) (33 + length entry.now) }
+        ensures fault { OnErr result ((file head : List ℕ) → header.now ≡ head ++ 0 ∷ []
+            → RestsAs D.seen D.tells_crashes D.may_leave self.old.spare file
+            → StandsIn D.seen D.tells_crashes D.may_leave self.new.spare
+            (IsRewritten file head entry.now)) }
+        ensures any_moment { (file head : List ℕ) → header.now ≡ head ++ 0 ∷ []
+            → RestsAs D.seen D.tells_crashes D.may_leave self.old.spare file
+            → IsTrue (D.tells_crashes self.old.spare)
+            → LeavesOnly D.moment D.left_since self.old.spare self.new.spare
+            (IsRewritten file head entry.now) }
+        ensures reach { D.reach self.new.spare
+            ≤ max (D.reach self.old.spare) (33 + length entry.now) }
         ensures cause { HasCause (D.failures self.old.spare) (D.failures self.new.spare) result }
         ensures tells { D.tells_crashes self.new.spare ≡ D.tells_crashes self.old.spare }
         ensures unfailing { D.unfailing_to self.new.spare ≡ D.unfailing_to self.old.spare }
@@ -408,8 +508,10 @@ impl<D: Disk> Store<D> {
         requires generation { generation < 3 }
         requires gate { gate + 1 < 2 ^ 64 }
         requires ready { repair_due self.old ≡ false }
-        ensures disks { (self.new.live.device ≡ self.old.spare) × (self.new.spare ≡ self.old.live.device) }
-        ensures numbers { (self.new.live.gate ≡ gate) × (self.new.live.limit ≡ self.old.live.limit) × (self.new.generation ≡ generation) }
+        ensures disks { (self.new.live.device ≡ self.old.spare)
+            × (self.new.spare ≡ self.old.live.device) }
+        ensures numbers { (self.new.live.gate ≡ gate) × (self.new.live.limit ≡ self.old.live.limit)
+            × (self.new.generation ≡ generation) }
         ensures place { self.new.in_second ≡ not self.old.in_second }
         ensures ready { (self.new.is_torn ≡ false) × (self.new.live.is_torn ≡ false) }
     {
@@ -421,18 +523,23 @@ impl<D: Disk> Store<D> {
     /// Undoes what a disk fault left of a change or of a checkpoint. Until it answers Ok a repair is due. It takes no
     /// memory.
     pub fn repair(&mut self) -> Result<(), Failed>
-        ensures mended { OnOk result ((shown other : Image) → MayShow self.old shown other → Holds self.new shown) }
+        ensures mended { OnOk result ((shown other : Image) → MayShow self.old shown other
+            → Holds self.new shown) }
 
         // A crash at any moment leaves the one image or the other.
-        ensures any_moment { (shown other : Image) → MayShow self.old shown other → Tell D.Disk (disks self.old)
+        ensures any_moment { (shown other : Image) → MayShow self.old shown other
+            → Tell D.Disk (disks self.old)
             → Throughout D.Disk (disks self.old) (disks self.new) (ShowsEither shown other) }
-        ensures fault { OnErr result ((shown other : Image) → MayShow self.old shown other → MayShow self.new shown other) }
+        ensures fault { OnErr result ((shown other : Image) → MayShow self.old shown other
+            → MayShow self.new shown other) }
         ensures idle { repair_due self.old ≡ false → (result ≡ Ok tt) × (self.new ≡ self.old) }
         ensures due { OnErr result (repair_due self.new ≡ true) }
         ensures ready { OnOk result (repair_due self.new ≡ false) }
-        ensures same { (size_of self.new ≡ size_of self.old) × (limit_of self.new ≡ limit_of self.old) × NoWider self.old self.new }
+        ensures same { (size_of self.new ≡ size_of self.old)
+            × (limit_of self.new ≡ limit_of self.old) × NoWider self.old self.new }
         ensures keeps { Keeps D.Disk (disks self.old) (disks self.new) (bounds self.old) }
-        ensures cause { HasCause (fault_count D.Disk (disks self.old)) (fault_count D.Disk (disks self.new)) result }
+        ensures cause { HasCause (fault_count D.Disk (disks self.old))
+            (fault_count D.Disk (disks self.new)) result }
     {
         if self.is_torn {
             self.empty_spare()
@@ -446,13 +553,16 @@ impl<D: Disk> Store<D> {
     // Empties the other file.
     fn empty_spare(&mut self) -> Result<(), Failed>
         requires { self.old.is_torn ≡ true }
-        ensures moves { (self.new.live ≡ self.old.live) × (self.new.in_second ≡ self.old.in_second) × (self.new.generation ≡ self.old.generation) }
+        ensures moves { (self.new.live ≡ self.old.live) × (self.new.in_second ≡ self.old.in_second)
+            × (self.new.generation ≡ self.old.generation) }
         ensures mended { OnOk result (self.new.is_torn ≡ false) }
         ensures due { OnErr result (self.new.is_torn ≡ true) }
-        ensures rests { OnOk result (Comes D.seen D.tells_crashes D.may_leave self.old.spare self.new.spare (λ file. take 0 file)) }
+        ensures rests { OnOk result (Comes D.seen D.tells_crashes D.may_leave self.old.spare
+            self.new.spare (λ file. take 0 file)) }
         ensures partial { Becomes (Cut 0) (D.seen self.old.spare) (D.seen self.new.spare) }
         ensures crash { Follows (Cut 0) (D.may_leave self.old.spare) (D.may_leave self.new.spare) }
-        ensures any_moment { LeavesOnly D.moment D.left_since self.old.spare self.new.spare (AfterStep (Cut 0) (D.may_leave self.old.spare)) }
+        ensures any_moment { LeavesOnly D.moment D.left_since self.old.spare self.new.spare
+            (AfterStep (Cut 0) (D.may_leave self.old.spare)) }
         ensures reach { D.reach self.new.spare ≡ max (D.reach self.old.spare) 0 }
         ensures cause { HasCause (D.failures self.old.spare) (D.failures self.new.spare) result }
         ensures tells { D.tells_crashes self.new.spare ≡ D.tells_crashes self.old.spare }
@@ -467,15 +577,20 @@ impl<D: Disk> Store<D> {
     /// record as it stands behind its gate. The `C` has the revision of its image, each other record the one after its change.
     pub fn feed(&mut self, alloc: Global) -> Result<Bytes, StoreFault>
         requires { repair_due self.old ≡ false }
-        ensures frames { IfOk result (λ frames. (shown : Image) (held : Holds self.old shown) → frames ≡ frames_of (held.front ++ 0 ∷ [])) }
+        ensures frames { IfOk result (λ frames. (shown : Image) (held : Holds self.old shown)
+            → frames ≡ frames_of (held.front ++ 0 ∷ [])) }
         ensures held { (shown : Image) → Holds self.old shown → Holds self.new shown }
         ensures any_moment { (shown : Image) → Holds self.old shown → Tell D.Disk (disks self.old)
             → Throughout D.Disk (disks self.old) (disks self.new) (Shows shown) }
-        ensures cause { IfErr result (λ e. ReadRefused (fault_count D.Disk (disks self.old)) (fault_count D.Disk (disks self.new)) e) }
+        ensures cause { IfErr result (λ e.
+            ReadRefused (fault_count D.Disk (disks self.old)) (fault_count D.Disk (disks self.new))
+            e) }
         ensures ready { repair_due self.new ≡ false }
-        ensures same { (size_of self.new ≡ size_of self.old) × (limit_of self.new ≡ limit_of self.old) × NoWider self.old self.new }
+        ensures same { (size_of self.new ≡ size_of self.old)
+            × (limit_of self.new ≡ limit_of self.old) × NoWider self.old self.new }
         ensures keeps { Keeps D.Disk (disks self.old) (disks self.new) (0, 0) }
-        ensures no_fault { OnOk result (fault_count D.Disk (disks self.new) ≡ fault_count D.Disk (disks self.old)) }
+        ensures no_fault { OnOk result (fault_count D.Disk (disks self.new)
+            ≡ fault_count D.Disk (disks self.old)) }
     {
         let file = self.live.read_whole(alloc)?;
         let frames = frames_of(alloc, file.as_slice())?;
@@ -485,7 +600,8 @@ impl<D: Disk> Store<D> {
     /// Whether a change of so many bytes, as a record, would pass the limit, or the half in use is longer than twice the
     /// length of one that holds the image alone and 65536 bytes. It takes no memory.
     pub fn due(&self, change: u64, whole: u64) -> bool
-        ensures { IsTrue result ↔ ((limit_of self.now < size_of self.now + change) ⊎ (2 * whole + 65536 < size_of self.now)) }
+        ensures { IsTrue result ↔ ((limit_of self.now < size_of self.now + change) ⊎ (2 * whole
+            + 65536 < size_of self.now)) }
     {
         let size = self.live.size();
         size > self.live.limit()

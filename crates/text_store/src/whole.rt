@@ -20,7 +20,8 @@ pub fn whole_len(image: &Image) -> u64
 }
 
 fn len_of(text: &[u8], latest: &[Latest]) -> u64
-    ensures { result ≡ min (whole_size (record { text = text.now; latest = latest.now; revision = 0 })) (2 ^ 64 - 1) }
+    ensures { result ≡ min (whole_size
+        (record { text = text.now; latest = latest.now; revision = 0 })) (2 ^ 64 - 1) }
 {
     let mut size = (text.len() as u64).saturating_add(47);
     for state in latest {
@@ -53,7 +54,8 @@ pub fn header_bytes(
 fn states_bytes(alloc: Global, latest: &[Latest]) -> Result<Vec<u8>, Memory>
     requires few { length latest.now < 2 ^ 32 }
     requires short { HaveShortNames latest.now }
-    ensures bytes { IfOk result (λ bytes. bytes.items ≡ to_le_bytes w32 (length latest.now) ++ flat_map mark_payload latest.now) }
+    ensures bytes { IfOk result (λ bytes.
+        bytes.items ≡ to_le_bytes w32 (length latest.now) ++ flat_map mark_payload latest.now) }
     ensures are_states { OnOk result (AreStates latest.now) }
 {
     let mut bytes = Vec::new(alloc);
@@ -67,7 +69,8 @@ fn states_bytes(alloc: Global, latest: &[Latest]) -> Result<Vec<u8>, Memory>
 /// The record of an image, as it is written behind a gate, with a shut gate behind it.
 pub fn whole_record(alloc: Global, image: &Image) -> Result<Vec<u8>, Memory>
     requires writable { IsWritable image.now }
-    ensures bytes { IfOk result (λ bytes. bytes.items ≡ body 67 (whole_payload image.now) ++ 0 ∷ []) }
+    ensures bytes { IfOk result (λ bytes.
+        bytes.items ≡ body 67 (whole_payload image.now) ++ 0 ∷ []) }
     ensures are_states { OnOk result (AreStates image.now.latest) }
     ensures fits { OnOk result (whole_size image.now < 2 ^ 64) }
 {

@@ -78,7 +78,8 @@ fn push_days(alloc: Global, txns: &mut Vec<Txn>, session: &Session) -> Result<()
 
 /// Appends a transaction for each day of each session.
 pub fn push_entries(alloc: Global, txns: &mut Vec<Txn>, sessions: &[Session]) -> Result<(), Memory>
-    ensures { OnOk result (txns.new.items ≡ txns.old.items ++ flat_map spec.entries_of sessions.now) }
+    ensures { OnOk result (txns.new.items ≡ txns.old.items
+        ++ flat_map spec.entries_of sessions.now) }
 {
     for session in sessions {
         push_days(alloc, txns, session)?;

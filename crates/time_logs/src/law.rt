@@ -8,5 +8,6 @@ ghost use Rattle.time_logs.specs.declared.sessions.Session.{Session};
 /// The seconds of each session's days sum to its whole.
 #[tactic(auto, using(crate::proofs::Whole::sessions_whole))]
 pub fn seconds_sum()
-    ensures { (lines : List (List ℕ)) (sessions : List Session) → sessions_in lines ≡ Ok sessions → AllByRecursion IsWhole sessions }
+    ensures { (lines : List (List ℕ)) (sessions : List Session) → sessions_in lines ≡ Ok sessions
+        → AllByRecursion IsWhole sessions }
 {}

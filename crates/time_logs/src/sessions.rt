@@ -76,7 +76,8 @@ fn push_session(done: &mut Vec<Session>, session: Session) -> Result<(), Memory>
 
 /// Ends the session that is open.
 fn end_session(progress: Progress, line: u64, moment: Moment) -> Result<Progress, LogFault>
-    ensures { Gives spec.progress_of log_cause result (spec.after_end (spec.progress_of progress) line moment) }
+    ensures { Gives spec.progress_of log_cause result
+        (spec.after_end (spec.progress_of progress) line moment) }
 {
     let mut done = progress.done;
     match progress.open {
@@ -93,7 +94,8 @@ fn end_session(progress: Progress, line: u64, moment: Moment) -> Result<Progress
 
 /// Begins a session where none is open.
 fn begin_session(progress: Progress, begun: Begun) -> Result<Progress, LogFault>
-    ensures { Gives spec.progress_of log_cause result (spec.after_begin (spec.progress_of progress) begun) }
+    ensures { Gives spec.progress_of log_cause result
+        (spec.after_begin (spec.progress_of progress) begun) }
 {
     let done = progress.done;
     match progress.open {
@@ -107,7 +109,8 @@ fn begin_session(progress: Progress, begun: Begun) -> Result<Progress, LogFault>
 
 /// What is known after what a line says.
 fn after_line(progress: Progress, line: u64, said: ClockLine) -> Result<Progress, LogFault>
-    ensures { Gives spec.progress_of log_cause result (spec.after_line (spec.progress_of progress) line said) }
+    ensures { Gives spec.progress_of log_cause result
+        (spec.after_line (spec.progress_of progress) line said) }
 {
     match said {
         ClockLine::Gap => Ok(progress),
@@ -135,7 +138,8 @@ fn after_content(
     line: u64,
     content: &[u8],
 ) -> Result<Progress, LogFault>
-    ensures { Gives spec.progress_of log_cause result (spec.after_content (spec.progress_of progress) line content.now) }
+    ensures { Gives spec.progress_of log_cause result
+        (spec.after_content (spec.progress_of progress) line content.now) }
 {
     let said = line_said(alloc, line, content)?;
     after_line(progress, line, said)
@@ -143,7 +147,8 @@ fn after_content(
 
 /// The sessions at the end of a text.
 fn finished(progress: Progress) -> Result<Vec<Session>, LogFault>
-    ensures { Gives (λ sessions. sessions.items) log_cause result (spec.finished (spec.progress_of progress)) }
+    ensures { Gives (λ sessions.
+        sessions.items) log_cause result (spec.finished (spec.progress_of progress)) }
 {
     let done = progress.done;
     match progress.open {
@@ -154,7 +159,8 @@ fn finished(progress: Progress) -> Result<Vec<Session>, LogFault>
 
 /// The sessions of a text, each from a clock-in to the next clock-out; the first line that has a fault decides.
 pub fn sessions_of(alloc: Global, text: &[u8]) -> Result<Vec<Session>, LogFault>
-    ensures { Gives (λ sessions. sessions.items) log_cause result (sessions_in (contents_of text.now)) }
+    ensures { Gives (λ sessions.
+        sessions.items) log_cause result (sessions_in (contents_of text.now)) }
 {
     let mut progress = Progress {
         done: Vec::new(alloc),

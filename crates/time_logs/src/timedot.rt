@@ -81,7 +81,8 @@ fn with_head(
     day: Day,
     description: Text,
 ) -> Result<Dots, Memory>
-    ensures { IfOk result (λ more. spec.dots_of more ≡ spec.with_head (spec.dots_of dots) line day description) }
+    ensures { IfOk result (λ more.
+        spec.dots_of more ≡ spec.with_head (spec.dots_of dots) line day description) }
 {
     let done = settled(alloc, dots)?;
     Ok(Dots {
@@ -97,7 +98,8 @@ fn with_head(
 
 /// A day with a posting more.
 fn head_with(head: Head, posting: Posting) -> Result<Head, Memory>
-    ensures { IfOk result (λ more. Some (spec.head_of more) ≡ spec.head_with (Some (spec.head_of head)) posting) }
+    ensures { IfOk result (λ more.
+        Some (spec.head_of more) ≡ spec.head_with (Some (spec.head_of head)) posting) }
 {
     let mut postings = head.postings;
     postings.push(posting)?;
@@ -117,7 +119,8 @@ fn with_hours(
     account: Text,
     hours: Dec,
 ) -> Result<Dots, Memory>
-    ensures { IfOk result (λ more. spec.dots_of more ≡ spec.with_hours (spec.dots_of dots) line account hours) }
+    ensures { IfOk result (λ more.
+        spec.dots_of more ≡ spec.with_hours (spec.dots_of dots) line account hours) }
 {
     let posting = hours_posting(alloc, line, account, hours)?;
     let done = dots.done;
@@ -132,7 +135,8 @@ fn with_hours(
 
 /// What is known after a line.
 fn after_line(alloc: Global, dots: Dots, line: u64, said: DotLine) -> Result<Dots, Memory>
-    ensures { IfOk result (λ more. spec.dots_of more ≡ spec.after_line (spec.dots_of dots) line said) }
+    ensures { IfOk result (λ more.
+        spec.dots_of more ≡ spec.after_line (spec.dots_of dots) line said) }
 {
     match said {
         DotLine::Gap => Ok(dots),
@@ -153,7 +157,8 @@ fn has_head(dots: &Dots) -> bool
 
 /// What is known after a line.
 fn after_content(alloc: Global, dots: Dots, line: u64, content: &[u8]) -> Result<Dots, LogFault>
-    ensures { Gives spec.dots_of log_cause result (spec.after_content (spec.dots_of dots) line content.now) }
+    ensures { Gives spec.dots_of log_cause result
+        (spec.after_content (spec.dots_of dots) line content.now) }
 {
     let said = line_said(alloc, has_head(&dots), line, content)?;
     Ok(after_line(alloc, dots, line, said)?)

@@ -35,7 +35,8 @@ type Part = (Pass<Count>, bool);
 fn add_all<R: Wait>(rt: &R, turn: &Turn<Count>, mut pass: Pass<Count>, amounts: &[u64]) -> Part
     requires { IsFree turn.now pass }
     ensures pass { KeepsRest pass result.0 }
-    ensures whole { IsTrue result.1 → map amount_of result.0.mine ≡ map amount_of pass.mine ++ amounts.now }
+    ensures whole { IsTrue result.1
+        → map amount_of result.0.mine ≡ map amount_of pass.mine ++ amounts.now }
 {
     for amount in amounts {
         if under(rt, turn, &mut pass, amount).is_err() {
@@ -56,18 +57,26 @@ fn add_pair<R: Threads + Wait + Sync>(
 ) -> (Part, Part)
     requires one { IsFree turn.now one }
     requires two { IsFree turn.now two }
-    ensures one { KeepsRest one result.0.0 × (IsTrue result.0.1 → map amount_of result.0.0.mine ≡ map amount_of one.mine ++ first.now) }
-    ensures two { KeepsRest two result.1.0 × (IsTrue result.1.1 → map amount_of result.1.0.mine ≡ map amount_of two.mine ++ second.now) }
+    ensures one { KeepsRest one result.0.0
+        × (IsTrue result.0.1
+        → map amount_of result.0.0.mine ≡ map amount_of one.mine ++ first.now) }
+    ensures two { KeepsRest two result.1.0
+        × (IsTrue result.1.1
+        → map amount_of result.1.0.mine ≡ map amount_of two.mine ++ second.now) }
 {
     join(
         rt,
         || -> Part
             requires { IsFree turn.now one }
-            ensures { KeepsRest one result.0 × (IsTrue result.1 → map amount_of result.0.mine ≡ map amount_of one.mine ++ first.entry.now) }
+            ensures { KeepsRest one result.0
+                × (IsTrue result.1
+                → map amount_of result.0.mine ≡ map amount_of one.mine ++ first.entry.now) }
         { add_all(rt, turn, one, first) },
         || -> Part
             requires { IsFree turn.now two }
-            ensures { KeepsRest two result.0 × (IsTrue result.1 → map amount_of result.0.mine ≡ map amount_of two.mine ++ second.entry.now) }
+            ensures { KeepsRest two result.0
+                × (IsTrue result.1
+                → map amount_of result.0.mine ≡ map amount_of two.mine ++ second.entry.now) }
         { add_all(rt, turn, two, second) },
     )
 }
@@ -83,10 +92,18 @@ fn add_pairs<R: Threads + Wait + Sync>(
 ) -> ((Part, Part), (Part, Part))
     requires one { IsFree turn.now one.0 × IsFree turn.now one.1 }
     requires two { IsFree turn.now two.0 × IsFree turn.now two.1 }
-    ensures first { KeepsRest one.0 result.0.0.0 × (IsTrue result.0.0.1 → map amount_of result.0.0.0.mine ≡ map amount_of one.0.mine ++ left.entry.0.now) }
-    ensures second { KeepsRest one.1 result.0.1.0 × (IsTrue result.0.1.1 → map amount_of result.0.1.0.mine ≡ map amount_of one.1.mine ++ left.entry.1.now) }
-    ensures third { KeepsRest two.0 result.1.0.0 × (IsTrue result.1.0.1 → map amount_of result.1.0.0.mine ≡ map amount_of two.0.mine ++ right.entry.0.now) }
-    ensures fourth { KeepsRest two.1 result.1.1.0 × (IsTrue result.1.1.1 → map amount_of result.1.1.0.mine ≡ map amount_of two.1.mine ++ right.entry.1.now) }
+    ensures first { KeepsRest one.0 result.0.0.0
+        × (IsTrue result.0.0.1
+        → map amount_of result.0.0.0.mine ≡ map amount_of one.0.mine ++ left.entry.0.now) }
+    ensures second { KeepsRest one.1 result.0.1.0
+        × (IsTrue result.0.1.1
+        → map amount_of result.0.1.0.mine ≡ map amount_of one.1.mine ++ left.entry.1.now) }
+    ensures third { KeepsRest two.0 result.1.0.0
+        × (IsTrue result.1.0.1
+        → map amount_of result.1.0.0.mine ≡ map amount_of two.0.mine ++ right.entry.0.now) }
+    ensures fourth { KeepsRest two.1 result.1.1.0
+        × (IsTrue result.1.1.1
+        → map amount_of result.1.1.0.mine ≡ map amount_of two.1.mine ++ right.entry.1.now) }
 {
     let (a, b) = one;
     let (c, d) = two;
@@ -96,13 +113,21 @@ fn add_pairs<R: Threads + Wait + Sync>(
         rt,
         || -> (Part, Part)
             requires { IsFree turn.now a × IsFree turn.now b }
-            ensures first { KeepsRest a result.0.0 × (IsTrue result.0.1 → map amount_of result.0.0.mine ≡ map amount_of a.mine ++ first.entry.now) }
-            ensures second { KeepsRest b result.1.0 × (IsTrue result.1.1 → map amount_of result.1.0.mine ≡ map amount_of b.mine ++ second.entry.now) }
+            ensures first { KeepsRest a result.0.0
+                × (IsTrue result.0.1
+                → map amount_of result.0.0.mine ≡ map amount_of a.mine ++ first.entry.now) }
+            ensures second { KeepsRest b result.1.0
+                × (IsTrue result.1.1
+                → map amount_of result.1.0.mine ≡ map amount_of b.mine ++ second.entry.now) }
         { add_pair(rt, turn, a, b, first, second) },
         || -> (Part, Part)
             requires { IsFree turn.now c × IsFree turn.now d }
-            ensures third { KeepsRest c result.0.0 × (IsTrue result.0.1 → map amount_of result.0.0.mine ≡ map amount_of c.mine ++ third.entry.now) }
-            ensures fourth { KeepsRest d result.1.0 × (IsTrue result.1.1 → map amount_of result.1.0.mine ≡ map amount_of d.mine ++ fourth.entry.now) }
+            ensures third { KeepsRest c result.0.0
+                × (IsTrue result.0.1
+                → map amount_of result.0.0.mine ≡ map amount_of c.mine ++ third.entry.now) }
+            ensures fourth { KeepsRest d result.1.0
+                × (IsTrue result.1.1
+                → map amount_of result.1.0.mine ≡ map amount_of d.mine ++ fourth.entry.now) }
         { add_pair(rt, turn, c, d, third, fourth) },
     )
 }

@@ -33,8 +33,11 @@ pub fn under<T: Work, R: Wait>(
 ) -> Result<T::Answer, Spent>
     requires { IsFree turn.now pass.old }
     ensures pass { KeepsRest pass.old pass.new }
-    ensures entered { IfOk result (λ answer. Enters T.leads (T.state turn.now.opening) pass.old pass.new (λ e. T.says e ask.now answer)) }
-    ensures spent { IfErr result (λ _. IsPrefix pass.old.seen pass.new.seen × (pass.new.mine ≡ pass.old.mine) × (turn.now.done + length pass.new.seen + 1 ≡ 2 ^ 63)) }
+    ensures entered { IfOk result (λ answer.
+        Enters T.leads (T.state turn.now.opening) pass.old pass.new (λ e.
+        T.says e ask.now answer)) }
+    ensures spent { IfErr result (λ _. IsPrefix pass.old.seen pass.new.seen
+        × (pass.new.mine ≡ pass.old.mine) × (turn.now.done + length pass.new.seen + 1 ≡ 2 ^ 63)) }
 {
     let mut held = turn.take(rt, pass)?;
     let (answer, entry) = held.value().work(ask);

@@ -17,7 +17,8 @@ pub struct Held<T: Kept> {
 impl<T: Kept> Held<T> {
     /// Lends the value.
     pub fn value(&mut self) -> &mut T
-        ensures* writes_back { sem 𝓛 (Lends (the_row T.row T.Entry.row T.Kept) T.row self.entry result (with_value self.old)) }
+        ensures* writes_back { sem 𝓛 (Lends (the_row T.row T.Entry.row T.Kept) T.row self.entry
+            result (with_value self.old)) }
         ensures value { result.now ≡ self.old.value }
     {
         &mut self.value

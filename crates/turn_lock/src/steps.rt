@@ -39,7 +39,8 @@ pub enum Attempt<T> {
 
 /// Tries to take the value.
 pub fn try_once<T: Kept>(board: &Board<T>, seat: &mut Sitting<T>) -> Attempt<T>
-    requires board { (seat.old.table_id ≡ board.now.table_id) × (board.now.table_id.words ≡ 1) × (board.now.table_id.slots ≡ 1) }
+    requires board { (seat.old.table_id ≡ board.now.table_id) × (board.now.table_id.words ≡ 1)
+        × (board.now.table_id.slots ≡ 1) }
     requires idle { IsIdle seat.old.me }
     ensures board { (seat.new.table_id ≡ seat.old.table_id) × (seat.new.id ≡ seat.old.id) }
     ensures came { Tries T.state T.leads seat.old.me seat.new.me result }
@@ -68,10 +69,12 @@ pub fn try_once<T: Kept>(board: &Board<T>, seat: &mut Sitting<T>) -> Attempt<T>
 
 /// Takes the value, and waits while another has it. Without a value the history has no room for another entry.
 pub fn acquire<T: Kept, R: Wait>(rt: &R, board: &Board<T>, seat: &mut Sitting<T>) -> Option<T>
-    requires board { (seat.old.table_id ≡ board.now.table_id) × (board.now.table_id.words ≡ 1) × (board.now.table_id.slots ≡ 1) }
+    requires board { (seat.old.table_id ≡ board.now.table_id) × (board.now.table_id.words ≡ 1)
+        × (board.now.table_id.slots ≡ 1) }
     requires idle { IsIdle seat.old.me }
     ensures board { (seat.new.table_id ≡ seat.old.table_id) × (seat.new.id ≡ seat.old.id) }
-    ensures came { MatchOption result (Ended seat.old.me seat.new.me) (λ x. Has T.state T.leads seat.old.me seat.new.me x) }
+    ensures came { MatchOption result (Ended seat.old.me seat.new.me) (λ x.
+        Has T.state T.leads seat.old.me seat.new.me x) }
 {
     for _ in rt.forever() {
         match try_once(board, seat) {

@@ -43,7 +43,8 @@ impl<T: Kept> Turn<T> {
     /// A lock of a value, and its first pass. `done` entries were made before its history, which is empty.
     pub fn new(alloc: Global, value: T, done: u64) -> Result<(Turn<T>, Pass<T>), (T, Memory)>
         requires { done < 2 ^ 63 }
-        ensures { MatchResult result (λ r. (r.0.done ≡ done) × (r.0.opening ≡ value) × (r.1 ≡ first_pass r.0)) (λ e. e.0 ≡ value) }
+        ensures { MatchResult result (λ r. (r.0.done ≡ done) × (r.0.opening ≡ value)
+            × (r.1 ≡ first_pass r.0)) (λ e. e.0 ≡ value) }
     {
         let about = Opening {
             done,
@@ -73,8 +74,11 @@ impl<T: Kept> Turn<T> {
         requires { IsFree self.now pass.old }
         ensures pass { KeepsPass pass.old pass.new }
         ensures seen { IsPrefix pass.old.seen pass.new.seen }
-        ensures held { IfOk result (λ h. (h.pass.value ≡ pass.new) × (pass.new.hold ≡ Holds h.value) × Leads T.leads (T.state self.now.opening) pass.new.seen (T.state h.value) × (self.now.done + length pass.new.seen + 1 < 2 ^ 63)) }
-        ensures spent { IfErr result (λ _. (pass.new.hold ≡ Free) × (self.now.done + length pass.new.seen + 1 ≡ 2 ^ 63)) }
+        ensures held { IfOk result (λ h. (h.pass.value ≡ pass.new) × (pass.new.hold ≡ Holds h.value)
+            × Leads T.leads (T.state self.now.opening) pass.new.seen (T.state h.value)
+            × (self.now.done + length pass.new.seen + 1 < 2 ^ 63)) }
+        ensures spent { IfErr result (λ _. (pass.new.hold ≡ Free)
+            × (self.now.done + length pass.new.seen + 1 ≡ 2 ^ 63)) }
     {
         match acquire(rt, &self.table.shared, &mut pass.seat) {
             Some(value) => Ok(Held {
@@ -89,8 +93,14 @@ impl<T: Kept> Turn<T> {
     pub fn give(&self, pass: &mut Pass<T>, held: Held<T>, entry: T::Entry)
         requires lock { pass.old.lock ≡ self.now }
         requires took { held.pass.value ≡ pass.old }
-        requires leads { (taken : T) × (pass.old.hold ≡ Holds taken) × T.leads (T.state taken) entry (T.state held.value) }
-        ensures { pass.new ≡ record pass.old { seen = pass.old.seen ++ stamped pass.old.number entry ∷ []; mine = pass.old.mine ++ entry ∷ []; hold = Free } }
+        requires leads { (taken : T) × (pass.old.hold ≡ Holds taken)
+            × T.leads (T.state taken) entry (T.state held.value) }
+        ensures { pass.new ≡ record pass.old {
+          seen = pass.old.seen ++ stamped pass.old.number entry
+              ∷ [];
+          mine = pass.old.mine ++ entry ∷ [];
+          hold = Free;
+        } }
     {
         let Held { value, pass: _ } = held;
         release(&self.table.shared, &mut pass.seat, value, entry);
@@ -101,7 +111,8 @@ impl<T: Kept> Turn<T> {
         requires { IsFirst self.now pass.old }
         ensures answer { IsOk result }
         ensures first { pass.new ≡ record pass.old { made = pass.old.made + 1 } }
-        ensures another { IfOk result (λ p. p ≡ record pass.old { number = pass.old.made + 1; made = 0; mine = []; joined = [] }) }
+        ensures another { IfOk result (λ p.
+            p ≡ record pass.old { number = pass.old.made + 1; made = 0; mine = []; joined = [] }) }
     {
         let seat = self.table.shared.split_seat::<Fork>(&mut pass.seat);
         Ok(Pass { seat })
@@ -111,7 +122,11 @@ impl<T: Kept> Turn<T> {
     pub fn join(&self, pass: &mut Pass<T>, other: Pass<T>)
         requires first { IsFirst self.now pass.old }
         requires other { IsFree self.now other }
-        ensures { pass.new ≡ record pass.old { seen = longer pass.old.seen other.seen; joined = pass.old.joined ++ record { number = other.number; mine = other.mine } ∷ [] } }
+        ensures { pass.new ≡ record pass.old {
+          seen = longer pass.old.seen other.seen;
+          joined = pass.old.joined
+              ++ record { number = other.number; mine = other.mine } ∷ [];
+        } }
     {
         let Pass { seat } = other;
         self.table.shared.join_seat::<Gather>(&mut pass.seat, seat);

@@ -44,7 +44,8 @@ fn put_posting(
     n: u64,
     posting: &Posting,
 ) -> Result<(), Memory>
-    ensures { OnOk result (watches.new ≡ put_all watches.old (watches_posting txn.now number n posting.now)) }
+    ensures { OnOk result (watches.new
+        ≡ put_all watches.old (watches_posting txn.now number n posting.now)) }
 {
     match &posting.wanted {
         Some(wanted) => {
@@ -63,7 +64,8 @@ pub(crate) fn put_txn(
     number: u64,
     txn: &Txn,
 ) -> Result<(), Memory>
-    ensures { OnOk result (watches.new ≡ put_all watches.old (watches_from txn.now number 0 txn.now.postings)) }
+    ensures { OnOk result (watches.new
+        ≡ put_all watches.old (watches_from txn.now number 0 txn.now.postings)) }
 {
     put_postings(alloc, watches, txn, number, txn.postings.as_slice())
 }
@@ -76,7 +78,8 @@ fn put_postings(
     number: u64,
     postings: &[Posting],
 ) -> Result<(), Memory>
-    ensures { OnOk result (watches.new ≡ put_all watches.old (watches_from txn.now number 0 postings.now)) }
+    ensures { OnOk result (watches.new
+        ≡ put_all watches.old (watches_from txn.now number 0 postings.now)) }
 {
     for (n, posting) in postings.iter().enumerate() {
         put_posting(alloc, watches, txn, number, n as u64, posting)?;
@@ -93,7 +96,8 @@ fn remove_posting(
     n: u64,
     posting: &Posting,
 ) -> Result<(), Memory>
-    ensures { OnOk result (watches.new ≡ gone_all watches.old (watches_posting txn.now number n posting.now)) }
+    ensures { OnOk result (watches.new
+        ≡ gone_all watches.old (watches_posting txn.now number n posting.now)) }
 {
     match &posting.wanted {
         Some(wanted) => {
@@ -112,7 +116,8 @@ pub(crate) fn remove_txn(
     number: u64,
     txn: &Txn,
 ) -> Result<(), Memory>
-    ensures { OnOk result (watches.new ≡ gone_all watches.old (watches_from txn.now number 0 txn.now.postings)) }
+    ensures { OnOk result (watches.new
+        ≡ gone_all watches.old (watches_from txn.now number 0 txn.now.postings)) }
 {
     remove_postings(alloc, watches, txn, number, txn.postings.as_slice())
 }
@@ -125,7 +130,8 @@ fn remove_postings(
     number: u64,
     postings: &[Posting],
 ) -> Result<(), Memory>
-    ensures { OnOk result (watches.new ≡ gone_all watches.old (watches_from txn.now number 0 postings.now)) }
+    ensures { OnOk result (watches.new
+        ≡ gone_all watches.old (watches_from txn.now number 0 postings.now)) }
 {
     for (n, posting) in postings.iter().enumerate() {
         remove_posting(alloc, watches, txn, number, n as u64, posting)?;
@@ -135,7 +141,8 @@ fn remove_postings(
 
 /// The watches of some transactions, each under its place in the list.
 pub(crate) fn watches_in_all(alloc: Global, txns: &[Txn]) -> Result<SharedSet<Watch>, Memory>
-    ensures { IfOk result (λ watches. watches ≡ put_all [] (watches_of (numbered_from 0 txns.now))) }
+    ensures { IfOk result (λ watches.
+        watches ≡ put_all [] (watches_of (numbered_from 0 txns.now))) }
 {
     let mut watches = SharedSet::new();
     for (number, txn) in txns.iter().enumerate() {

@@ -71,7 +71,8 @@ fn opening(
     allow: &str,
     closing: bool,
 ) -> Result<String, Memory>
-    ensures { IfOk result (λ text. string_bytes text ≡ opening_text status revision allow.now closing) }
+    ensures { IfOk result (λ text.
+        string_bytes text ≡ opening_text status revision allow.now closing) }
 {
     let mut text = start_line(alloc, status)?;
     text.push_str("Content-Type: text/plain; charset=utf-8\r\n")?;
@@ -90,7 +91,8 @@ fn head(
     closing: bool,
     size: usize,
 ) -> Result<String, Memory>
-    ensures { IfOk result (λ text. string_bytes text ≡ head_text status revision allow.now closing size) }
+    ensures { IfOk result (λ text.
+        string_bytes text ≡ head_text status revision allow.now closing size) }
 {
     let mut text = opening(alloc, status, revision, allow, closing)?;
     text.push_str("Content-Length: ")?;

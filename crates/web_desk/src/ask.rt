@@ -34,7 +34,8 @@ pub trait Ask {
     ) -> Result<(Reply, u64), Spent>
         requires { IsDay day.0 }
         ensures answered { IfOk result (λ answer. leads self.old
-            (record { request = request.now; day = day; reply = answer.0; revision = answer.1 } ∷ []) self.new) }
+            (record { request = request.now; day = day; reply = answer.0; revision = answer.1 }
+            ∷ []) self.new) }
         ensures maker { TellsAnswer request.now day.0 (M.refusals maker.old) (M.refusals maker.new)
             (M.last_refused maker.old) (M.last_refused maker.new) result }
         ensures spent { OnErr result (leads self.old [] self.new) }

@@ -34,7 +34,8 @@ const MOST_MESSAGES: u64 = 1_000_000;
 
 /// Sends a reply.
 fn send<K: Link>(link: &mut K, reply: &Bytes) -> Result<(), ConnEnd>
-    ensures told { Sends (K.sent link.old) (K.sent link.new) (λ text. SentSo result reply.now text) }
+    ensures told { Sends (K.sent link.old) (K.sent link.new) (λ text.
+        SentSo result reply.now text) }
     ensures coming { K.coming link.new ≡ K.coming link.old }
     ensures broken { IfErr result IsBroken }
     ensures counted { CountedIn result (K.read_faults link.old) (K.read_faults link.new)
@@ -87,7 +88,8 @@ fn send_refusal<K: Link>(alloc: Global, link: &mut K, refusal: Refusal) -> Resul
 
 /// Ends a connection where the reading stopped, after the reply that belongs to it.
 fn finish<K: Link>(alloc: Global, link: &mut K, stop: Stop, at: u64) -> ConnEnd
-    ensures told { Sends (K.sent link.old) (K.sent link.new) (λ text. ClosesSo at stop result text) }
+    ensures told { Sends (K.sent link.old) (K.sent link.new) (λ text.
+        ClosesSo at stop result text) }
     ensures kind { (result ≡ end_of at (ending_of stop)) ⊎ IsBroken result }
     ensures coming { K.coming link.new ≡ K.coming link.old }
     ensures counted { Counted result (K.read_faults link.old) (K.read_faults link.new)
@@ -167,7 +169,8 @@ fn answer<A: Ask, K: Link, C: Clock, M: Maker, L: Ledger>(
         × AreAsked (C.always clock.old) (M.refusals maker.old) (M.refusals maker.new)
         (M.last_refused maker.old) (M.last_refused maker.new) entries
         × Sends (K.sent link.old) (K.sent link.new)
-        (λ text. AnswersSo closing (call_at head.now.route head.now.query body.now) result entries text) }
+        (λ text. AnswersSo closing (call_at head.now.route head.now.query body.now) result entries
+        text) }
     ensures spent { result ≡ Err ConnEnd.Spent → A.IsSpent ask.new }
     ensures always { C.always clock.new ≡ C.always clock.old }
     ensures coming { K.coming link.new ≡ K.coming link.old }
@@ -207,7 +210,8 @@ fn read_next<K: Link>(
     link: &mut K,
 ) -> Result<Next, ConnEnd>
     ensures next { IfOk result (λ next. NextSo incoming.new.ended incoming.new.bytes next) }
-    ensures stream { OnOk result (Keeps (K.coming link.old) incoming.old (K.coming link.new) incoming.new) }
+    ensures stream { OnOk result (Keeps (K.coming link.old) incoming.old (K.coming link.new)
+        incoming.new) }
     ensures sent { K.sent link.new ≡ K.sent link.old }
     ensures broken { IfErr result IsBroken }
     ensures counted { CountedIn result (K.read_faults link.old) (K.read_faults link.new)
@@ -281,7 +285,8 @@ pub fn serve_link<A: Ask, K: Link, C: Clock, M: Maker, L: Ledger>(
         × AreAsked (C.always clock.old) (M.refusals maker.old) (M.refusals maker.new)
         (M.last_refused maker.old) (M.last_refused maker.new) entries
         × IfSome (K.coming link.old)
-        (λ bytes. Sends (K.sent link.old) (K.sent link.new) (λ text. Served bytes result entries text))
+        (λ bytes. Sends (K.sent link.old) (K.sent link.new) (λ text.
+        Served bytes result entries text))
         × length entries ≤ most_messages }
     ensures counted { Counted result (K.read_faults link.old) (K.read_faults link.new)
         (K.write_faults link.old) (K.write_faults link.new) }

@@ -61,7 +61,8 @@ fn is_all_digits(text: &[u8]) -> bool
 /// The number that digits make, if it is one below 2^64.
 fn value_of_digits(text: &[u8]) -> Option<u64>
     requires { list_all is_ascii_digit text.now ≡ true }
-    ensures { result ≡ (if nat_lt (digits_value 10 text.now) (2 ^ 64) then Some (digits_value 10 text.now) else None) }
+    ensures { result ≡ (if nat_lt (digits_value 10 text.now) (2 ^ 64) then Some
+        (digits_value 10 text.now) else None) }
 {
     let mut value: u64 = 0;
     for digit in text {
@@ -152,7 +153,8 @@ fn has_close_word(value: &[u8]) -> bool
 /// Whether a field Connection has the word `close`.
 pub fn says_to_close(alloc: Global, head: &[u8], spans: &[HeaderSpan]) -> Result<bool, Memory>
     requires { All (IsHeaderWithin (length head.now)) spans.now }
-    ensures { IfOk result (λ closing. closing ≡ says_close (map (header_bytes head.now) spans.now)) }
+    ensures { IfOk result (λ closing.
+        closing ≡ says_close (map (header_bytes head.now) spans.now)) }
 {
     let values = values(alloc, head, spans, b"connection")?;
     Ok(any_close(values.as_slice()))

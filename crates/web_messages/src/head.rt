@@ -54,7 +54,8 @@ fn head_at(
     found: &RequestSpans,
 ) -> Result<Head, Memory>
     requires { IsRequestWithin bytes.now spans.now found.now }
-    ensures { IfOk result (λ head. (h : RequestHead) → IsRequestAt bytes.now spans.now found.now h → head ≡ facts_of h) }
+    ensures { IfOk result (λ head. (h : RequestHead) → IsRequestAt bytes.now spans.now found.now h
+        → head ≡ facts_of h) }
 {
     let (fields, _) = spans.split_at(found.headers);
     let (path, query) = split_target(found.path.of(bytes));

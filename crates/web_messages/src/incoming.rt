@@ -84,11 +84,14 @@ impl Incoming {
     /// Reads some more bytes, or sees the end.
     pub fn receive<K: Link>(&mut self, link: &mut K) -> Result<(), Broken>
         requires { self.old.ended ≡ false }
-        ensures longer { OnOk result (self.new.ended ≡ false → length self.old.bytes < length self.new.bytes) }
+        ensures longer { OnOk result (self.new.ended ≡ false
+            → length self.old.bytes < length self.new.bytes) }
         ensures on { OnOk result (GoesOn self.old.bytes self.new.bytes) }
-        ensures stream { OnOk result (Keeps (K.coming link.old) self.old (K.coming link.new) self.new) }
+        ensures stream { OnOk result (Keeps (K.coming link.old) self.old (K.coming link.new)
+            self.new) }
         ensures sent { K.sent link.new ≡ K.sent link.old }
-        ensures counted { ReadsCounted result (K.read_faults link.old) (K.read_faults link.new) (K.write_faults link.old) (K.write_faults link.new) }
+        ensures counted { ReadsCounted result (K.read_faults link.old) (K.read_faults link.new)
+            (K.write_faults link.old) (K.write_faults link.new) }
     {
         let room = self.room.as_mut_slice();
         let Ok(count) = link.read(room) else {

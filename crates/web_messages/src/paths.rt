@@ -32,7 +32,8 @@ impl Model for Paths {
 fn add(router: &mut Router<Resource>, path: &str, resource: Resource) -> Result<(), Memory>
     requires literal { parse_route path.now ≡ Ok (literal_scan path.now) }
     requires free { nearest path.now router.old ≡ None }
-    ensures { OnOk result (router.new ≡ placed (path.now, literal_route path.now resource) router.old) }
+    ensures { OnOk result (router.new
+        ≡ placed (path.now, literal_route path.now resource) router.old) }
 {
     match router.insert(path, resource) {
         Ok(()) => Ok(()),

@@ -83,7 +83,8 @@ fn settle(
     settled: bool,
 ) -> Result<Option<Judged>, Memory>
     requires { length bytes.now ≤ most_head }
-    ensures found { IfOk result (λ found. IfSome found (λ judged. SettledSo settled bytes.now judged)) }
+    ensures found { IfOk result (λ found.
+        IfSome found (λ judged. SettledSo settled bytes.now judged)) }
     ensures some { IfOk result (λ found. settled ≡ true → IsSome found) }
 {
     match judge(alloc, paths, bytes)? {
@@ -107,7 +108,9 @@ fn look(
     incoming: &Incoming,
     seen: usize,
 ) -> Result<Option<Judged>, Memory>
-    ensures found { IfOk result (λ found. IfSome found (λ judged. SettledSo (is_settled incoming.now) (front incoming.now.bytes) judged)) }
+    ensures found { IfOk result (λ found.
+        IfSome found (λ judged.
+        SettledSo (is_settled incoming.now) (front incoming.now.bytes) judged)) }
     ensures none { IfOk result (λ found. found ≡ None → is_settled incoming.now ≡ false) }
 {
     let settled = has_settled(incoming);
@@ -125,10 +128,13 @@ fn read_head<K: Link>(
     incoming: &mut Incoming,
     link: &mut K,
 ) -> Result<Judged, Broken>
-    ensures judged { IfOk result (λ judged. SettledSo (is_settled incoming.new) (front incoming.new.bytes) judged) }
-    ensures stream { OnOk result (Keeps (K.coming link.old) incoming.old (K.coming link.new) incoming.new) }
+    ensures judged { IfOk result (λ judged.
+        SettledSo (is_settled incoming.new) (front incoming.new.bytes) judged) }
+    ensures stream { OnOk result (Keeps (K.coming link.old) incoming.old (K.coming link.new)
+        incoming.new) }
     ensures sent { K.sent link.new ≡ K.sent link.old }
-    ensures counted { ReadsCounted result (K.read_faults link.old) (K.read_faults link.new) (K.write_faults link.old) (K.write_faults link.new) }
+    ensures counted { ReadsCounted result (K.read_faults link.old) (K.read_faults link.new)
+        (K.write_faults link.old) (K.write_faults link.new) }
 {
     let mut seen = 0;
     'heads: loop {
@@ -144,9 +150,11 @@ fn read_head<K: Link>(
 fn read_body<K: Link>(incoming: &mut Incoming, link: &mut K, total: usize) -> Result<(), Broken>
     ensures all { OnOk result ((total ≤ length incoming.new.bytes) ⊎ (incoming.new.ended ≡ true)) }
     ensures on { OnOk result (GoesOn incoming.old.bytes incoming.new.bytes) }
-    ensures stream { OnOk result (Keeps (K.coming link.old) incoming.old (K.coming link.new) incoming.new) }
+    ensures stream { OnOk result (Keeps (K.coming link.old) incoming.old (K.coming link.new)
+        incoming.new) }
     ensures sent { K.sent link.new ≡ K.sent link.old }
-    ensures counted { ReadsCounted result (K.read_faults link.old) (K.read_faults link.new) (K.write_faults link.old) (K.write_faults link.new) }
+    ensures counted { ReadsCounted result (K.read_faults link.old) (K.read_faults link.new)
+        (K.write_faults link.old) (K.write_faults link.new) }
 {
     while !incoming.has_ended() && incoming.as_slice().len() < total {
         incoming.receive(link)?;
@@ -158,7 +166,8 @@ fn read_body<K: Link>(incoming: &mut Incoming, link: &mut K, total: usize) -> Re
 fn stop_without_head(incoming: &Incoming) -> Stop
     requires open { IsOpen (front incoming.now.bytes) }
     requires settled { is_settled incoming.now ≡ true }
-    ensures { Whatever incoming.now.ended incoming.now.bytes (λ rest. EndsSo 0 rest (ending_of result)) }
+    ensures { Whatever incoming.now.ended incoming.now.bytes (λ rest.
+        EndsSo 0 rest (ending_of result)) }
 {
     let had = incoming.as_slice().len();
     if had == 0 {
@@ -174,9 +183,11 @@ fn stop_without_head(incoming: &Incoming) -> Stop
 fn next_body<K: Link>(incoming: &mut Incoming, link: &mut K, head: Head) -> Result<Next, Broken>
     requires { StartsWith incoming.old.bytes head }
     ensures next { IfOk result (λ next. NextSo incoming.new.ended incoming.new.bytes next) }
-    ensures stream { OnOk result (Keeps (K.coming link.old) incoming.old (K.coming link.new) incoming.new) }
+    ensures stream { OnOk result (Keeps (K.coming link.old) incoming.old (K.coming link.new)
+        incoming.new) }
     ensures sent { K.sent link.new ≡ K.sent link.old }
-    ensures counted { ReadsCounted result (K.read_faults link.old) (K.read_faults link.new) (K.write_faults link.old) (K.write_faults link.new) }
+    ensures counted { ReadsCounted result (K.read_faults link.old) (K.read_faults link.new)
+        (K.write_faults link.old) (K.write_faults link.new) }
 {
     let Some(said) = head.said else {
         return Ok(Next::Stopped(Stop::Unframed));
@@ -202,9 +213,11 @@ pub fn next_message<K: Link>(
     link: &mut K,
 ) -> Result<Next, Broken>
     ensures next { IfOk result (λ next. NextSo incoming.new.ended incoming.new.bytes next) }
-    ensures stream { OnOk result (Keeps (K.coming link.old) incoming.old (K.coming link.new) incoming.new) }
+    ensures stream { OnOk result (Keeps (K.coming link.old) incoming.old (K.coming link.new)
+        incoming.new) }
     ensures sent { K.sent link.new ≡ K.sent link.old }
-    ensures counted { ReadsCounted result (K.read_faults link.old) (K.read_faults link.new) (K.write_faults link.old) (K.write_faults link.new) }
+    ensures counted { ReadsCounted result (K.read_faults link.old) (K.read_faults link.new)
+        (K.write_faults link.old) (K.write_faults link.new) }
 {
     match read_head(alloc, paths, incoming, link)? {
         Judged::Whole(head) => next_body(incoming, link, head),
