@@ -1,0 +1,3 @@
+pub mod LocalDay
+pub mod Naming
+pub mod Zones
