@@ -9,6 +9,6 @@ text_limit = 16777216
 abbrev pub item_limit : ℕ
 item_limit = 200000
 
--- the most bytes that an entry has, or any other item that isn't a remark
+-- the most bytes that an entry has, or a directive; gaps, comment blocks and stray lines have no limit of their own
 abbrev pub entry_limit : ℕ
 entry_limit = 65536

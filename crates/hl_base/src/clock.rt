@@ -42,17 +42,3 @@ impl Clock for MemClock {
         self.day
     }
 }
-
-#[cfg(test)]
-mod tests {
-    use super::*;
-    use std::test::Fail;
-
-    #[test]
-    fn a_clock_in_memory_stands_still(rt: HostRuntime) -> Result<(), Fail> {
-        let mut clock = MemClock::new(739_981);
-        assert_eq!(rt; clock.day(), 739_981);
-        assert_eq!(rt; clock.day(), 739_981);
-        Ok(())
-    }
-}

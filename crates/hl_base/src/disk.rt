@@ -34,10 +34,12 @@ pub trait Disk {
 
     /// The file's length in bytes.
     fn len(&mut self) -> Result<u64, Failed>
-        ensures value { IfOk result (λ count. IfSome (seen self.old) (λ file. count ≡ length file)) }
+        ensures value { IfOk result (λ count.
+            IfSome (seen self.old) (λ file. count ≡ length file)) }
         ensures seen { seen self.new ≡ seen self.old }
         ensures crash { NoMore (may_leave self.old) (may_leave self.new) }
-        ensures time { Elapses (moment self.old) (moment self.new) (left_since self.old) (left_since self.new) (may_leave self.new) }
+        ensures time { Elapses (moment self.old) (moment self.new) (left_since self.old)
+            (left_since self.new) (may_leave self.new) }
         ensures reach { reach self.new ≡ reach self.old }
         ensures cause { HasCause (failures self.old) (failures self.new) result }
         ensures tells { tells_crashes self.new ≡ tells_crashes self.old }
@@ -47,10 +49,12 @@ pub trait Disk {
     /// is the end.
     fn read(&mut self, at: u64, room: &mut [u8]) -> Result<usize, Failed>
         ensures fits { IfOk result (λ count. count ≤ length room.old) }
-        ensures bytes { IfOk result (λ count. IfSome (seen self.old) (λ file. ReadsAt file at count room.old room.new)) }
+        ensures bytes { IfOk result (λ count.
+            IfSome (seen self.old) (λ file. ReadsAt file at count room.old room.new)) }
         ensures seen { seen self.new ≡ seen self.old }
         ensures crash { NoMore (may_leave self.old) (may_leave self.new) }
-        ensures time { Elapses (moment self.old) (moment self.new) (left_since self.old) (left_since self.new) (may_leave self.new) }
+        ensures time { Elapses (moment self.old) (moment self.new) (left_since self.old)
+            (left_since self.new) (may_leave self.new) }
         ensures reach { reach self.new ≡ reach self.old }
         ensures cause { HasCause (failures self.old) (failures self.new) result }
         ensures tells { tells_crashes self.new ≡ tells_crashes self.old }
@@ -59,10 +63,13 @@ pub trait Disk {
     /// Writes bytes at a place, over what is there and past the end; a hole before the place is zeros.
     fn write_at(&mut self, at: u64, piece: &[u8]) -> Result<(), Failed>
         requires { at + length piece.now < 2 ^ 64 }
-        ensures written { OnOk result (Becomes (λ old new. new ≡ overwritten old at piece.now) (seen self.old) (seen self.new)) }
+        ensures written { OnOk result (Becomes (λ old new.
+            new ≡ overwritten old at piece.now) (seen self.old) (seen self.new)) }
         ensures torn { Becomes (Torn at (length piece.now)) (seen self.old) (seen self.new) }
-        ensures crash { Follows (Torn at (length piece.now)) (may_leave self.old) (may_leave self.new) }
-        ensures time { Elapses (moment self.old) (moment self.new) (left_since self.old) (left_since self.new) (may_leave self.new) }
+        ensures crash { Follows (Torn at (length piece.now)) (may_leave self.old)
+            (may_leave self.new) }
+        ensures time { Elapses (moment self.old) (moment self.new) (left_since self.old)
+            (left_since self.new) (may_leave self.new) }
         ensures reach { reach self.new ≡ max (reach self.old) (at + length piece.now) }
         ensures cause { HasCause (failures self.old) (failures self.new) result }
         ensures tells { tells_crashes self.new ≡ tells_crashes self.old }
@@ -70,10 +77,12 @@ pub trait Disk {
 
     /// Cuts the file to a length; a shorter one stays.
     fn cut(&mut self, len: u64) -> Result<(), Failed>
-        ensures done { OnOk result (Becomes (λ old new. new ≡ take len old) (seen self.old) (seen self.new)) }
+        ensures done { OnOk result (Becomes (λ old new.
+            new ≡ take len old) (seen self.old) (seen self.new)) }
         ensures partial { Becomes (Cut len) (seen self.old) (seen self.new) }
         ensures crash { Follows (Cut len) (may_leave self.old) (may_leave self.new) }
-        ensures time { Elapses (moment self.old) (moment self.new) (left_since self.old) (left_since self.new) (may_leave self.new) }
+        ensures time { Elapses (moment self.old) (moment self.new) (left_since self.old)
+            (left_since self.new) (may_leave self.new) }
         ensures reach { reach self.new ≡ max (reach self.old) len }
         ensures cause { HasCause (failures self.old) (failures self.new) result }
         ensures tells { tells_crashes self.new ≡ tells_crashes self.old }
@@ -81,10 +90,12 @@ pub trait Disk {
 
     /// Brings the file to rest: after it a crash leaves what a read gives.
     fn sync(&mut self) -> Result<(), Failed>
-        ensures durable { OnOk result (IsTrue (tells_crashes self.old) → IfSome (seen self.old) (λ file. Only file (may_leave self.new))) }
+        ensures durable { OnOk result (IsTrue (tells_crashes self.old)
+            → IfSome (seen self.old) (λ file. Only file (may_leave self.new))) }
         ensures seen { seen self.new ≡ seen self.old }
         ensures crash { NoMore (may_leave self.old) (may_leave self.new) }
-        ensures time { Elapses (moment self.old) (moment self.new) (left_since self.old) (left_since self.new) (may_leave self.new) }
+        ensures time { Elapses (moment self.old) (moment self.new) (left_since self.old)
+            (left_since self.new) (may_leave self.new) }
         ensures reach { reach self.new ≡ reach self.old }
         ensures cause { HasCause (failures self.old) (failures self.new) result }
         ensures tells { tells_crashes self.new ≡ tells_crashes self.old }

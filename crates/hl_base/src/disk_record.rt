@@ -65,7 +65,10 @@ impl Record {
     /// Adds a call with its bytes; false where there is no room for it.
     pub fn add(&mut self, call: Call, piece: &[u8]) -> bool
         requires { piece_len call ≡ length piece.now }
-        ensures { self.new ≡ (if result then record self.old { steps = step_of call piece.now ∷ self.old.steps } else self.old) }
+        ensures { self.new ≡ (if result then record self.old {
+          steps = step_of call piece.now
+              ∷ self.old.steps;
+        } else self.old) }
     {
         let before = self.pieces.len();
         if self.calls.len() >= self.calls_room
@@ -94,7 +97,11 @@ impl Record {
         bytes: u64,
     ) -> Result<Surface, Memory>
         requires { 0 < call }
-        ensures { IfOk result (λ s. s ≡ record { text = stopped_text self.now.first self.now.steps call bytes; room = room }) }
+        ensures { IfOk result (λ s.
+            s ≡ record {
+              text = stopped_text self.now.first self.now.steps call bytes;
+              room = room;
+            }) }
     {
         if self.first.len() > room {
             return Err(Memory);
@@ -115,7 +122,9 @@ fn replay(
 ) -> Result<(), Memory>
     requires counted { 0 < call }
     requires total { written calls.now ≡ length pieces.now }
-    ensures { OnOk result (surface.new ≡ record surface.old { text = stopped_text surface.old.text (history [] calls.now pieces.now) call bytes }) }
+    ensures { OnOk result (surface.new
+        ≡ record surface.old
+        { text = stopped_text surface.old.text (history [] calls.now pieces.now) call bytes }) }
 {
     let mut rest = pieces;
     for (i, made) in calls.iter().enumerate() {
@@ -142,7 +151,8 @@ fn len_of(call: &Call) -> usize
 
 // Does a call to a file again. A write past the room, which no record has, is want of memory.
 fn redo(surface: &mut Surface, call: &Call, piece: &[u8]) -> Result<(), Memory>
-    ensures { OnOk result (surface.new ≡ record surface.old { text = stepped surface.old.text (step_of call.now piece.now) }) }
+    ensures { OnOk result (surface.new
+        ≡ record surface.old { text = stepped surface.old.text (step_of call.now piece.now) }) }
 {
     match call {
         Call::Write { at, len: _ } => write_within(surface, *at, piece),
@@ -156,7 +166,9 @@ fn redo(surface: &mut Surface, call: &Call, piece: &[u8]) -> Result<(), Memory>
 
 // Does to a file again what a front of a call's bytes does.
 fn redo_front(surface: &mut Surface, call: &Call, front: &[u8]) -> Result<(), Memory>
-    ensures { OnOk result (surface.new ≡ record surface.old { text = stepped_front surface.old.text (step_of call.now front.now) }) }
+    ensures { OnOk result (surface.new
+        ≡ record surface.old
+        { text = stepped_front surface.old.text (step_of call.now front.now) }) }
 {
     match call {
         Call::Write { at, len: _ } => write_within(surface, *at, front),
@@ -166,7 +178,8 @@ fn redo_front(surface: &mut Surface, call: &Call, front: &[u8]) -> Result<(), Me
 
 // Writes bytes, if they lie within the room.
 fn write_within(surface: &mut Surface, at: usize, piece: &[u8]) -> Result<(), Memory>
-    ensures { OnOk result (surface.new ≡ record surface.old { text = overwritten surface.old.text at piece.now }) }
+    ensures { OnOk result (surface.new
+        ≡ record surface.old { text = overwritten surface.old.text at piece.now }) }
 {
     let room = surface.room();
     if at > room || piece.len() > room - at {

@@ -37,7 +37,8 @@ pub trait Door {
     fn next(&mut self) -> Knock<Self::Link>
         ensures comes { Comes (coming self.old) (coming self.new) result }
         ensures given { given self.new ≡ with_visit Self.Link.coming (given self.old) result }
-        ensures fresh { IfCame result (λ link. (Self.Link.read_faults link ≡ 0) × (Self.Link.write_faults link ≡ 0)) }
+        ensures fresh { IfCame result (λ link. (Self.Link.read_faults link ≡ 0)
+            × (Self.Link.write_faults link ≡ 0)) }
         ensures cause { HasCause (faults self.old) (faults self.new) (answered result) }
         ensures sound { IsSound self.old → (IsOk (answered result)) × (IsSound self.new) };
 

@@ -3,7 +3,7 @@ ghost use Rattle.std.specs.Prelude.{◌≡◌, ◌<◌, ◌≤◌, ◌+◌, leng
 ghost use Rattle.hl_base.specs.Lines.{first_line, content_length};
 ghost use Rattle.hl_base.specs.Items.{is_white, is_blank, is_remark, is_indented, is_word, begins_entry, closes_block, opens_block, kind_of};
 
-use crate::ascii::is_white;
+use crate::ascii::{is_digit, is_white};
 use crate::items::Kind;
 use memchr::memchr;
 
@@ -113,7 +113,7 @@ fn begins_entry(line: &[u8]) -> bool
 {
     match line {
         [] => false,
-        [first, ..] => b'0' <= *first && *first <= b'9',
+        [first, ..] => is_digit(*first),
     }
 }
 
@@ -131,18 +131,5 @@ pub fn kind_of(line: &[u8]) -> Kind
         Kind::Entry
     } else {
         Kind::Head
-    }
-}
-
-#[cfg(test)]
-mod tests {
-    use super::*;
-
-    #[test]
-    fn ends_lines(rt: HostRuntime) {
-        let text = b"ab\r\nc\n\nd\re\r";
-        for (at, end, next) in [(0, 2, 4), (2, 2, 4), (4, 5, 6), (6, 6, 7), (7, 10, 11)] {
-            assert_eq!(rt; next_line(text, at), (end, next), "at {at}");
-        }
     }
 }

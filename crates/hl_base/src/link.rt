@@ -26,14 +26,16 @@ pub trait Link {
     fn read(&mut self, room: &mut [u8]) -> Result<usize, Failed>
         ensures within { IfOk result (λ count. count ≤ length room.old) }
         ensures told { IfOk result (λ count. IfSome (coming self.old) (λ bytes.
-            (count ≤ length bytes) × (take count room.new ≡ take count bytes) × (coming self.new ≡ Some (drop count bytes)))) }
+            (count ≤ length bytes) × (take count room.new ≡ take count bytes)
+            × (coming self.new ≡ Some (drop count bytes)))) }
         ensures end { IfOk result (λ count. IfSome (coming self.old) (λ bytes.
             count ≡ 0 → 0 < length room.old → bytes ≡ [])) }
         ensures unread { OnErr result (coming self.new ≡ coming self.old) }
         ensures sent { sent self.new ≡ sent self.old }
         ensures cause { HasCause (read_faults self.old) (read_faults self.new) result }
         ensures write_faults { write_faults self.new ≡ write_faults self.old }
-        ensures sound { (more : ℕ) → HasRoom self.old more → (IsOk result) × (HasRoom self.new more) };
+        ensures sound { (more : ℕ) → HasRoom self.old more → (IsOk result)
+            × (HasRoom self.new more) };
 
     /// Sends some bytes of the piece from its front and answers how many, at least one of a piece that isn't
     /// empty.
@@ -52,13 +54,15 @@ pub trait Link {
 
 /// Sends the whole text, or a prefix of it at a fault.
 pub fn send_all<K: Link>(link: &mut K, text: &[u8]) -> Result<(), Failed>
-    ensures ok { OnOk result (IfSome (K.sent link.old) (λ before. K.sent link.new ≡ Some (before ++ text.now))) }
+    ensures ok { OnOk result (IfSome (K.sent link.old) (λ before.
+        K.sent link.new ≡ Some (before ++ text.now))) }
     ensures prefix { OnErr result (IfSome (K.sent link.old) (λ before.
         (n : ℕ) × (n ≤ length text.now) × (K.sent link.new ≡ Some (before ++ take n text.now)))) }
     ensures coming { K.coming link.new ≡ K.coming link.old }
     ensures cause { HasCause (K.write_faults link.old) (K.write_faults link.new) result }
     ensures read_faults { K.read_faults link.new ≡ K.read_faults link.old }
-    ensures sound { (more : ℕ) → K.HasRoom link.old (length text.now + more) → (IsOk result) × (K.HasRoom link.new more) }
+    ensures sound { (more : ℕ) → K.HasRoom link.old (length text.now + more) → (IsOk result)
+        × (K.HasRoom link.new more) }
 {
     let mut at = 0;
     while at < text.len() {
@@ -66,43 +70,4 @@ pub fn send_all<K: Link>(link: &mut K, text: &[u8]) -> Result<(), Failed>
         at += link.write(rest)?;
     }
     Ok(())
-}
-
-#[cfg(test)]
-mod tests {
-    use super::*;
-    use crate::mem_link::MemLink;
-    use std::test::Fail;
-
-    #[test]
-    fn a_link_gives_and_sends_bytes(rt: HostRuntime) -> Result<(), Fail> {
-        let mut link = MemLink::new(rt.alloc(), b"abcde", 4, &[])?;
-        let mut room = [0u8; 3];
-        assert_eq!(rt; link.read(&mut room)?, 3);
-        assert_eq!(rt; &room[..3], b"abc".as_slice());
-        assert_eq!(rt; link.read(&mut room)?, 2);
-        assert_eq!(rt; &room[..2], b"de".as_slice());
-        assert_eq!(rt; link.read(&mut room)?, 0);
-        assert!(rt; send_all(&mut link, b"xyz").is_ok());
-        assert!(rt; send_all(&mut link, b"uv").is_err(), "past the room");
-        assert_eq!(rt; link.as_slice(), b"xyz".as_slice());
-        Ok(())
-    }
-
-    #[test]
-    fn a_link_in_cuts_gives_a_few_bytes_a_read(rt: HostRuntime) -> Result<(), Fail> {
-        let mut link = MemLink::in_cuts(rt.alloc(), b"abc", 9, &[2, 5], 2)?;
-        let mut room = [0u8; 8];
-        assert_eq!(rt; link.read(&mut room)?, 2);
-        assert!(rt; link.read(&mut room).is_err(), "the second call is to fail");
-        assert_eq!(rt; link.read(&mut room)?, 1);
-        assert_eq!(rt; &room[..1], b"c".as_slice());
-        assert!(rt; send_all(&mut link, b"xy").is_ok());
-        assert!(rt;
-            send_all(&mut link, b"z").is_err(),
-            "the fifth call is to fail"
-        );
-        assert_eq!(rt; link.as_slice(), b"xy".as_slice());
-        Ok(())
-    }
 }

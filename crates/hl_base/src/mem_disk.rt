@@ -76,9 +76,12 @@ impl MemDisk {
     /// reads. It has the same room, no record and no calls that are to fail.
     pub fn stopped(&self, alloc: Global, call: u64, bytes: u64) -> Result<MemDisk, Memory>
         requires { 0 < call }
-        ensures fresh { IfOk result (λ disk. IsFreshDisk disk (stopped_text_of self.now.log self.now.surface.text call bytes) self.now.surface.room None []) }
+        ensures fresh { IfOk result (λ disk.
+            IsFreshDisk disk (stopped_text_of self.now.log self.now.surface.text call bytes)
+            self.now.surface.room None []) }
         // This disk tells of such a crash, at each moment before that call's end.
-        ensures told { IfOk result (λ disk. (moment : ℕ) → moment < call → ⟦<MemDisk as Disk>⟧.left_since self.now moment disk.surface.text) }
+        ensures told { IfOk result (λ disk. (moment : ℕ) → moment < call
+            → ⟦<MemDisk as Disk>⟧.left_since self.now moment disk.surface.text) }
     {
         let room = self.surface.room();
         let surface = match &self.log {
@@ -106,7 +109,8 @@ impl MemDisk {
 
     // Counts a fault.
     fn refuse(&mut self) -> Failed
-        requires { (room : ℕ) → unfailing_room self.old.log self.old.fails.items self.old.surface.room ≡ Some room → room < self.old.reach }
+        requires { (room : ℕ) → unfailing_room self.old.log self.old.fails.items
+            self.old.surface.room ≡ Some room → room < self.old.reach }
         ensures { Refuses self.old self.new }
     {
         enter(&mut self.log, Call::Still, &[]);
@@ -191,51 +195,5 @@ impl Disk for MemDisk {
 
     fn faults(&self) -> u64 {
         self.faults
-    }
-}
-
-#[cfg(test)]
-mod tests {
-    use super::*;
-    use std::test::Fail;
-
-    #[test]
-    fn a_disk_keeps_writes_within_its_room(rt: HostRuntime) -> Result<(), Fail> {
-        let mut disk = MemDisk::new(rt.alloc(), b"abc", 6, None, &[3])?;
-        disk.write_at(4, b"ef")?;
-        let mut room = [0u8; 8];
-        assert_eq!(rt; disk.read(1, &mut room)?, 5);
-        assert_eq!(rt; &room[..5], b"bc\0ef".as_slice());
-        assert!(rt; disk.len().is_err(), "the third call is to fail");
-        assert!(rt; disk.write_at(5, b"gh").is_err(), "past the room");
-        disk.cut(2)?;
-        disk.sync()?;
-        assert_eq!(rt; disk.len()?, 2);
-        assert_eq!(rt; disk.faults(), 2);
-        assert_eq!(rt; disk.calls(), 7);
-        Ok(())
-    }
-
-    #[test]
-    fn a_crash_leaves_a_front_of_a_write(rt: HostRuntime) -> Result<(), Fail> {
-        let mut disk = MemDisk::new(rt.alloc(), b"abc", 9, Some((3, 6)), &[])?;
-        disk.write_at(2, b"xyz")?;
-        disk.cut(1)?;
-        disk.write_at(1, b"pqr")?;
-        assert!(rt; disk.sync().is_err(), "its record is full");
-        for (call, bytes, text) in [
-            (1, 0, b"abc".as_slice()),
-            (1, 2, b"abxy".as_slice()),
-            (2, 9, b"abxyz".as_slice()),
-            (3, 2, b"apq".as_slice()),
-            (4, 0, b"apqr".as_slice()),
-        ] {
-            let mut left = disk.stopped(rt.alloc(), call, bytes)?;
-            let mut room = [0u8; 9];
-            let count = left.read(0, &mut room)?;
-            assert_eq!(rt; count, text.len());
-            assert_eq!(rt; &room[..count], text, "call {call}, {bytes} bytes");
-        }
-        Ok(())
     }
 }

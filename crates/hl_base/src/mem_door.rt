@@ -28,7 +28,8 @@ pub struct MemDoor {
 impl MemDoor {
     /// A door to which these connections come, with the room for each of them to come back, which is taken now.
     pub fn new(alloc: Global, links: List<MemLink>, fails: &[u64]) -> Result<MemDoor, Memory>
-        ensures coming { IfOk result (λ door. ⟦<MemDoor as Door>⟧.coming door ≡ Some (map uncounted links)) }
+        ensures coming { IfOk result (λ door.
+            ⟦<MemDoor as Door>⟧.coming door ≡ Some (map uncounted links)) }
         ensures given { IfOk result (λ door. ⟦<MemDoor as Door>⟧.given door ≡ Some []) }
         ensures faults { IfOk result (λ door. ⟦<MemDoor as Door>⟧.faults door ≡ 0) }
         ensures sound { IfOk result (λ door. fails.now ≡ [] → ⟦<MemDoor as Door>⟧.IsSound door) }
@@ -97,42 +98,5 @@ impl Door for MemDoor {
         if self.back.len() < self.given.len() {
             let _ = self.back.push(link);
         }
-    }
-}
-
-#[cfg(test)]
-mod tests {
-    use super::*;
-    use crate::link::{Link, send_all};
-    use std::test::Fail;
-
-    /// The link that a door answers.
-    fn came(door: &mut MemDoor) -> Result<MemLink, Fail> {
-        match door.next() {
-            Knock::Link(link) => Ok(link),
-            Knock::End => Err("the end")?,
-            Knock::Failed => Err("a failed call")?,
-        }
-    }
-
-    #[test]
-    fn a_door_hands_out_links_and_takes_them_back(rt: HostRuntime) -> Result<(), Fail> {
-        let mut links = Vec::new(rt.alloc());
-        links.push(MemLink::new(rt.alloc(), b"ab", 4, &[])?)?;
-        links.push(MemLink::new(rt.alloc(), b"c", 4, &[])?)?;
-        let mut door = MemDoor::new(rt.alloc(), List::from_vec(links), &[2])?;
-        let mut first = came(&mut door)?;
-        assert!(rt; send_all(&mut first, b"xy").is_ok());
-        door.give_back(first);
-        assert!(rt; matches!(&door.next(), Knock::Failed), "the second call");
-        let mut second = came(&mut door)?;
-        let mut room = [0u8; 4];
-        assert_eq!(rt; second.read(&mut room)?, 1);
-        door.give_back(second);
-        assert!(rt; matches!(&door.next(), Knock::End));
-        assert_eq!(rt; door.faults(), 1);
-        assert_eq!(rt; door.back().len(), 2);
-        assert_eq!(rt; door.back()[0].as_slice(), b"xy".as_slice());
-        Ok(())
     }
 }

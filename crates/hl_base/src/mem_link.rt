@@ -31,7 +31,8 @@ impl MemLink {
         ensures sent { IfOk result (λ link. ⟦<MemLink as Link>⟧.sent link ≡ Some []) }
         ensures read_faults { IfOk result (λ link. ⟦<MemLink as Link>⟧.read_faults link ≡ 0) }
         ensures write_faults { IfOk result (λ link. ⟦<MemLink as Link>⟧.write_faults link ≡ 0) }
-        ensures sound { IfOk result (λ link. fails.now ≡ [] → (n : ℕ) → n ≤ room → ⟦<MemLink as Link>⟧.HasRoom link n) }
+        ensures sound { IfOk result (λ link. fails.now ≡ [] → (n : ℕ) → n ≤ room
+            → ⟦<MemLink as Link>⟧.HasRoom link n) }
     {
         MemLink::in_cuts(alloc, coming, room, fails, usize::MAX)
     }
@@ -49,7 +50,8 @@ impl MemLink {
         ensures sent { IfOk result (λ link. ⟦<MemLink as Link>⟧.sent link ≡ Some []) }
         ensures read_faults { IfOk result (λ link. ⟦<MemLink as Link>⟧.read_faults link ≡ 0) }
         ensures write_faults { IfOk result (λ link. ⟦<MemLink as Link>⟧.write_faults link ≡ 0) }
-        ensures sound { IfOk result (λ link. fails.now ≡ [] → (n : ℕ) → n ≤ room → ⟦<MemLink as Link>⟧.HasRoom link n) }
+        ensures sound { IfOk result (λ link. fails.now ≡ [] → (n : ℕ) → n ≤ room
+            → ⟦<MemLink as Link>⟧.HasRoom link n) }
     {
         Ok(MemLink {
             coming: Vec::from_slice(alloc, coming)?,

@@ -50,13 +50,19 @@ impl MemShelf {
         fails: &[u64],
         disk_fails: &[u64],
     ) -> Result<MemShelf, Memory>
-        ensures files { IfOk result (λ shelf. (name : List ℕ) → ⟦<MemShelf as Shelf>⟧.file shelf name ≡ bytes_of name files) }
-        ensures tells { IfOk result (λ shelf. ⟦<MemShelf as Shelf>⟧.tells shelf ≡ tells_of log disk_fails.now room) }
-        ensures rest { IfOk result (λ shelf. (name c : List ℕ) → ⟦<MemShelf as Shelf>⟧.may_leave shelf name c → IfSome (bytes_of name files) (λ bytes. c ≡ bytes)) }
+        ensures files { IfOk result (λ shelf. (name : List ℕ)
+            → ⟦<MemShelf as Shelf>⟧.file shelf name ≡ bytes_of name files) }
+        ensures tells { IfOk result (λ shelf.
+            ⟦<MemShelf as Shelf>⟧.tells shelf ≡ tells_of log disk_fails.now room) }
+        ensures rest { IfOk result (λ shelf. (name c : List ℕ)
+            → ⟦<MemShelf as Shelf>⟧.may_leave shelf name c
+            → IfSome (bytes_of name files) (λ bytes. c ≡ bytes)) }
         ensures faults { IfOk result (λ shelf. ⟦<MemShelf as Shelf>⟧.faults shelf ≡ 0) }
         ensures disk_faults { IfOk result (λ shelf. ⟦<MemShelf as Shelf>⟧.disk_faults shelf ≡ 0) }
-        ensures last_failed { IfOk result (λ shelf. ⟦<MemShelf as Shelf>⟧.last_failed shelf ≡ None) }
-        ensures sound { IfOk result (λ shelf. fails.now ≡ [] → ⟦<MemShelf as Shelf>⟧.IsSound shelf) }
+        ensures last_failed { IfOk result (λ shelf.
+            ⟦<MemShelf as Shelf>⟧.last_failed shelf ≡ None) }
+        ensures sound { IfOk result (λ shelf. fails.now ≡ []
+            → ⟦<MemShelf as Shelf>⟧.IsSound shelf) }
     {
         Ok(MemShelf {
             files: files.into_vec(),
@@ -74,7 +80,8 @@ impl MemShelf {
 
     /// The disk that was given back last under a name.
     pub fn disk(&self, name: &[u8]) -> Option<&MemDisk>
-        ensures some { IfSome result (λ disk. ⟦<MemShelf as Shelf>⟧.file self.now name.now ≡ ⟦<MemDisk as Disk>⟧.seen disk.now) }
+        ensures some { IfSome result (λ disk.
+            ⟦<MemShelf as Shelf>⟧.file self.now name.now ≡ ⟦<MemDisk as Disk>⟧.seen disk.now) }
         ensures none { IfNone result (disk_of name.now self.now.places.items ≡ None) }
     {
         disk_under(&self.places, name)
@@ -96,9 +103,11 @@ impl MemShelf {
 
     // Counts a call, and fails it if it is one of those that are to fail.
     fn begin(&mut self, alloc: Global, name: &Text) -> Result<(), ShelfFault>
-        ensures same { (calls faults : ℕ) × (last : Option (List ℕ)) × (self.new ≡ record self.old { calls = calls; faults = faults; last_failed = last }) }
+        ensures same { (calls faults : ℕ) × (last : Option (List ℕ))
+            × (self.new ≡ record self.old { calls = calls; faults = faults; last_failed = last }) }
         ensures cause { IfErr result (λ e. shelf_cause e ≡ None) }
-        ensures blame { HasBlame self.old.faults self.new.faults self.old.last_failed self.new.last_failed name.now result }
+        ensures blame { HasBlame self.old.faults self.new.faults self.old.last_failed
+            self.new.last_failed name.now result }
         ensures some { result ≡ Err ShelfFault.Failed → 0 < length self.old.fails.items }
     {
         self.calls = self.calls.saturating_add(1);
@@ -113,8 +122,12 @@ impl MemShelf {
 
     // The bytes under a name.
     fn bytes(&self, name: &[u8]) -> Option<&[u8]>
-        ensures some { IfSome result (λ bytes. text_of (disk_of name.now self.now.places.items) (bytes_of name.now self.now.files.items) ≡ Some bytes.now) }
-        ensures none { IfNone result (text_of (disk_of name.now self.now.places.items) (bytes_of name.now self.now.files.items) ≡ None) }
+        ensures some { IfSome result (λ bytes.
+            text_of (disk_of name.now self.now.places.items)
+            (bytes_of name.now self.now.files.items) ≡ Some bytes.now) }
+        ensures none { IfNone result
+            (text_of (disk_of name.now self.now.places.items)
+            (bytes_of name.now self.now.files.items) ≡ None) }
     {
         match disk_under(&self.places, name) {
             Some(disk) => Some(disk.as_slice()),
@@ -124,7 +137,9 @@ impl MemShelf {
 
     // A new disk that reads as these bytes.
     fn disk_over(&self, alloc: Global, bytes: &[u8]) -> Result<MemDisk, ShelfFault>
-        ensures made { IfOk result (λ disk. IsFreshDisk disk bytes.now (max self.now.room (length bytes.now)) self.now.log self.now.disk_fails.items) }
+        ensures made { IfOk result (λ disk.
+            IsFreshDisk disk bytes.now (max self.now.room (length bytes.now)) self.now.log
+            self.now.disk_fails.items) }
         ensures err { IfErr result (λ e. e ≡ ShelfFault.Memory) }
     {
         let room = self.room.max(bytes.len() as u64);
@@ -258,81 +273,5 @@ fn put_back(places: &mut [Place], name: &[u8], disk: MemDisk)
 {
     if let Some(i) = place_number(places, name) {
         places[i].disk = Some(disk);
-    }
-}
-
-#[cfg(test)]
-mod tests {
-    use super::*;
-    use std::test::Fail;
-
-    /// A shelf with the files `a` and `b`.
-    fn shelf(alloc: Global, fails: &[u64], disk_fails: &[u64]) -> Result<MemShelf, Memory> {
-        let first = (Text::copied(alloc, "a")?, Bytes::copied(alloc, b"abc")?);
-        let second = (Text::copied(alloc, "b")?, Bytes::copied(alloc, b"xy")?);
-        let mut files = Vec::new(alloc);
-        files.push(first)?;
-        files.push(second)?;
-        MemShelf::new(
-            alloc,
-            List::from_vec(files),
-            8,
-            Some((9, 9)),
-            fails,
-            disk_fails,
-        )
-    }
-
-    #[test]
-    fn a_shelf_loads_within_the_limit(rt: HostRuntime) -> Result<(), Fail> {
-        let mut shelf = shelf(rt.alloc(), &[4], &[])?;
-        let a = Text::copied(rt.alloc(), "a")?;
-        let c = Text::copied(rt.alloc(), "c")?;
-        let loaded = shelf.load(rt.alloc(), &a, 3).ok().ok_or("load")?;
-        assert_eq!(rt; loaded.as_slice(), b"abc".as_slice());
-        let long = shelf.load(rt.alloc(), &a, 2).err();
-        assert_eq!(rt; long, Some(ShelfFault::TooLong { limit: 2, seen: 3 }));
-        let absent = shelf.load(rt.alloc(), &c, 9).err();
-        assert_eq!(rt; absent, Some(ShelfFault::Absent));
-        assert_eq!(rt; shelf.faults(), 0);
-        let failed = shelf.load(rt.alloc(), &a, 3).err();
-        assert_eq!(rt; failed, Some(ShelfFault::Failed));
-        assert_eq!(rt; shelf.faults(), 1);
-        assert!(rt; shelf.load(rt.alloc(), &a, 3).is_ok());
-        Ok(())
-    }
-
-    #[test]
-    fn a_disk_that_comes_back_is_the_file(rt: HostRuntime) -> Result<(), Fail> {
-        let mut shelf = shelf(rt.alloc(), &[3], &[3])?;
-        let b = Text::copied(rt.alloc(), "b")?;
-        let c = Text::copied(rt.alloc(), "c")?;
-        let absent = shelf.take(rt.alloc(), &c, false).err();
-        assert_eq!(rt; absent, Some(ShelfFault::Absent));
-        let mut made = shelf.take(rt.alloc(), &c, true).ok().ok_or("take")?;
-        made.write_at(0, b"new")?;
-        assert!(rt;
-            shelf.take(rt.alloc(), &b, false).is_err(),
-            "the third call is to fail"
-        );
-        let mut taken = shelf.take(rt.alloc(), &b, true).ok().ok_or("take")?;
-        taken.write_at(1, b"z!")?;
-        taken.sync()?;
-        assert!(rt; taken.len().is_err(), "the third call is to fail");
-        shelf.give_back(&c, made);
-        assert_eq!(rt; shelf.disk_faults(), 0);
-        shelf.give_back(&b, taken);
-        assert_eq!(rt; shelf.disk_faults(), 1);
-        let first = shelf.load(rt.alloc(), &b, 9).ok().ok_or("load")?;
-        assert_eq!(rt; first.as_slice(), b"xz!".as_slice());
-        let second = shelf.load(rt.alloc(), &c, 9).ok().ok_or("load")?;
-        assert_eq!(rt; second.as_slice(), b"new".as_slice());
-        let back = shelf.disk(b"b").ok_or("back")?;
-        assert_eq!(rt; back.calls(), 3);
-        assert!(rt; shelf.disk(b"a").is_none(), "it wasn't taken");
-        let again = shelf.take(rt.alloc(), &b, false).ok().ok_or("take")?;
-        assert_eq!(rt; again.as_slice(), b"xz!".as_slice());
-        assert_eq!(rt; again.calls(), 0);
-        Ok(())
     }
 }

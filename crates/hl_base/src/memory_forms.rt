@@ -21,7 +21,8 @@ impl MemSource {
     pub fn new(alloc: Global, text: &[u8], fails: &[u64]) -> Result<MemSource, Memory>
         ensures left { IfOk result (λ source. ⟦<MemSource as Source>⟧.left source ≡ Some text.now) }
         ensures faults { IfOk result (λ source. ⟦<MemSource as Source>⟧.faults source ≡ 0) }
-        ensures sound { IfOk result (λ source. fails.now ≡ [] → ⟦<MemSource as Source>⟧.IsSound source) }
+        ensures sound { IfOk result (λ source. fails.now ≡ []
+            → ⟦<MemSource as Source>⟧.IsSound source) }
     {
         Ok(MemSource {
             text: Vec::from_slice(alloc, text)?,
@@ -72,7 +73,8 @@ impl MemSink {
     pub fn new(alloc: Global, room: u64, fails: &[u64]) -> Result<MemSink, Memory>
         ensures written { IfOk result (λ sink. ⟦<MemSink as Sink>⟧.written sink ≡ Some []) }
         ensures faults { IfOk result (λ sink. ⟦<MemSink as Sink>⟧.faults sink ≡ 0) }
-        ensures sound { IfOk result (λ sink. fails.now ≡ [] → (n : ℕ) → n ≤ room → ⟦<MemSink as Sink>⟧.HasRoom sink n) }
+        ensures sound { IfOk result (λ sink. fails.now ≡ [] → (n : ℕ) → n ≤ room
+            → ⟦<MemSink as Sink>⟧.HasRoom sink n) }
     {
         Ok(MemSink {
             text: Vec::with_capacity(alloc, room as usize)?,

@@ -19,7 +19,8 @@ pub trait Source {
     fn read(&mut self, room: &mut [u8]) -> Result<usize, Failed>
         ensures within { IfOk result (λ count. count ≤ length room.old) }
         ensures told { IfOk result (λ count. IfSome (left self.old) (λ bytes.
-            (count ≤ length bytes) × (take count room.new ≡ take count bytes) × (left self.new ≡ Some (drop count bytes)))) }
+            (count ≤ length bytes) × (take count room.new ≡ take count bytes)
+            × (left self.new ≡ Some (drop count bytes)))) }
         ensures end { IfOk result (λ count. IfSome (left self.old) (λ bytes.
             count ≡ 0 → 0 < length room.old → bytes ≡ [])) }
         ensures rose { OnErr result (Rose (faults self.old) (faults self.new)) }

@@ -72,7 +72,8 @@ impl Surface {
 fn overwrite(buffer: &mut [u8], len: usize, at: usize, piece: &[u8])
     requires inside { len ≤ length buffer.old }
     requires room { at + length piece.now ≤ length buffer.old }
-    ensures { take (max len (at + length piece.now)) buffer.new ≡ overwritten (take len buffer.old) at piece.now }
+    ensures { take (max len (at + length piece.now)) buffer.new
+        ≡ overwritten (take len buffer.old) at piece.now }
 {
     fill_hole(buffer, len, at);
     put(buffer, at, piece);
@@ -81,7 +82,8 @@ fn overwrite(buffer: &mut [u8], len: usize, at: usize, piece: &[u8])
 // Puts bytes at a place.
 pub(crate) fn put(buffer: &mut [u8], at: usize, piece: &[u8])
     requires { at + length piece.now ≤ length buffer.old }
-    ensures { buffer.new ≡ take at buffer.old ++ piece.now ++ drop (at + length piece.now) buffer.old }
+    ensures { buffer.new ≡ take at buffer.old ++ piece.now
+        ++ drop (at + length piece.now) buffer.old }
 {
     buffer[at..at + piece.len()].copy_from_slice(piece);
 }

@@ -42,13 +42,15 @@ impl From<Failed> for ReadAllFault {
 
 /// Writes the whole text, or a prefix of it at a fault.
 pub fn write_all<O: Sink>(out: &mut O, text: &[u8]) -> Result<(), Failed>
-    ensures ok { OnOk result (IfSome (O.written out.old) (λ before. O.written out.new ≡ Some (before ++ text.now))) }
+    ensures ok { OnOk result (IfSome (O.written out.old) (λ before.
+        O.written out.new ≡ Some (before ++ text.now))) }
     ensures prefix { OnErr result (IfSome (O.written out.old) (λ before.
         (n : ℕ) × (n ≤ length text.now) × (O.written out.new ≡ Some (before ++ take n text.now)))) }
     ensures rose { OnErr result (Rose (O.faults out.old) (O.faults out.new)) }
     ensures counted { O.faults out.old ≤ O.faults out.new }
     ensures steady { OnOk result (O.faults out.new ≡ O.faults out.old) }
-    ensures sound { (more : ℕ) → O.HasRoom out.old (length text.now + more) → (IsOk result) × (O.HasRoom out.new more) }
+    ensures sound { (more : ℕ) → O.HasRoom out.old (length text.now + more) → (IsOk result)
+        × (O.HasRoom out.new more) }
 {
     let mut at = 0;
     while at < text.len() {
@@ -65,15 +67,19 @@ const ROOM: usize = 65536;
 pub fn read_all<J: Source>(alloc: Global, source: &mut J, limit: u64) -> Result<Bytes, ReadAllFault>
     requires { limit < 2 ^ 64 - 1 }
     // All was read.
-    ensures all { IfOk result (λ bytes. IfSome (J.left source.old) (λ told. (bytes ≡ told) × (J.left source.new ≡ Some []))) }
+    ensures all { IfOk result (λ bytes.
+        IfSome (J.left source.old) (λ told. (bytes ≡ told) × (J.left source.new ≡ Some []))) }
     ensures bound { IfOk result (λ bytes. length bytes ≤ limit) }
     // More than the limit came.
-    ensures too_long { IfErr result (λ e. IfTooLong e (λ told_limit seen. (told_limit ≡ limit) × (seen ≡ limit + 1)
+    ensures too_long { IfErr result (λ e.
+        IfTooLong e (λ told_limit seen. (told_limit ≡ limit) × (seen ≡ limit + 1)
         × IfSome (J.left source.old) (λ told. limit < length told))) }
-    ensures rose { IsErrOf result ReadAllFault.ReadFault → Rose (J.faults source.old) (J.faults source.new) }
+    ensures rose { IsErrOf result ReadAllFault.ReadFault
+        → Rose (J.faults source.old) (J.faults source.new) }
     ensures counted { J.faults source.old ≤ J.faults source.new }
     ensures steady { OnOk result (J.faults source.new ≡ J.faults source.old) }
-    ensures sound { J.IsSound source.old → (result ≢ Err ReadAllFault.ReadFault) × J.IsSound source.new }
+    ensures sound { J.IsSound source.old → (result ≢ Err ReadAllFault.ReadFault)
+        × J.IsSound source.new }
 {
     let mut room = zeros(alloc, ROOM)?;
     let mut bytes = Vec::new(alloc);
@@ -107,15 +113,18 @@ fn read_more<J: Source>(
     requires room { 0 < length room.old }
     requires below { vec_len bytes.old < most }
     ensures read { OnOk result (IfSome (J.left source.old) (λ left. (n : ℕ) × (n ≤ length left)
-        × (bytes.new.items ≡ bytes.old.items ++ take n left) × (J.left source.new ≡ Some (drop n left))
+        × (bytes.new.items ≡ bytes.old.items ++ take n left)
+        × (J.left source.new ≡ Some (drop n left))
         × (n ≡ 0 → left ≡ []))) }
     ensures longer { vec_len bytes.old ≤ vec_len bytes.new }
     ensures bound { vec_len bytes.new ≤ most }
     ensures not_long { IfErr result (λ e. IfTooLong e (λ limit seen. ⊥)) }
-    ensures rose { IsErrOf result ReadAllFault.ReadFault → Rose (J.faults source.old) (J.faults source.new) }
+    ensures rose { IsErrOf result ReadAllFault.ReadFault
+        → Rose (J.faults source.old) (J.faults source.new) }
     ensures counted { J.faults source.old ≤ J.faults source.new }
     ensures steady { OnOk result (J.faults source.new ≡ J.faults source.old) }
-    ensures sound { J.IsSound source.old → (result ≢ Err ReadAllFault.ReadFault) × J.IsSound source.new }
+    ensures sound { J.IsSound source.old → (result ≢ Err ReadAllFault.ReadFault)
+        × J.IsSound source.new }
 {
     let wanted = room.len().min((most - bytes.len() as u64) as usize);
     let front = &mut room[..wanted];
@@ -123,34 +132,4 @@ fn read_more<J: Source>(
     let (read, _) = front.split_at(count);
     bytes.extend_from_slice(read)?;
     Ok(())
-}
-
-#[cfg(test)]
-mod tests {
-    use super::*;
-    use crate::memory_forms::{MemSink, MemSource};
-    use std::test::Fail;
-
-    #[test]
-    fn reads_and_writes_all_or_a_prefix(rt: HostRuntime) -> Result<(), Fail> {
-        let mut source = MemSource::new(rt.alloc(), b"abc", &[])?;
-        assert_eq!(rt;
-            read_all(rt.alloc(), &mut source, 3)
-                .ok()
-                .ok_or("read")?
-                .as_slice(),
-            b"abc".as_slice()
-        );
-        let mut long = MemSource::new(rt.alloc(), b"abcd", &[])?;
-        let seen = read_all(rt.alloc(), &mut long, 3).err();
-        assert_eq!(rt; seen, Some(ReadAllFault::TooLong { limit: 3, seen: 4 }));
-        let mut failing = MemSource::new(rt.alloc(), b"abc", &[2])?;
-        let failed = read_all(rt.alloc(), &mut failing, 3).err();
-        assert_eq!(rt; failed, Some(ReadAllFault::ReadFault));
-        let mut sink = MemSink::new(rt.alloc(), 4, &[])?;
-        assert!(rt; write_all(&mut sink, b"abcd").is_ok());
-        assert!(rt; write_all(&mut sink, b"e").is_err(), "past the room");
-        assert_eq!(rt; sink.as_slice(), b"abcd".as_slice());
-        Ok(())
-    }
 }
