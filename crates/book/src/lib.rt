@@ -5,6 +5,7 @@
 pub mod account;
 pub mod amount;
 pub mod boxed;
+pub mod copies;
 pub mod directive;
 pub mod fault;
 mod fault_line;
@@ -23,6 +24,10 @@ pub mod transaction;
 pub use account::compare_accounts;
 pub use amount::{Amount, Assertion, Cost, Written};
 pub use boxed::Boxed;
+pub use copies::{
+    copied_amount, copied_amounts, copied_cost, copied_costs, copied_head, copied_posting,
+    copied_postings, copied_tags, copied_txn, copied_txns,
+};
 pub use directive::{Directive, Price};
 pub use fault::{Cause, Fault};
 pub use fault_line::print_fault;

@@ -23,7 +23,8 @@ pub(crate) fn note_amount(
     symbol: &Text,
     amount: &Amount,
 ) -> Result<(), Memory>
-    ensures ok { OnOk result (table.new ≡ noted number table.old (symbol.now, (written_as amount.now).1)) }
+    ensures ok { OnOk result (table.new
+        ≡ noted number table.old (symbol.now, (written_as amount.now).1)) }
     ensures others { IsSameBut number table.old table.new }
 {
     let style = Style {
@@ -40,7 +41,8 @@ fn note_present(
     number: u64,
     amount: &Option<Amount>,
 ) -> Result<(), Memory>
-    ensures ok { OnOk result (table.new ≡ noted_all number table.old (map written_as (option_to_list amount.now))) }
+    ensures ok { OnOk result (table.new
+        ≡ noted_all number table.old (map written_as (option_to_list amount.now))) }
     ensures others { IsSameBut number table.old table.new }
 {
     match amount {
@@ -127,7 +129,8 @@ pub(crate) fn note_amounts(
     number: u64,
     postings: &[Posting],
 ) -> Result<(), Memory>
-    ensures ok { OnOk result (table.new ≡ noted_all number table.old (flat_map amount_style postings.now)) }
+    ensures ok { OnOk result (table.new
+        ≡ noted_all number table.old (flat_map amount_style postings.now)) }
     ensures others { IsSameBut number table.old table.new }
 {
     for posting in postings {
@@ -143,7 +146,8 @@ pub(crate) fn note_all_further(
     number: u64,
     postings: &[Posting],
 ) -> Result<(), Memory>
-    ensures ok { OnOk result (table.new ≡ noted_all number table.old (flat_map further_styles postings.now)) }
+    ensures ok { OnOk result (table.new
+        ≡ noted_all number table.old (flat_map further_styles postings.now)) }
     ensures others { IsSameBut number table.old table.new }
 {
     for posting in postings {
@@ -159,7 +163,8 @@ pub(crate) fn note_auto(
     number: u64,
     postings: &[RulePosting],
 ) -> Result<(), Memory>
-    ensures ok { OnOk result (table.new ≡ noted_all number table.old (flat_map (λ p. rule_styles p.posting) postings.now)) }
+    ensures ok { OnOk result (table.new ≡ noted_all number table.old (flat_map (λ p.
+        rule_styles p.posting) postings.now)) }
     ensures others { IsSameBut number table.old table.new }
 {
     for posting in postings {
@@ -175,7 +180,8 @@ pub(crate) fn note_periodic(
     number: u64,
     postings: &[Posting],
 ) -> Result<(), Memory>
-    ensures ok { OnOk result (table.new ≡ noted_all number table.old (flat_map rule_styles postings.now)) }
+    ensures ok { OnOk result (table.new
+        ≡ noted_all number table.old (flat_map rule_styles postings.now)) }
     ensures others { IsSameBut number table.old table.new }
 {
     for posting in postings {

@@ -76,7 +76,8 @@ fn push_gap(text: &mut String, is_spaced: bool) -> Result<(), Memory>
 
 /// Puts a symbol, in double quotes where it can't stand without.
 fn push_symbol(text: &mut String, symbol: &str) -> Result<(), Memory>
-    ensures { OnOk result (string_bytes text.new ≡ string_bytes text.old ++ printed_symbol symbol.now) }
+    ensures { OnOk result (string_bytes text.new ≡ string_bytes text.old
+        ++ printed_symbol symbol.now) }
 {
     if is_plain_word(symbol) {
         text.push_str(symbol)?;

@@ -65,7 +65,8 @@ impl Styles {
     /// The styles of a text's items, each under its place, counted from 0.
     pub fn of(alloc: Global, items: &[Placed]) -> Result<Styles, Memory>
         ensures numbered { IfOk result (AreOf (places_from 0 items.now)) }
-        ensures styles { IfOk result (λ styles. (symbol : List ℕ) → style_in styles symbol ≡ style_of items.now symbol) }
+        ensures styles { IfOk result (λ styles. (symbol : List ℕ)
+            → style_in styles symbol ≡ style_of items.now symbol) }
     {
         let mut styles = Styles::new(alloc);
         for (number, placed) in items.iter().enumerate() {
@@ -76,9 +77,13 @@ impl Styles {
 
     /// Adds an item under a number under which none stands. After an error the styles are those of the items before.
     pub fn add_item(&mut self, alloc: Global, number: u64, item: &Item) -> Result<(), Memory>
-        ensures ok { OnOk result ((standing : Numbered Item) → AreOf standing self.old → IsTrue (is_free number standing) → AreOf (with_number number item.now standing) self.new) }
-        ensures err { OnErr result ((standing : Numbered Item) → AreOf standing self.old → IsTrue (is_free number standing) → AreOf standing self.new) }
-        ensures same { OnErr result ((standing : Numbered Item) → AreOf standing self.old → IsTrue (is_free number standing)
+        ensures ok { OnOk result ((standing : Numbered Item) → AreOf standing self.old
+            → IsTrue (is_free number standing)
+            → AreOf (with_number number item.now standing) self.new) }
+        ensures err { OnErr result ((standing : Numbered Item) → AreOf standing self.old
+            → IsTrue (is_free number standing) → AreOf standing self.new) }
+        ensures same { OnErr result ((standing : Numbered Item) → AreOf standing self.old
+            → IsTrue (is_free number standing)
             → (symbol : List ℕ) → style_in self.new symbol ≡ style_in self.old symbol) }
     {
         match note_item(self, alloc, number, item) {
@@ -92,7 +97,8 @@ impl Styles {
 
     /// Takes away the item under a number, which takes no memory.
     pub fn remove_item(&mut self, number: u64)
-        ensures { (standing : Numbered Item) → AreOf standing self.old → AreOf (without_number number standing) self.new }
+        ensures { (standing : Numbered Item) → AreOf standing self.old
+            → AreOf (without_number number standing) self.new }
     {
         forget_item(self, number);
     }
@@ -115,7 +121,8 @@ impl Styles {
     pub fn style(&self, symbol: &Text) -> Style
         ensures value { result ≡ style_in self.now symbol.now }
         // Of whichever items these styles are, it is the style of the symbol in them.
-        ensures defined { (standing : Numbered Item) → AreOf standing self.now → result ≡ style_standing standing symbol.now }
+        ensures defined { (standing : Numbered Item) → AreOf standing self.now
+            → result ≡ style_standing standing symbol.now }
         ensures places { result.places ≤ 36 }
     {
         if let Some(style) = self.commodities.last(symbol) {
@@ -178,7 +185,8 @@ fn note_directive(
     number: u64,
     directive: &Directive,
 ) -> Result<(), Memory>
-    ensures ok { OnOk result (styles.new ≡ after_item number styles.old (kinds.Directive directive.now)) }
+    ensures ok { OnOk result (styles.new
+        ≡ after_item number styles.old (kinds.Directive directive.now)) }
     ensures others { AreSameBut number styles.old styles.new }
 {
     match directive {

@@ -1,5 +1,5 @@
 //! Sums of accounts over the postings of a book, as they are asked for.
-ghost use Rattle.std.specs.Prelude.{◌≡◌, List};
+ghost use Rattle.std.specs.Prelude.{◌≡◌, ◌≤◌, ◌+◌, ℕ, Bool, List};
 ghost use Rattle.std.specs.Option.{option_map};
 ghost use Rattle.hl_num.specs.Decimal.{units_of};
 ghost use Rattle.book.specs.SumsBefore.{Place, start_of, sum_before, other_before, OnlyAsked};
@@ -25,8 +25,11 @@ pub trait DaySums {
         below: bool,
         steps: &mut Steps<L>,
     ) -> Dec
-        ensures sum { units_of result ≡ sum_before (txns self.now) account.now symbol.now below (start_of end) }
-        ensures steps { OnlyAsked steps.old steps.new };
+        ensures sum { units_of result
+            ≡ sum_before (txns self.now) account.now symbol.now below (start_of end) }
+        ensures steps { OnlyAsked steps.old steps.new }
+        // As many nodes as an index of days has levels.
+        ensures few { steps.new.nodes ≤ steps.old.nodes + 22 };
 }
 
 /// Tells sums of a book just before one transaction.
@@ -37,6 +40,12 @@ pub trait Sums {
     /// The place before the transaction's first posting.
     ghost place: { Self → Place };
 
+    /// How many nodes of an index the sum of an account in a symbol asks at most, with its subaccounts or without.
+    ghost asks: { Self → List ℕ → List ℕ → Bool → ℕ };
+
+    /// How many nodes the search for another symbol asks at most.
+    ghost asks_other: { Self → List ℕ → List ℕ → Bool → ℕ };
+
     /// The plain sum of an account in a symbol over all postings before the transaction; with `below` those of its
     /// subaccounts count too.
     fn before<L: Ledger>(
@@ -46,8 +55,11 @@ pub trait Sums {
         below: bool,
         steps: &mut Steps<L>,
     ) -> Dec
-        ensures sum { units_of result ≡ sum_before (txns self.now) account.now symbol.now below (place self.now) }
-        ensures steps { OnlyAsked steps.old steps.new };
+        ensures sum { units_of result
+            ≡ sum_before (txns self.now) account.now symbol.now below (place self.now) }
+        ensures steps { OnlyAsked steps.old steps.new }
+        ensures few { steps.new.nodes ≤ steps.old.nodes
+            + asks self.now account.now symbol.now below };
 
     /// The least other symbol in which that sum isn't zero.
     fn other<L: Ledger>(
@@ -57,6 +69,10 @@ pub trait Sums {
         below: bool,
         steps: &mut Steps<L>,
     ) -> Option<&Text>
-        ensures symbol { option_map (λ other. other.now) result ≡ other_before (txns self.now) account.now symbol.now below (place self.now) }
-        ensures steps { OnlyAsked steps.old steps.new };
+        ensures symbol { option_map (λ other.
+            other.now) result
+            ≡ other_before (txns self.now) account.now symbol.now below (place self.now) }
+        ensures steps { OnlyAsked steps.old steps.new }
+        ensures few { steps.new.nodes ≤ steps.old.nodes
+            + asks_other self.now account.now symbol.now below };
 }

@@ -109,7 +109,8 @@ fn put_at(
     requires rising { IsRising entries.old.items }
     requires place { IsPlace entries.old.items symbol.now at }
     requires few { style.places ≤ 36 }
-    ensures ok { OnOk result (entries.new.items ≡ noted number entries.old.items (symbol.now, style)) }
+    ensures ok { OnOk result (entries.new.items
+        ≡ noted number entries.old.items (symbol.now, style)) }
     ensures err { OnErr result (entries.new.items ≡ entries.old.items) }
 {
     entries[at].1.put(number, style)
@@ -126,7 +127,8 @@ fn put_new(
 ) -> Result<(), Memory>
     requires gap { IsGap (slice_cmp nat_cmp) entries.old.items symbol.now at }
     requires few { style.places ≤ 36 }
-    ensures ok { OnOk result (entries.new.items ≡ noted number entries.old.items (symbol.now, style)) }
+    ensures ok { OnOk result (entries.new.items
+        ≡ noted number entries.old.items (symbol.now, style)) }
     ensures err { OnErr result (entries.new.items ≡ entries.old.items) }
 {
     let mut marks = Marks::new(alloc);
