@@ -45,7 +45,8 @@ impl Balances {
 /// The balances before any posting, of all that the assertions of some transactions ask for.
 pub fn asked(alloc: Global, txns: &[Txn]) -> Result<Balances, Memory>
     ensures fresh { IfOk result (λ balances. IsBalance [] balances.own balances.below) }
-    ensures asked { IfOk result (λ balances. are_asked balances.own balances.below txns.now ≡ true) }
+    ensures asked { IfOk result (λ balances.
+        are_asked balances.own balances.below txns.now ≡ true) }
 {
     let mut balances = Balances::new(alloc);
     for txn in txns {
@@ -57,7 +58,8 @@ pub fn asked(alloc: Global, txns: &[Txn]) -> Result<Balances, Memory>
 /// The balances before any posting, of all that the assertions of some postings ask for.
 pub fn asked_by(alloc: Global, postings: &[Posting]) -> Result<Balances, Memory>
     ensures fresh { IfOk result (λ balances. IsBalance [] balances.own balances.below) }
-    ensures asked { IfOk result (λ balances. list_all (is_asked balances.own balances.below) postings.now ≡ true) }
+    ensures asked { IfOk result (λ balances.
+        list_all (is_asked balances.own balances.below) postings.now ≡ true) }
 {
     let mut balances = Balances::new(alloc);
     ask_each(alloc, &mut balances, postings)?;
@@ -66,9 +68,12 @@ pub fn asked_by(alloc: Global, postings: &[Posting]) -> Result<Balances, Memory>
 
 /// Asks for all that the assertions of some postings ask for.
 fn ask_each(alloc: Global, balances: &mut Balances, postings: &[Posting]) -> Result<(), Memory>
-    ensures fresh { OnOk result (IsBalance [] balances.old.own balances.old.below → IsBalance [] balances.new.own balances.new.below) }
-    ensures asked { OnOk result (list_all (is_asked balances.new.own balances.new.below) postings.now ≡ true) }
-    ensures stays { OnOk result (Stays balances.old.own balances.old.below balances.new.own balances.new.below) }
+    ensures fresh { OnOk result (IsBalance [] balances.old.own balances.old.below
+        → IsBalance [] balances.new.own balances.new.below) }
+    ensures asked { OnOk result (list_all (is_asked balances.new.own balances.new.below)
+        postings.now ≡ true) }
+    ensures stays { OnOk result (Stays balances.old.own balances.old.below balances.new.own
+        balances.new.below) }
 {
     for posting in postings {
         ask(alloc, balances, posting)?;
@@ -78,9 +83,11 @@ fn ask_each(alloc: Global, balances: &mut Balances, postings: &[Posting]) -> Res
 
 /// Asks for what the assertion of a posting asks for, if it has one.
 fn ask(alloc: Global, balances: &mut Balances, posting: &Posting) -> Result<(), Memory>
-    ensures fresh { OnOk result (IsBalance [] balances.old.own balances.old.below → IsBalance [] balances.new.own balances.new.below) }
+    ensures fresh { OnOk result (IsBalance [] balances.old.own balances.old.below
+        → IsBalance [] balances.new.own balances.new.below) }
     ensures asked { OnOk result (is_asked balances.new.own balances.new.below posting.now ≡ true) }
-    ensures stays { OnOk result (Stays balances.old.own balances.old.below balances.new.own balances.new.below) }
+    ensures stays { OnOk result (Stays balances.old.own balances.old.below balances.new.own
+        balances.new.below) }
 {
     let account = posting.account.as_bytes();
     match &posting.wanted {
@@ -101,11 +108,13 @@ pub fn add_posting(
     balances: &mut Balances,
     posting: &Posting,
 ) -> Result<(), TallyFault>
-    ensures ok { OnOk result ((seen : List Posting) → IsBalance seen balances.old.own balances.old.below
+    ensures ok { OnOk result ((seen : List Posting)
+        → IsBalance seen balances.old.own balances.old.below
         → IsBalance (seen ++ posting.now ∷ []) balances.new.own balances.new.below) }
     ensures own { OnOk result (balances.new.own.1 ≡ balances.old.own.1) }
     ensures below { OnOk result (balances.new.below.1 ≡ balances.old.below.1) }
-    ensures range { IfErr result (λ e. IsRange e → (seen : List Posting) → IsBalance seen balances.old.own balances.old.below
+    ensures range { IfErr result (λ e. IsRange e → (seen : List Posting)
+        → IsBalance seen balances.old.own balances.old.below
         → turnover_fits (moved (seen ++ posting.now ∷ [])) ≡ false) }
 {
     match &posting.amount {
@@ -133,8 +142,10 @@ fn add_above(
     ensures ok { OnOk result ((values : List ℕ → List Value) → IsKept values below.old
         → IsKept (and_under values account.now (symbol.now, value)) below.new) }
     ensures places { OnOk result (below.new.1 ≡ below.old.1) }
-    ensures range { IfErr result (λ e. IsRange e → (values : List ℕ → List Value) → IsKept values below.old
-        → (root : List ℕ) × (lies_under account.now root ≡ true) × (turnover_fits (values root ++ (symbol.now, value) ∷ []) ≡ false)) }
+    ensures range { IfErr result (λ e. IsRange e → (values : List ℕ → List Value)
+        → IsKept values below.old
+        → (root : List ℕ) × (lies_under account.now root ≡ true)
+        × (turnover_fits (values root ++ (symbol.now, value) ∷ []) ≡ false)) }
 {
     if below.is_empty() {
         return Ok(());

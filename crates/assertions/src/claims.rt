@@ -10,9 +10,9 @@ ghost use Rattle.assertions.specs.Claims.{IsClaimed};
 
 use crate::balances::{Balances, add_posting};
 use crate::totals::Totals;
-use book::{Amount, Assertion, Boxed, Cause, Fault, Posting};
+use book::{Assertion, Boxed, Cause, Fault, Posting, copied_amount};
 use entry_balance::{TallyFault, plain_amount};
-use hl_base::{Memory, Text};
+use hl_base::Memory;
 use hl_num::Dec;
 use std::alloc::Global;
 use std::cmp::Ordering;
@@ -123,16 +123,4 @@ pub fn failed(
         line,
         cause: Cause::AssertionFailed { wanted, found },
     }))
-}
-
-/// A copy of an amount.
-pub fn copied_amount(alloc: Global, amount: &Amount) -> Result<Amount, Memory>
-    ensures { IfOk result (λ copy. copy ≡ amount.now) }
-{
-    let symbol = Text::copied(alloc, amount.symbol.as_str())?;
-    Ok(Amount {
-        symbol,
-        value: amount.value,
-        shape: amount.shape,
-    })
 }

@@ -58,7 +58,8 @@ impl Kept {
     pub fn ask(&mut self, alloc: Global, name: &[u8]) -> Result<(), Memory>
         ensures fresh { OnOk result (IsKept no_values self.old → IsKept no_values self.new) }
         ensures keeps { OnOk result (keeps name.now self.new ≡ true) }
-        ensures stays { OnOk result ((a : List ℕ) → keeps a self.old ≡ true → keeps a self.new ≡ true) }
+        ensures stays { OnOk result ((a : List ℕ) → keeps a self.old ≡ true
+            → keeps a self.new ≡ true) }
     {
         if place_of(&self.places, name).is_some() {
             return Ok(());
@@ -80,7 +81,8 @@ impl Kept {
         ensures ok { OnOk result ((values : List ℕ → List Value) → IsKept values self.old
             → IsKept (and_at values name.now (symbol.now, value)) self.new) }
         ensures places { OnOk result (self.new.1 ≡ self.old.1) }
-        ensures range { IfErr result (λ e. IsRange e → (values : List ℕ → List Value) → IsKept values self.old
+        ensures range { IfErr result (λ e. IsRange e → (values : List ℕ → List Value)
+            → IsKept values self.old
             → turnover_fits (values name.now ++ (symbol.now, value) ∷ []) ≡ false) }
     {
         match place_of(&self.places, name) {
@@ -91,7 +93,8 @@ impl Kept {
 
     /// The sums of an account.
     pub fn totals(&self, name: &[u8]) -> Option<&Totals>
-        ensures { (values : List ℕ → List Value) → IsKept values self.now → keeps name.now self.now ≡ true
+        ensures { (values : List ℕ → List Value) → IsKept values self.now
+            → keeps name.now self.now ≡ true
             → IsSomeAnd result (λ totals. totals.now ≡ sums_of (values name.now)) }
     {
         match place_of(&self.places, name) {
@@ -139,7 +142,8 @@ fn put_place(
     name: &[u8],
     place: usize,
 ) -> Result<(), Memory>
-    ensures { OnOk result (places_in places.new.entries ≡ put (slice_cmp nat_cmp) name.now place (places_in places.old.entries)) }
+    ensures { OnOk result (places_in places.new.entries
+        ≡ put (slice_cmp nat_cmp) name.now place (places_in places.old.entries)) }
 {
     let copy = copied_name(alloc, name)?;
     put_copy(places, copy, place)
@@ -150,7 +154,8 @@ fn put_copy(
     copy: Vec<u8>,
     place: usize,
 ) -> Result<(), Memory>
-    ensures { OnOk result (places_in places.new.entries ≡ put (slice_cmp nat_cmp) copy.items place (places_in places.old.entries)) }
+    ensures { OnOk result (places_in places.new.entries
+        ≡ put (slice_cmp nat_cmp) copy.items place (places_in places.old.entries)) }
 {
     places.insert(copy, place)?;
     Ok(())
@@ -164,9 +169,11 @@ fn add_at(
     symbol: &str,
     value: Dec,
 ) -> Result<(), TallyFault>
-    ensures ok { OnOk result ((old : List Value) → place < length totals.old.items → slice_index_or totals.old.items place [] ≡ old
+    ensures ok { OnOk result ((old : List Value) → place < length totals.old.items
+        → slice_index_or totals.old.items place [] ≡ old
         → totals.new.items ≡ slice_set totals.old.items place (added_to old symbol.now value)) }
-    ensures range { IfErr result (λ e. IsRange e → fits_with (held symbol.now (slice_index_or totals.old.items place [])) value ≡ false) }
+    ensures range { IfErr result (λ e. IsRange e
+        → fits_with (held symbol.now (slice_index_or totals.old.items place [])) value ≡ false) }
 {
     if totals.len() <= place {
         return Ok(());

@@ -7,5 +7,5 @@ pub mod kept;
 pub mod totals;
 
 pub use balances::{Balances, add_posting, asked, asked_by};
-pub use claims::{asked_for, claim, copied_amount, failed, is_same};
+pub use claims::{asked_for, claim, failed, is_same};
 pub use totals::{Totals, total_in};

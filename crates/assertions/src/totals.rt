@@ -47,7 +47,8 @@ impl Totals {
     pub fn add(&mut self, alloc: Global, symbol: &str, value: Dec) -> Result<(), TallyFault>
         ensures ok { OnOk result (self.new ≡ added_to self.old symbol.now value) }
         ensures within { OnOk result (are_within self.old ≡ true → are_within self.new ≡ true) }
-        ensures range { IfErr result (λ e. IsRange e → fits_with (held symbol.now self.old) value ≡ false) }
+        ensures range { IfErr result (λ e. IsRange e
+            → fits_with (held symbol.now self.old) value ≡ false) }
     {
         if let Some(sum) = self.sums.get_mut(symbol) {
             return raise(sum, value);
@@ -58,7 +59,8 @@ impl Totals {
 
     /// The sum of a symbol, zero where none was added.
     pub fn total(&self, symbol: &str) -> Dec
-        ensures { (values : List Value) → self.now ≡ sums_of values → result ≡ total_of symbol.now values }
+        ensures { (values : List Value) → self.now ≡ sums_of values
+            → result ≡ total_of symbol.now values }
     {
         match self.held(symbol) {
             Some(sum) => sum,
@@ -75,7 +77,8 @@ impl Totals {
 
     /// The first sum of another symbol that isn't zero.
     pub fn first_other(&self, symbol: &str) -> Option<(&str, Dec)>
-        ensures { option_map (λ sum. (sum.0.now, sum.1)) result ≡ first_of (filter (is_other symbol.now) self.now) }
+        ensures { option_map (λ sum.
+            (sum.0.now, sum.1)) result ≡ first_of (filter (is_other symbol.now) self.now) }
     {
         for (other, sum) in &self.sums {
             if is_other(other, *sum, symbol) {
@@ -110,7 +113,8 @@ fn insert(
     symbol: &str,
     sum: Dec,
 ) -> Result<(), TallyFault>
-    ensures ok { OnOk result (values_in sums.new.entries ≡ put (slice_cmp nat_cmp) symbol.now sum (values_in sums.old.entries)) }
+    ensures ok { OnOk result (values_in sums.new.entries
+        ≡ put (slice_cmp nat_cmp) symbol.now sum (values_in sums.old.entries)) }
     ensures fault { IfErr result (λ e. IsRange e → ⊥) }
 {
     match insert_named(alloc, sums, symbol, sum) {
@@ -126,7 +130,8 @@ fn insert_named(
     symbol: &str,
     sum: Dec,
 ) -> Result<(), Memory>
-    ensures { OnOk result (values_in sums.new.entries ≡ put (slice_cmp nat_cmp) symbol.now sum (values_in sums.old.entries)) }
+    ensures { OnOk result (values_in sums.new.entries
+        ≡ put (slice_cmp nat_cmp) symbol.now sum (values_in sums.old.entries)) }
 {
     let name = String::from_str(alloc, symbol)?;
     sums.insert(name, sum)?;
@@ -135,7 +140,8 @@ fn insert_named(
 
 /// The sum of a symbol among some sums, zero where there are none.
 pub fn total_in(totals: Option<&Totals>, symbol: &str) -> Dec
-    ensures { (values : List Value) → IsSomeAnd totals.entry (λ t. t.now ≡ sums_of values) → result ≡ total_of symbol.now values }
+    ensures { (values : List Value) → IsSomeAnd totals.entry (λ t. t.now ≡ sums_of values)
+        → result ≡ total_of symbol.now values }
 {
     match totals {
         Some(totals) => totals.total(symbol),
