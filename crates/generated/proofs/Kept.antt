@@ -6,11 +6,10 @@ use Rattle.book.specs.declared.amount.Amount.{Amount}
 use Rattle.book.specs.declared.rules.RulePosting.{RulePosting}
 use Rattle.book.specs.declared.transaction.Posting.{Posting}
 use Rattle.book.specs.declared.transaction.Txn.{Txn}
-use Rattle.entry_balance.specs.Entry.{has_assignment, is_assignment}
-use Rattle.balancing.specs.Assigned.{given, given_at, given_from}
-use Rattle.balancing.specs.Groups.{Group, groups_of}
+use Rattle.entry_balance.specs.Entry.{assignment_fault, has_assignment, is_assignable, is_assignment}
+use Rattle.balancing.specs.Assigned.{is_ready}
 use Rattle.balancing.specs.Load.{book_of}
-use Rattle.balancing.specs.Parts.{postings_of_group}
+use Rattle.balancing.proofs.Solving.{load_ready}
 use Rattle.query.specs.Matching.{Own}
 use Rattle.query.specs.Words.{terms_mean}
 use Rattle.rule_entries.specs.Added.{made_posting}
@@ -26,23 +25,17 @@ both : (a b : Bool) → (a && b) ≡ true → (a ≡ true) × (b ≡ true)
 both true b h = (refl, h)
 both false b h = absurd (false≢true h)
 
-given_by : (seen : List Posting) (t : Txn) (b : Bool) → has_assignment t.postings ≡ b → not b ≡ true → given seen t ≡ t
-given_by seen t true e h = absurd (false≢true h)
-given_by seen t false e h = rw e refl
+ready_one : (ps : List Posting) (b : Bool) → has_assignment ps ≡ b → not b ≡ true → not (is_assignable ps) ≡ true
+ready_one ps true e h = absurd (false≢true h)
+ready_one ps false e h = ap (λ (b : Bool). not (b && is_none (assignment_fault ps))) e
 
-kept_at : (seen : List Posting) (n : ℕ) (ts : List Txn) → list_all unassigned ts ≡ true → given_at seen n ts ≡ ts
-kept_at seen n [] h = refl
-kept_at seen zero (t ∷ ts) h = ap (λ (u : Txn). u ∷ ts) (given_by seen t (has_assignment t.postings) refl (both (unassigned t) (list_all unassigned ts) h).0)
-kept_at seen (suc n) (t ∷ ts) h = ap (λ (us : List Txn). t ∷ us) (kept_at seen n ts (both (unassigned t) (list_all unassigned ts) h).1)
-
-kept_from : (ts : List Txn) (seen : List Posting) (gs : List Group) → list_all unassigned ts ≡ true → given_from ts seen gs ≡ ts
-kept_from ts seen [] h = refl
-kept_from ts seen (g ∷ gs) h =
-    ap (λ (us : List Txn). given_from us (seen ++ postings_of_group g.0 (slice_get us g.1)) gs) (kept_at seen g.1 ts h)
-    ∙ kept_from ts (seen ++ postings_of_group g.0 (slice_get ts g.1)) gs h
+all_ready : (ts : List Txn) → list_all unassigned ts ≡ true → (n : ℕ) → is_ready (slice_get ts n) ≡ true
+all_ready [] h n = refl
+all_ready (t ∷ ts) h zero = ready_one t.postings (has_assignment t.postings) refl (both (unassigned t) (list_all unassigned ts) h).0
+all_ready (t ∷ ts) h (suc n) = all_ready ts (both (unassigned t) (list_all unassigned ts) h).1 n
 
 pub kept : (ts : List Txn) → list_all unassigned ts ≡ true → judged ts ≡ book_of ts
-kept ts h = ap book_of (kept_from ts [] (groups_of ts) h)
+kept ts h = load_ready ts (all_ready ts h)
 
 -- ---- what rules add is no assignment
 

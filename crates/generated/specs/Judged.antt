@@ -4,8 +4,7 @@ use Rattle.std.specs.List.{list_all}
 use Rattle.book.specs.declared.fault.Fault.{Fault}
 use Rattle.book.specs.declared.item.Book.{Book}
 use Rattle.book.specs.declared.transaction.Txn.{Txn}
-use Rattle.balancing.specs.Assigned.{assigned}
-use Rattle.balancing.specs.Load.{book_of}
+use Rattle.balancing.specs.Load.{load_txns}
 use Rattle.balancing.specs.declared.fault.CheckFault.{CheckFault}
 use Rattle.balancing.specs.declared.fault.CheckFault.TheVariants as check_fault
 use Rattle.rule_entries.specs.declared.counting.Excess.{Excess}
@@ -16,7 +15,7 @@ use Rattle.generated.specs.declared.fault.GenFault.TheVariants as gen_fault
 -- Transactions are judged as those of a text are: each is balanced and takes its missing amounts, each assertion holds, and
 -- all stays in range; else the fault of the first group that has one. An amount that was assigned before stays.
 abbrev pub judged : List Txn → Result Book Fault
-judged txns = book_of (assigned txns)
+judged txns = load_txns txns
 
 -- each posting of a transaction has its amount
 abbrev pub has_amounts : Txn → Bool

@@ -8,9 +8,8 @@ ghost use Rattle.generated.specs.Remembering.{AreReady};
 
 use crate::asking::{Asker, add_if, count_one, means};
 use crate::remembering::{Accounts, known_at};
-use book::{Posting, Txn};
+use book::{Posting, Txn, copied_head, copied_posting};
 use hl_base::{List, Memory};
-use rule_entries::{copied_posting, copied_txn};
 use std::alloc::Global;
 
 /// How many postings some rules add behind a posting.
@@ -22,7 +21,8 @@ fn count_behind(
 ) -> u64
     requires { AreReady askers.old accounts.now.kept.now }
     ensures count { result
-        ≡ told (length (spec.added (own_in accounts.now.types.now) (all_asked askers.old) txn.now posting.now)) }
+        ≡ told (length
+        (spec.added (own_in accounts.now.types.now) (all_asked askers.old) txn.now posting.now)) }
     ensures ask { AllAsk askers.old askers.new }
 {
     let verdicts = accounts.kept.known(&posting.account);
@@ -40,7 +40,8 @@ fn count_behind(
 fn count_in(askers: &mut [Asker<'_>], accounts: &Accounts<'_>, txn: &Txn) -> u64
     requires { AreReady askers.old accounts.now.kept.now }
     ensures count { result
-        ≡ told (length (spec.added_to (own_in accounts.now.types.now) (all_asked askers.old) txn.now)) }
+        ≡ told (length
+        (spec.added_to (own_in accounts.now.types.now) (all_asked askers.old) txn.now)) }
     ensures ask { AllAsk askers.old askers.new }
 {
     let mut count: u64 = 0;
@@ -54,7 +55,8 @@ fn count_in(askers: &mut [Asker<'_>], accounts: &Accounts<'_>, txn: &Txn) -> u64
 pub(crate) fn count_added(askers: &mut [Asker<'_>], accounts: &Accounts<'_>, txns: &[Txn]) -> u64
     requires { AreReady askers.old accounts.now.kept.now }
     ensures count { result
-        ≡ told (length (spec.all_added (own_in accounts.now.types.now) (all_asked askers.old) txns.now)) }
+        ≡ told (length
+        (spec.all_added (own_in accounts.now.types.now) (all_asked askers.old) txns.now)) }
     ensures ask { AllAsk askers.old askers.new }
 {
     let mut count: u64 = 0;
@@ -107,7 +109,7 @@ fn with_added(
         postings.push(copy)?;
         add_behind(alloc, askers, accounts, txn, posting, &mut postings)?;
     }
-    let made = copied_txn(alloc, txn, List::from_vec(postings))?;
+    let made = copied_head(alloc, txn, List::from_vec(postings))?;
     Ok(made)
 }
 

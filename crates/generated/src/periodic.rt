@@ -10,10 +10,10 @@ ghost use Rattle.rule_entries.specs.Making.{made_by_day};
 
 use crate::fault::{GenFault, too_many};
 use crate::judging::{judged, place_all};
-use book::{Book, Items, Placed, Txn};
+use book::{Book, Items, Placed, Txn, copied_txns};
 use hl_base::Memory;
 use hl_time::Span;
-use rule_entries::{copied_txns, excess_in, made_txns};
+use rule_entries::{excess_in, made_txns};
 use std::alloc::Global;
 
 /// Some transactions, and behind them those that the periodic rules make within a window.

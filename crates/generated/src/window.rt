@@ -48,7 +48,8 @@ fn after_last(txns: &[Txn]) -> Option<u32>
 /// Where a forecast begins that isn't asked to begin on a day.
 fn first_else(given: Period, txns: &[Txn], today: Day) -> u32
     ensures { result
-        ≡ unwrap_or (spec.later_of given.from (option_map spec.day_after (spec.last_day_of txns.now)))
+        ≡ unwrap_or (spec.later_of given.from
+        (option_map spec.day_after (spec.last_day_of txns.now)))
         today.0 }
 {
     later_of(given.from, after_last(txns)).unwrap_or(today.0)

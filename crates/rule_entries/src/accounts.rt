@@ -7,7 +7,8 @@ use std::alloc::Global;
 
 /// What stands before the first `%account` in a name and what stands behind it, if it is there.
 fn around_word(name: &str) -> Option<(&str, &str)>
-    ensures cut { MatchOption result ((matched : List ℕ) → spec.put_after matched 0 name.now ≡ name.now)
+    ensures cut { MatchOption result ((matched : List ℕ)
+        → spec.put_after matched 0 name.now ≡ name.now)
         (λ x. (matched : List ℕ) → spec.put_after matched 0 name.now
         ≡ x.0.now ++ (matched ++ spec.put_after matched 0 x.1.now)) }
     ensures shorter { IfSome result (λ x. length x.1.now < length name.now) }

@@ -3,8 +3,9 @@ ghost use Rattle.std.specs.Prelude.{◌≡◌, Some, false, IfOk};
 ghost use Rattle.entry_balance.specs.Values as values;
 ghost use Rattle.rule_entries.specs.Amounts as spec;
 
-use crate::copies::{copied_amounts, copied_cost, copied_costs};
-use book::{Amount, Boxed, Cost, Factor, Posting, RulePosting};
+use book::{
+    Amount, Boxed, Cost, Factor, Posting, RulePosting, copied_amounts, copied_cost, copied_costs,
+};
 use entry_balance::absolute;
 use hl_base::{Memory, Text};
 use hl_num::Dec;
@@ -107,7 +108,8 @@ fn worth_with_total(
     costed: bool,
 ) -> Result<Worth, Memory>
     ensures { IfOk result (λ worth. worth
-        ≡ spec.worth_with_total by amount.now total.now (spec.times (values.absolute by) total.now.value) costed) }
+        ≡ spec.worth_with_total by amount.now total.now
+        (spec.times (values.absolute by) total.now.value) costed) }
 {
     match times(absolute(by), total.value) {
         Some(value) => {

@@ -183,7 +183,8 @@ fn between(start: Day, interval: Interval, span: Span) -> Occasions
     requires first { 1 ≤ span.from }
     requires some { span.from < span.end }
     requires last { span.end ≤ day_end }
-    ensures seen { spec.days_seen result ≡ filter (spec.lies_in span) (spec.recurring interval start.0) }
+    ensures seen { spec.days_seen result
+        ≡ filter (spec.lies_in span) (spec.recurring interval start.0) }
     ensures days { AreDays result }
 {
     let first = count_to(start, interval, span.from);
@@ -202,7 +203,8 @@ fn recurring(start: u32, interval: Interval, span: Span) -> Occasions
     requires first { 1 ≤ span.from }
     requires some { span.from < span.end }
     requires last { span.end ≤ day_end }
-    ensures seen { spec.days_seen result ≡ filter (spec.lies_in span) (spec.recurring interval start) }
+    ensures seen { spec.days_seen result
+        ≡ filter (spec.lies_in span) (spec.recurring interval start) }
     ensures days { AreDays result }
 {
     if !is_day(start) {

@@ -3,7 +3,6 @@
 
 pub mod accounts;
 pub mod amounts;
-pub mod copies;
 pub mod counting;
 pub mod days;
 pub mod making;
@@ -11,7 +10,6 @@ pub mod postings;
 
 pub use accounts::account_for;
 pub use amounts::{Worth, worth_of};
-pub use copies::{copied_posting, copied_txn, copied_txns};
 pub use counting::{Excess, POSTING_LIMIT, TXN_LIMIT, excess_in, posting_excess};
 pub use days::{Occasions, occasions_in};
 pub use making::made_txns;

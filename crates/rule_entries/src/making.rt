@@ -5,9 +5,8 @@ ghost use Rattle.rule_entries.specs.Making as spec;
 ghost use Rattle.rule_entries.specs.Occurring.{AreDays, days_seen};
 ghost use Rattle.rule_entries.specs.Ordered.{by_day};
 
-use crate::copies::copied_postings;
 use crate::days::{Occasions, occasions_in};
-use book::{Item, Items, Mark, PeriodicRule, Txn};
+use book::{Item, Items, Mark, PeriodicRule, Txn, copied_postings};
 use hl_base::{List, Memory, Text};
 use hl_time::{Day, Span};
 use std::alloc::Global;

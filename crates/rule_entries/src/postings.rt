@@ -4,8 +4,7 @@ ghost use Rattle.rule_entries.specs.Added as spec;
 
 use crate::accounts::account_for;
 use crate::amounts::{Worth, worth_of};
-use crate::copies::copied_tags;
-use book::{Posting, RulePosting};
+use book::{Posting, RulePosting, copied_tags};
 use hl_base::{Memory, Text};
 use std::alloc::Global;
 
