@@ -1,16 +1,24 @@
 -- Sums of two lists of values, and what is wanted less such a sum.
-use Rattle.std.proofs.Common.{◌≡◌, ℕ, pos, ◌+◌, ◌-◌, ◌*◌, ◌^◌, ◌<◌, ◌≤◌, ℤ, ◌+ℤ◌, ◌*ℤ◌, unsigned_abs, true, ◌&&◌, ltb, max, List, [], ◌∷◌, ◌++◌, refl, sym, ap, ◌∙◌, subst, arith}
+use Rattle.std.proofs.Common.{◌≡◌, ℕ, pos, ◌+◌, ◌-◌, ◌*◌, ◌^◌, ◌<◌, ◌≤◌, ℤ, ◌+ℤ◌, ◌*ℤ◌, unsigned_abs, true, false, ◌&&◌, ltb, max, List, [], ◌∷◌, ◌++◌, refl, sym, ap, ◌∙◌, subst, arith}
 use Rattle.std.specs.List.{fold}
+use Rattle.std.proofs.lemmas.Bool.{false≢true}
 use Rattle.std.proofs.lemmas.Bool.Decides.{Decides-ltb}
 use Rattle.std.proofs.lemmas.Int.{unsigned_abs-mul, ints}
-use Rattle.hl_num.specs.Decimal.{Decimal, mantissa_at, add_fits, negated}
+use Rattle.hl_num.specs.Decimal.{Decimal, units_of, mantissa_at, add_fits, negated}
+use Rattle.hl_num.proofs.DecimalLaws.{unsigned_abs-mantissa_at}
 use Rattle.book.specs.declared.amount.Amount.{Amount}
 use Rattle.book.specs.Mixed.{plus}
 use Rattle.entry_balance.specs.Values.{Value}
 use Rattle.entry_balance.specs.Tally.{numbers_of, no_sum, total_of, turnover_fits}
+use Rattle.entry_balance.proofs.Adding.{false-from}
 use Rattle.entry_balance.proofs.Named.{both_true}
 use Rattle.entry_balance.proofs.Turnover.{AllAtMost, magnitude, magnitude-append, mantissa_at-plus, numbers-append, numbers-here, plus_none, nothing, sum-within, sum_places-all, exact-abs, total_within}
-use Rattle.balancing.specs.Giving.{value_after, fits_after}
+use Rattle.balancing.specs.declared.form.Form.{Form}
+use Rattle.balancing.specs.declared.form.Form.TheVariants as form
+use Rattle.balancing.specs.Assigned.{shortened}
+use Rattle.balancing.specs.Entering.{entering}
+use Rattle.balancing.specs.Giving.{fits_after, fits_after_by}
+use Rattle.balancing.proofs.Fewest.{fewest, same_at, trimmed_value}
 
 same-decimal : (a b : Decimal) → a.places ≡ b.places → a.mantissa ≡ b.mantissa → a ≡ b
 same-decimal a b p m = λ i. record { mantissa = m i; places = p i }
@@ -65,7 +73,7 @@ at_most-more p q [] h all = tt
 at_most-more p q (d ∷ ds) h all = (omega (arith, all.0), at_most-more p q ds h all.1)
 
 -- a sum is no more than the magnitudes of what is added
-sum-small : (ds : List Decimal) (q : ℕ) → (fold plus no_sum ds).places ≤ q → unsigned_abs (mantissa_at (fold plus no_sum ds) q) ≤ magnitude q ds
+pub sum-small : (ds : List Decimal) (q : ℕ) → (fold plus no_sum ds).places ≤ q → unsigned_abs (mantissa_at (fold plus no_sum ds) q) ≤ magnitude q ds
 sum-small ds q h =
     let within = sum-within no_sum ds q (omega arith) (at_most-more (fold plus no_sum ds).places q ds h (sum_places-all no_sum ds)) in
     let none = ap unsigned_abs (nothing q) in
@@ -109,24 +117,41 @@ neg-at d q = unsigned_abs-mul (negated d).mantissa (pos (10 ^ (q - d.places))) �
     neg_abs : (z : ℤ) → unsigned_abs (negated (record { mantissa = z; places = 0 })).mantissa ≡ unsigned_abs z
     neg_abs z = omega (arith, ints)
 
--- what is wanted can be told less what is held, where both stay within the bound
-pub difference_fits : (held : List Value) (w : Amount) → fits_after held w ≡ true → add_fits w.value (negated (total_of w.symbol held)) ≡ true
-difference_fits held w fits =
-    let s = w.symbol in
+-- what is wanted can be told less a number that is worth what is held, where both stay within the bound
+less_fits : (s : List ℕ) (held : List Value) (w d : Decimal) → ((q : ℕ) → (total_of s held).places ≤ q → mantissa_at d q ≡ mantissa_at (total_of s held) q) → turnover_fits (held ++ (s, plus w (negated d)) ∷ []) ≡ true → add_fits w (negated d) ≡ true
+less_fits s held w d same fits =
     let total = total_of s held in
-    let v = value_after held w in
+    let v = plus w (negated d) in
     let ds = numbers_of s held in
-    let q = max w.value.places total.places in
+    let p = max w.places d.places in
+    let q = max total.places v.places in
     let here : numbers_of s ((s, v) ∷ []) ≡ v ∷ [] = numbers-here s v [] in
     let numbers : numbers_of s (held ++ (s, v) ∷ []) ≡ ds ++ v ∷ [] = numbers-append s held ((s, v) ∷ []) ∙ ap (λ (es : List Decimal). ds ++ es) here in
     let one : total_of s ((s, v) ∷ []) ≡ v = ap (fold plus no_sum) here ∙ plus_none v in
-    let places : (total_of s (held ++ (s, v) ∷ [])).places ≡ q = ap (λ (d : Decimal). d.places) (total-append s held ((s, v) ∷ []) ∙ ap (plus total) one) ∙ omega arith in
+    let places : (total_of s (held ++ (s, v) ∷ [])).places ≡ q = ap (λ (d : Decimal). d.places) (total-append s held ((s, v) ∷ []) ∙ ap (plus total) one) in
     let all : magnitude q (ds ++ v ∷ []) < 2 ^ 127 = subst (λ (k : ℕ). magnitude k (ds ++ v ∷ []) < 2 ^ 127) places
     (subst (λ (es : List Decimal). magnitude (total_of s (held ++ (s, v) ∷ [])).places es < 2 ^ 127) numbers (magnitude-small s (held ++ (s, v) ∷ []) fits)) in
     let split = magnitude-append q ds (v ∷ []) in
     let of_total = sum-small ds q (omega arith) in
-    let negative = neg-at total q in
-    let own : unsigned_abs (mantissa_at v q) ≡ unsigned_abs (mantissa_at w.value q +ℤ mantissa_at (negated total) q) = ap unsigned_abs (at_own v.mantissa q) in
-    let left = add_left (mantissa_at w.value q) (mantissa_at (negated total) q) in
-    all_small (mantissa_at w.value q) (mantissa_at (negated total) q) (2 ^ 127)
-    (omega (arith, all, split, of_total, negative, own, left)) (omega (arith, all, split, of_total, negative)) (omega (arith, all, split, own))
+    let worth : unsigned_abs (mantissa_at (negated d) q) ≡ unsigned_abs (mantissa_at total q) = neg-at d q ∙ ap unsigned_abs (same q (omega arith)) in
+    let sum : unsigned_abs (mantissa_at v q) ≡ unsigned_abs (mantissa_at w q +ℤ mantissa_at (negated d) q) = ap unsigned_abs (mantissa_at-plus w (negated d) q (omega arith) (omega arith)) in
+    let left = add_left (mantissa_at w q) (mantissa_at (negated d) q) in
+    let of_w = unsigned_abs-mantissa_at w p q (omega arith) in
+    let of_d = unsigned_abs-mantissa_at (negated d) p q (omega arith) in
+    let of_v = unsigned_abs-mantissa_at v p q (omega arith) in
+    let own : unsigned_abs (mantissa_at v p) ≡ unsigned_abs (mantissa_at w p +ℤ mantissa_at (negated d) p) = ap unsigned_abs (at_own v.mantissa p) in
+    all_small (mantissa_at w p) (mantissa_at (negated d) p) (2 ^ 127)
+    (omega (arith, all, split, of_total, worth, sum, left, of_w)) (omega (arith, all, split, of_total, worth, of_d)) (omega (arith, all, split, own, of_v))
+
+-- what is wanted can be told less what is held, where both stay within the bound
+difference_fits : (held : List Value) (w : Amount) → (total_of w.symbol held).places ≤ 36 → fits_after held w ≡ true → add_fits w.value (negated (shortened (total_of w.symbol held))) ≡ true
+difference_fits held w few fits =
+    let total = total_of w.symbol held in
+    less_fits w.symbol held w.value (shortened total) (same_at (shortened total) total (fewest total few) few (trimmed_value (units_of total))) fits
+
+-- it can't, so they don't
+pub difference_range_by : (f : Form) (held : List Value) (w : Amount) (total : Decimal) → total.places ≤ 36 → total ≡ total_of w.symbol held → add_fits w.value (negated (entering f total)) ≡ false → fits_after_by (entering f) held w ≡ false
+difference_range_by form.Shortened held w total few is differs = false-from _ (λ fits. false≢true (sym differs ∙ ap (λ (d : Decimal). add_fits w.value (negated (shortened d))) is
+    ∙ difference_fits held w (subst (λ (d : Decimal). d.places ≤ 36) is few) fits))
+difference_range_by form.Whole held w total few is differs = false-from _ (λ fits. false≢true (sym differs ∙ ap (λ (d : Decimal). add_fits w.value (negated d)) is
+    ∙ less_fits w.symbol held w.value (total_of w.symbol held) (λ q h. refl) fits))

@@ -1,12 +1,14 @@
 -- The error of a load is the fault of the text, and the fault of a text is the error of its load.
-use Rattle.std.proofs.Common.{◌≡◌, ℕ, Bool, true, false, cond, ◌&&◌, ◌||◌, not, List, [], ◌∷◌, ◌++◌, map, filter, Option, Some, None, is_none, Err, refl, sym, ap, ◌∙◌, subst}
+use Rattle.std.proofs.Common.{◌≡◌, ℕ, Bool, true, false, cond, ◌&&◌, ◌||◌, not, List, [], ◌∷◌, ◌++◌, map, filter, Option, Some, None, is_none, Result, Ok, Err, inl, inr, refl, sym, ap, ◌∙◌, subst}
 use Rattle.std.specs.List.{slice_get, AllByRecursion}
 use Rattle.std.specs.Option.{option_map}
 use Rattle.std.proofs.lemmas.List.{append_assoc, append-nil, map-append}
 use Rattle.std.proofs.lemmas.Grind.{flat_map-append}
+use Rattle.hl_num.specs.Decimal.{Decimal}
 use Rattle.book.specs.declared.fault.Fault.{Fault}
 use Rattle.book.specs.declared.transaction.Posting.{Posting}
 use Rattle.book.specs.declared.transaction.Txn.{Txn}
+use Rattle.book.specs.declared.item.Book.{Book}
 use Rattle.book.specs.declared.item.Placed.{Placed}
 use Rattle.book.specs.Postings.{txns_of}
 use Rattle.book.specs.SumsBefore.{placed_from}
@@ -16,10 +18,10 @@ use Rattle.entry_balance.specs.Entry.{settled, moved, moved_by, cause_alone, has
 use Rattle.balancing.specs.Groups.{Group, groups_of}
 use Rattle.balancing.specs.Parts.{postings_of_group}
 use Rattle.assertions.specs.Assertions.{first_failure, or_else_fault}
-use Rattle.balancing.specs.Assigned.{given, assigned}
-use Rattle.balancing.specs.Load.{moved_on, moved_of_group, group_cause, fault_of_group, first_fault, loaded, load}
-use Rattle.balancing.specs.Solves.{are_unmarked, is_allowed, IsAssignedAt}
-use Rattle.balancing.specs.Faults.{placed_through, fault_of, IsMadeIf, AreMadeIf, IsFaultOf}
+use Rattle.balancing.specs.Assigned.{shortened, whole, given_by, assigned_by}
+use Rattle.balancing.specs.Load.{moved_on, moved_of_group, group_cause, fault_of_group, first_fault, loaded, book_of, carries_sum, told_if, told_by, or_told, load_txns, load}
+use Rattle.balancing.specs.Solves.{are_unmarked, is_allowed, IsAssignedAtBy}
+use Rattle.balancing.specs.Faults.{placed_through, fault_of, IsMadeIf, AreMadeIf, IsFaultBy, IsToldIf, IsFaultOf}
 use Rattle.balancing.proofs.SolvingOrders.{all_same}
 use Rattle.balancing.proofs.SolvingWalk.{Entry, walk_of}
 use Rattle.balancing.proofs.SolvingRising.{all_append, all_left, all_right}
@@ -29,7 +31,7 @@ use Rattle.balancing.proofs.SolvingTxn.{given_made, assigned_is_given}
 use Rattle.balancing.proofs.SolvingFixed.{OwnDay, Fixed, given_not, own_groups, fixed_assigned}
 use Rattle.balancing.proofs.SolvingLists.{unmarked_at, found_on, fixed_is_assigned, fixed_alike, AreGiven}
 use Rattle.balancing.proofs.SolvingBook.{none_of, no_cause, group_ok, HasNone, moved_is, walk_names}
-use Rattle.balancing.proofs.Solving.{assigned_front, each_assigned, are, same_groups}
+use Rattle.balancing.proofs.Solving.{assigned_front, each_assigned, are, same_groups, book_solves, solves_book}
 use Rattle.balancing.proofs.FaultingPlaces.{is_through, walk_split}
 use Rattle.balancing.proofs.FaultingGroups.{MadeBoth, made_both, ascends_here, answer_at, walk, walk_order, walk_up, own, through_order, through_names, group_answer}
 
@@ -169,41 +171,42 @@ module _ (written made : List Txn) (kept : AreMadeIf written made) where
 
 -- ---- the load's fault is one
 
-kept_one : (seen : List Posting) (t : Txn) → IsMadeIf (is_allowed t) t (given seen t)
-kept_one seen t =
-    elim (is_allowed t) as (λ b. is_allowed t ≡ b → IsMadeIf b t (given seen t)) [
-      | true ↦ λ e. given_made seen t e
-      | false ↦ λ e. given_not seen t (cannot (has_assignment t.postings) (is_none (assignment_fault t.postings)) e)
-    ] refl
-  where
-    cannot : (h n : Bool) → (not h || n) ≡ false → (h && n) ≡ false
-    cannot true n e = e
-    cannot false n e = refl
+module _ (enter : Decimal → Decimal) where
+  kept_one : (seen : List Posting) (t : Txn) → IsMadeIf (is_allowed t) t (given_by enter seen t)
+  kept_one seen t =
+      elim (is_allowed t) as (λ b. is_allowed t ≡ b → IsMadeIf b t (given_by enter seen t)) [
+        | true ↦ λ e. given_made enter seen t e
+        | false ↦ λ e. given_not enter seen t (cannot (has_assignment t.postings) (is_none (assignment_fault t.postings)) e)
+      ] refl
+    where
+      cannot : (h n : Bool) → (not h || n) ≡ false → (h && n) ≡ false
+      cannot true n e = e
+      cannot false n e = refl
 
-given_kept : (ws ms : List Txn) → AreGiven ws ms → AreMadeIf ws ms
-given_kept [] [] h = tt
-given_kept [] (m ∷ ms) h = absurd h
-given_kept (w ∷ ws) [] h = absurd h
-given_kept (w ∷ ws) (m ∷ ms) h = (subst (IsMadeIf (is_allowed w) w) (sym h.0.1) (kept_one h.0.0 w), given_kept ws ms h.1)
+  given_kept : (ws ms : List Txn) → AreGiven enter ws ms → AreMadeIf ws ms
+  given_kept [] [] h = tt
+  given_kept [] (m ∷ ms) h = absurd h
+  given_kept (w ∷ ws) [] h = absurd h
+  given_kept (w ∷ ws) (m ∷ ms) h = (subst (IsMadeIf (is_allowed w) w) (sym h.0.1) (kept_one h.0.0 w), given_kept ws ms h.1)
 
-kept_assigned : (written : List Txn) → AreMadeIf written (assigned written)
-kept_assigned written = given_kept written (assigned written) (are written)
+  kept_assigned : (written : List Txn) → AreMadeIf written (assigned_by enter written)
+  kept_assigned written = given_kept written (assigned_by enter written) (are enter written)
 
 found_walk : (written made : List Txn) (kept : AreMadeIf written made) (before : List Group) (g : Group) (after : List Group) (order : groups_of written ≡ before ++ g ∷ after) → map (λ (e : Entry). e.1) (walk_of (map settled made) before ++ own written made kept before g after order) ≡ found_on made (before ++ g ∷ [])
 found_walk written made kept before g after order = through_names written made kept before g after order ∙ sym (found_more written made kept before g)
 
-module _ (written : List Txn) (unmarked : are_unmarked written ≡ true) (f : Fault) where
+module _ (enter : Decimal → Decimal) (written : List Txn) (unmarked : are_unmarked written ≡ true) (f : Fault) where
   abbrev final : List Txn
-  final = assigned written
+  final = assigned_by enter written
 
   -- each of those up to a group has the amount that it is assigned at its place
-  assigned_through : (before : List Group) (g : Group) (after : List Group) → groups_of written ≡ before ++ g ∷ after → AllByRecursion (IsAssignedAt (map settled final)) (placed_through (map settled final) g)
+  assigned_through : (before : List Group) (g : Group) (after : List Group) → groups_of written ≡ before ++ g ∷ after → AllByRecursion (IsAssignedAtBy enter (map settled final)) (placed_through (map settled final) g)
   assigned_through before g after order =
-      let kept = kept_assigned written in
-      let each = fixed_is_assigned written unmarked final [] (groups_of written) (own_groups written) (fixed_assigned written) in
-      let all = each_assigned (map settled final) (walk written final kept before g after order) (walk_order written final kept before g after order) (walk_up written final kept before g after order)
-      (subst (λ (ps : List Posting). EachAfter AssignedAfter [] ps) (ap (found_on final) order ∙ sym (walk_names final (before ++ g ∷ after))) each) in
-      still_all (IsAssignedAt (map settled final)) (is_through g) (placed_from 0 (map settled final)) all
+      let kept = kept_assigned enter written in
+      let each = fixed_is_assigned enter written unmarked final [] (groups_of written) (own_groups written) (fixed_assigned enter written) in
+      let all = each_assigned enter (map settled final) (walk written final kept before g after order) (walk_order written final kept before g after order) (walk_up written final kept before g after order)
+      (subst (λ (ps : List Posting). EachAfter (AssignedAfter enter) [] ps) (ap (found_on final) order ∙ sym (walk_names final (before ++ g ∷ after))) each) in
+      still_all (IsAssignedAtBy enter (map settled final)) (is_through g) (placed_from 0 (map settled final)) all
     where
       still_all : (P : Entry → Type 0) (p : Entry → Bool) (xs : List Entry) → AllByRecursion P xs → AllByRecursion P (filter p xs)
       still_all P p [] h = tt
@@ -211,9 +214,9 @@ module _ (written : List Txn) (unmarked : are_unmarked written ≡ true) (f : Fa
           let rest = still_all P p xs h.1 in
           elim (p x) as (λ b. AllByRecursion P (cond b (x ∷ filter p xs) (filter p xs))) [ true ↦ (h.0, rest) | false ↦ rest ]
 
-  told_is : Told final [] (groups_of written) f → IsFaultOf written f
+  told_is : Told final [] (groups_of written) f → IsFaultBy enter written f
   told_is t =
-      let kept = kept_assigned written in
+      let kept = kept_assigned enter written in
       let both = passes_clean written final kept [] t.before (t.group ∷ t.after) t.order tt t.passes in
       record {
         unmarked = unmarked;
@@ -232,12 +235,12 @@ loaded_fault : (txns : List Txn) (o : Option Fault) (f : Fault) → loaded txns 
 loaded_fault txns None f h = absurd (let never : ⊥ = cc in never)
 loaded_fault txns (Some x) f h = let same : x ≡ f = cc in ap Some same
 
--- the error of a load is the fault of its transactions
-pub load_faults : (items : List Placed) (f : Fault) → are_unmarked (txns_of items) ≡ true → load items ≡ Err f → IsFaultOf (txns_of items) f
-load_faults items f unmarked h =
-    let written = txns_of items in
-    let first = loaded_fault (assigned written) (first_fault (assigned written) [] [] (groups_of (assigned written))) f h in
-    told_is written unmarked f (first_told (assigned written) [] (groups_of written) f (ap (first_fault (assigned written) [] []) (sym (same_groups written)) ∙ first))
+module _ (enter : Decimal → Decimal) where
+  -- the error of a book is the fault of its transactions
+  pub book_faults : (written : List Txn) (f : Fault) → are_unmarked written ≡ true → book_of (assigned_by enter written) ≡ Err f → IsFaultBy enter written f
+  book_faults written f unmarked h =
+      let first = loaded_fault (assigned_by enter written) (first_fault (assigned_by enter written) [] [] (groups_of (assigned_by enter written))) f h in
+      told_is enter written unmarked f (first_told (assigned_by enter written) [] (groups_of written) f (ap (first_fault (assigned_by enter written) [] []) (sym (same_groups enter written)) ∙ first))
 
 -- ---- a fault is the load's
 
@@ -250,32 +253,33 @@ parts_after whole P Q f front (e ∷ es) rest is h = (
       (parts_after whole P Q f (front ++ e ∷ []) es rest (is ∙ sym (append_assoc front (e ∷ []) (es ++ rest))) h.1),
 )
 
-module _ (written : List Txn) (unmarked : are_unmarked written ≡ true) where
-  given_one : (b : Bool) (g : Group) (seen : List Posting) (t m : Txn) → is_allowed t ≡ b → slice_get written g.1 ≡ Some t → IsMadeIf b t m → OwnDay written g → EachAfter AssignedAfter seen (postings_of_group g.0 (Some m)) → m ≡ given seen t
-  given_one true g seen t m e at made mine h = assigned_is_given g.0 seen t (unmarked_at written unmarked g.1 t at) (mine t at) m made e h
-  given_one false g seen t m e at same mine h = same ∙ sym (given_not seen t (cannot (has_assignment t.postings) (is_none (assignment_fault t.postings)) e))
+module _ (enter : Decimal → Decimal) (written : List Txn) (unmarked : are_unmarked written ≡ true) where
+  given_one : (b : Bool) (g : Group) (seen : List Posting) (t m : Txn) → is_allowed t ≡ b → slice_get written g.1 ≡ Some t → IsMadeIf b t m → OwnDay written g → EachAfter (AssignedAfter enter) seen (postings_of_group g.0 (Some m)) → m ≡ given_by enter seen t
+  given_one true g seen t m e at made mine h = assigned_is_given enter g.0 seen t (unmarked_at written unmarked g.1 t at) (mine t at) m made e h
+  given_one false g seen t m e at same mine h = same ∙ sym (given_not enter seen t (cannot (has_assignment t.postings) (is_none (assignment_fault t.postings)) e))
     where
       cannot : (h n : Bool) → (not h || n) ≡ false → (h && n) ≡ false
       cannot true n e = e
       cannot false n e = refl
 
-  given_both : (g : Group) (seen : List Posting) (o p : Option Txn) → slice_get written g.1 ≡ o → MadeBoth o p → OwnDay written g → EachAfter AssignedAfter seen (postings_of_group g.0 p) → p ≡ option_map (given seen) o
+  given_both : (g : Group) (seen : List Posting) (o p : Option Txn) → slice_get written g.1 ≡ o → MadeBoth o p → OwnDay written g → EachAfter (AssignedAfter enter) seen (postings_of_group g.0 p) → p ≡ option_map (given_by enter seen) o
   given_both g seen None None at made mine h = refl
   given_both g seen None (Some m) at made mine h = absurd made
   given_both g seen (Some t) None at made mine h = absurd made
   given_both g seen (Some t) (Some m) at made mine h = ap Some (given_one (is_allowed t) g seen t m refl at made mine h)
 
-  fixed_by : (made : List Txn) → AreMadeIf written made → (seen : List Posting) (gs : List Group) → AllByRecursion (OwnDay written) gs → EachAfter AssignedAfter seen (found_on made gs) → Fixed written made seen gs
+  fixed_by : (made : List Txn) → AreMadeIf written made → (seen : List Posting) (gs : List Group) → AllByRecursion (OwnDay written) gs → EachAfter (AssignedAfter enter) seen (found_on made gs) → Fixed enter written made seen gs
   fixed_by made kept seen [] mine h = tt
   fixed_by made kept seen (g ∷ gs) mine h =
       let group = postings_of_group g.0 (slice_get made g.1) in (
-        given_both g seen (slice_get written g.1) (slice_get made g.1) refl (made_both written made kept g.1) mine.0 (each_first AssignedAfter seen group (found_on made gs) h),
-        fixed_by made kept (seen ++ group) gs mine.1 (each_second AssignedAfter seen group (found_on made gs) h),
+        given_both g seen (slice_get written g.1) (slice_get made g.1) refl (made_both written made kept g.1) mine.0 (each_first (AssignedAfter enter) seen group (found_on made gs) h),
+        fixed_by made kept (seen ++ group) gs mine.1 (each_second (AssignedAfter enter) seen group (found_on made gs) h),
       )
 
-fixed_first : (written made : List Txn) (seen : List Posting) (gs hs : List Group) → Fixed written made seen (gs ++ hs) → Fixed written made seen gs
-fixed_first written made seen [] hs h = tt
-fixed_first written made seen (g ∷ gs) hs h = (h.0, fixed_first written made (seen ++ postings_of_group g.0 (slice_get made g.1)) gs hs h.1)
+module _ (enter : Decimal → Decimal) where
+  fixed_first : (written made : List Txn) (seen : List Posting) (gs hs : List Group) → Fixed enter written made seen (gs ++ hs) → Fixed enter written made seen gs
+  fixed_first written made seen [] hs h = tt
+  fixed_first written made seen (g ∷ gs) hs h = (h.0, fixed_first written made (seen ++ postings_of_group g.0 (slice_get made g.1)) gs hs h.1)
 
 module _ (a b : List Txn) where
   abbrev Same : Group → Type 0
@@ -295,34 +299,34 @@ module _ (a b : List Txn) where
   same_found [] same = refl
   same_found (g ∷ gs) same = λ i. postings_of_group g.0 (same.0 i) ++ same_found gs same.1 i
 
-module _ (written : List Txn) (f : Fault) (s : IsFaultOf written f) where
+module _ (enter : Decimal → Decimal) (written : List Txn) (f : Fault) (s : IsFaultBy enter written f) where
   abbrev order_end : groups_of written ≡ (s.before ++ s.group ∷ []) ++ s.after
   order_end = s.order ∙ sym (append_assoc s.before (s.group ∷ []) s.after)
 
   -- up to the group all is made group after group
-  fixed_through : Fixed written s.made [] (s.before ++ s.group ∷ [])
+  fixed_through : Fixed enter written s.made [] (s.before ++ s.group ∷ [])
   fixed_through =
       let book = map settled s.made in
       let whole = walk written s.made s.kept s.before s.group s.after s.order in
       let first = walk_of book s.before in
       let mine = own written s.made s.kept s.before s.group s.after s.order in
       let split = walk_split book s.before s.group s.after (ascends_here written s.made s.before s.group s.after s.order) ∙ sym (append_assoc first mine (walk_of book s.after)) in
-      let there = all_same (IsAssignedAt book) (through_order written s.made s.kept s.before s.group s.after s.order) s.assigned in
-      let each = parts_after whole AssignedAfter (IsAssignedAt book)
-      (assigned_front book whole (walk_order written s.made s.kept s.before s.group s.after s.order) (walk_up written s.made s.kept s.before s.group s.after s.order))
+      let there = all_same (IsAssignedAtBy enter book) (through_order written s.made s.kept s.before s.group s.after s.order) s.assigned in
+      let each = parts_after whole (AssignedAfter enter) (IsAssignedAtBy enter book)
+      (assigned_front enter book whole (walk_order written s.made s.kept s.before s.group s.after s.order) (walk_up written s.made s.kept s.before s.group s.after s.order))
       [] (first ++ mine) (walk_of book s.after) split there in
-      fixed_by written s.unmarked s.made s.kept [] (s.before ++ s.group ∷ [])
+      fixed_by enter written s.unmarked s.made s.kept [] (s.before ++ s.group ∷ [])
       (all_left (OwnDay written) (s.before ++ s.group ∷ []) s.after (subst (AllByRecursion (OwnDay written)) order_end (own_groups written)))
-      (subst (λ (ps : List Posting). EachAfter AssignedAfter [] ps) (found_walk written s.made s.kept s.before s.group s.after s.order) each)
+      (subst (λ (ps : List Posting). EachAfter (AssignedAfter enter) [] ps) (found_walk written s.made s.kept s.before s.group s.after s.order) each)
 
-  alike : AllByRecursion (Same s.made (assigned written)) (s.before ++ s.group ∷ [])
+  alike : AllByRecursion (Same s.made (assigned_by enter written)) (s.before ++ s.group ∷ [])
   alike =
-      fixed_alike written s.made (assigned written) [] (s.before ++ s.group ∷ []) fixed_through
-      (fixed_first written (assigned written) [] (s.before ++ s.group ∷ []) s.after (subst (λ (gs : List Group). Fixed written (assigned written) [] gs) order_end (fixed_assigned written)))
+      fixed_alike enter written s.made (assigned_by enter written) [] (s.before ++ s.group ∷ []) fixed_through
+      (fixed_first enter written (assigned_by enter written) [] (s.before ++ s.group ∷ []) s.after (subst (λ (gs : List Group). Fixed enter written (assigned_by enter written) [] gs) order_end (fixed_assigned enter written)))
 
-  first_is : first_fault (assigned written) [] [] (groups_of (assigned written)) ≡ Some f
+  first_is : first_fault (assigned_by enter written) [] [] (groups_of (assigned_by enter written)) ≡ Some f
   first_is =
-      let final = assigned written in
+      let final = assigned_by enter written in
       let same = all_left (Same s.made final) s.before (s.group ∷ []) alike in
       let last = (all_right (Same s.made final) s.before (s.group ∷ []) alike).0 in
       let both = clean_passes written s.made s.kept [] s.before (s.group ∷ s.after) s.order tt s.sound in
@@ -330,16 +334,48 @@ module _ (written : List Txn) (f : Fault) (s : IsFaultOf written f) where
       let here : answer_at final (found_on final s.before) s.group ≡ Some f =
       ap (λ (ps : List Posting). answer_at final ps s.group) (sym (same_found s.made final s.before same))
       ∙ sym (same_answer s.made final (found_on s.made s.before) s.group last) ∙ told in
-      ap (first_fault final [] []) (same_groups written ∙ s.order)
+      ap (first_fault final [] []) (same_groups enter written ∙ s.order)
       ∙ passed_fault final [] s.before s.group s.after f (same_passes s.made final [] s.before same both.passes) here
+
+module _ (enter : Decimal → Decimal) where
+  -- the fault of some transactions is the error of their book
+  pub faults_book : (written : List Txn) (f : Fault) → IsFaultBy enter written f → book_of (assigned_by enter written) ≡ Err f
+  faults_book written f s = ap (loaded (assigned_by enter written)) (first_is enter written f s)
+
+-- ---- the fault that is told
+
+told_so : (written : List Txn) → are_unmarked written ≡ true → (own f : Fault) (b : Bool) (other : Result Book Fault) → book_of (assigned_by whole written) ≡ other → told_if b own other ≡ f → IsToldIf b written own f
+told_so written unmarked first f false other is same = sym same
+told_so written unmarked first f true (Ok book) is same = inr (book.txns, book_solves whole written book unmarked is, sym same)
+told_so written unmarked first f true (Err g) is same = inl (book_faults whole written f unmarked (is ∙ ap (λ (x : Fault). let r : Result Book Fault = Err x in r) same))
+
+told_for : (written : List Txn) → are_unmarked written ≡ true → (loads other : Result Book Fault) (f : Fault) → book_of (assigned_by shortened written) ≡ loads → book_of (assigned_by whole written) ≡ other → or_told loads other ≡ Err f → IsFaultOf written f
+told_for written unmarked (Ok book) other f is is_other h = absurd (let never : ⊥ = cc in never)
+told_for written unmarked (Err first) other f is is_other h =
+    let same : told_by first other ≡ f = cc in
+    record { own = first; lacks = book_faults shortened written first unmarked is; told = told_so written unmarked first f (carries_sum first.cause) other is_other same }
+
+-- the error of a load is the fault of its transactions
+pub load_faults : (items : List Placed) (f : Fault) → are_unmarked (txns_of items) ≡ true → load items ≡ Err f → IsFaultOf (txns_of items) f
+load_faults items f unmarked h = told_for (txns_of items) unmarked _ _ f refl refl h
+
+as_told : (written : List Txn) (first f : Fault) (b : Bool) → IsToldIf b written first f → told_if b first (book_of (assigned_by whole written)) ≡ f
+as_told written first f false same = sym same
+as_told written first f true (inl s) = ap (told_if true first) (faults_book whole written f s)
+as_told written first f true (inr (book, s, same)) = ap (told_if true first) (solves_book whole written (record { txns = book }) s) ∙ sym same
+
+faults_txns : (written : List Txn) (f : Fault) → IsFaultOf written f → load_txns written ≡ Err f
+faults_txns written f s =
+    ap (λ (r : Result Book Fault). or_told r (book_of (assigned_by whole written))) (faults_book shortened written s.own s.lacks)
+    ∙ ap (λ (x : Fault). let r : Result Book Fault = Err x in r) (as_told written s.own f (carries_sum s.own.cause) s.told)
 
 -- the fault of some transactions is the error of their load
 pub faults_load : (items : List Placed) (f : Fault) → IsFaultOf (txns_of items) f → load items ≡ Err f
-faults_load items f s = ap (loaded (assigned (txns_of items))) (first_is (txns_of items) f s)
+faults_load items f s = faults_txns (txns_of items) f s
 
 -- transactions have at most one fault
 pub one_fault : (written : List Txn) (a b : Fault) → IsFaultOf written a → IsFaultOf written b → a ≡ b
-one_fault written a b s t = let same : Some a ≡ Some b = sym (first_is written a s) ∙ first_is written b t in some_same same
+one_fault written a b s t = error_same a b (sym (faults_txns written a s) ∙ faults_txns written b t)
   where
-    some_same : Some a ≡ Some b → a ≡ b
-    some_same e = cc
+    error_same : (a b : Fault) → (let r : Result Book Fault = Err a in r) ≡ Err b → a ≡ b
+    error_same a b e = cc

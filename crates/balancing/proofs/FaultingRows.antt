@@ -1,5 +1,5 @@
 -- What the fault of a text is, on small texts.
-use Rattle.std.proofs.Common.{◌≡◌, ℕ, ℤ, pos, negsuc, ◌^◌, true, false, List, [], ◌∷◌, Some, refl, codes}
+use Rattle.std.proofs.Common.{◌≡◌, ℕ, ℤ, pos, negsuc, ◌^◌, true, false, List, [], ◌∷◌, Some, Err, refl, codes}
 use Rattle.std.proofs.lemmas.Bool.{false≢true}
 use Rattle.book.specs.declared.amount.Assertion.{Assertion}
 use Rattle.book.specs.declared.fault.Cause.TheVariants.{TwoMissing, NotAllowed, Unbalanced, AssertionFailed, Range}
@@ -10,9 +10,10 @@ use Rattle.book.specs.declared.transaction.Mark.TheVariants.{Unmarked}
 use Rattle.book.specs.Postings.{plain_posting}
 use Rattle.entry_balance.specs.Values.{Value}
 use Rattle.entry_balance.specs.Entry.{plain_amount}
-use Rattle.balancing.specs.Assigned.{assigned_posting}
+use Rattle.balancing.specs.Assigned.{shortened, whole, assigned_posting, assigned_by}
 use Rattle.balancing.specs.Groups.{groups_of}
-use Rattle.balancing.specs.Faults.{is_first, fits_through, fault_of, IsFaultOf}
+use Rattle.balancing.specs.Load.{book_of, load_txns}
+use Rattle.balancing.specs.Faults.{is_first, fits_through, fault_of, IsFaultBy}
 
 abbrev euros : ℤ → Value
 euros m = (codes "EUR", record { mantissa = m; places = 0 })
@@ -49,7 +50,7 @@ not_assigned h = absurd (false≢true h)
 abbrev two_days : List Txn
 two_days = on 1 10 (proved 2 (codes "a") (pos 1) (pos 4) ∷ missing 3 (codes "b") ∷ []) ∷ on 5 5 (proved 6 (codes "a") (pos 2) (pos 9) ∷ missing 7 (codes "b") ∷ []) ∷ []
 
-earlier_day : IsFaultOf two_days (record { line = 6; cause = AssertionFailed (plain_amount (euros (pos 9))) (plain_amount (euros (pos 2))) })
+earlier_day : IsFaultBy whole two_days (record { line = 6; cause = AssertionFailed (plain_amount (euros (pos 9))) (plain_amount (euros (pos 2))) })
 earlier_day = record {
   unmarked = refl;
   made = two_days;
@@ -98,7 +99,7 @@ with_amounts =
     ∷ on 10 4 (assigned_posting (assignment 11 (codes "c") (pos 1)) (euros (pos 99)) ∷ missing 12 (codes "b") ∷ [])
     ∷ []
 
-as_assigned : IsFaultOf after_assigned (record { line = 8; cause = AssertionFailed (plain_amount (euros (pos 7))) (plain_amount (euros (pos 6))) })
+as_assigned : IsFaultBy whole after_assigned (record { line = 8; cause = AssertionFailed (plain_amount (euros (pos 7))) (plain_amount (euros (pos 6))) })
 as_assigned = record {
   unmarked = refl;
   made = with_amounts;
@@ -142,3 +143,33 @@ uneven = on 1 1 (proved 2 (codes "a") (pos 5) (pos 6) ∷ of 3 (codes "b") (negs
 
 sum_before_assertion : fault_of uneven uneven (1, 0) ≡ Some (record { line = 1; cause = Unbalanced (codes "EUR") (record { mantissa = pos 3; places = 0 }) })
 sum_before_assertion = refl
+
+-- ---- the decimals that a fault tells
+
+abbrev cents : ℕ → List ℕ → ℤ → Posting
+cents line account m = record (missing line account) { amount = Some (plain_amount (codes "EUR", record { mantissa = m; places = 2 })) }
+
+-- `a  0.10 EUR` and `b  -0.10 EUR`, and then `a  = 5 EUR` beside `c  -1 EUR`: 0.1 EUR are there in a book, and 0.10 EUR in
+-- the sum that is told
+abbrev before_assigned : Txn
+before_assigned = on 1 1 (cents 2 (codes "a") (pos 10) ∷ cents 3 (codes "b") (negsuc 9) ∷ [])
+
+abbrev beside_one : List Txn
+beside_one = before_assigned ∷ on 5 2 (assignment 6 (codes "a") (pos 5) ∷ of 7 (codes "c") (negsuc 0) ∷ []) ∷ []
+
+in_books : book_of (assigned_by shortened beside_one) ≡ Err (record { line = 5; cause = Unbalanced (codes "EUR") (record { mantissa = pos 39; places = 1 }) })
+in_books = refl
+
+told_unbalanced : load_txns beside_one ≡ Err (record { line = 5; cause = Unbalanced (codes "EUR") (record { mantissa = pos 390; places = 2 }) })
+told_unbalanced = refl
+
+-- the same where `c` has no amount, and `c  0 EUR = 1 EUR` finds what makes up for the assigned amount
+abbrev beside_missing : List Txn
+beside_missing =
+    before_assigned
+    ∷ on 5 2 (assignment 6 (codes "a") (pos 5) ∷ missing 7 (codes "c") ∷ [])
+    ∷ on 9 3 (proved 10 (codes "c") (pos 0) (pos 1) ∷ of 11 (codes "d") (pos 0) ∷ [])
+    ∷ []
+
+told_found : load_txns beside_missing ≡ Err (record { line = 10; cause = AssertionFailed (plain_amount (euros (pos 1))) (plain_amount (codes "EUR", record { mantissa = negsuc 489; places = 2 })) })
+told_found = refl

@@ -1,5 +1,6 @@
 mod Rows
 pub mod Parts
+pub mod Fewest
 pub mod Adding
 pub mod Ordered
 pub mod Turned
@@ -9,6 +10,7 @@ pub mod Whole
 pub mod Balanced
 pub mod Giving
 pub mod Given
+mod Back
 pub mod Ranged
 pub mod Making
 pub mod Passing
@@ -33,6 +35,7 @@ pub mod FaultingWalk
 pub mod FaultingCauses
 pub mod FaultingGroups
 pub mod Faulting
+mod Telling
 mod FaultingRows
 mod Wanting
 mod Singles

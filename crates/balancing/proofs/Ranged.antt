@@ -6,6 +6,7 @@ use Rattle.std.proofs.lemmas.Bool.Decides.{nat_tests}
 use Rattle.std.proofs.lemmas.Grind.{flat_map-append}
 use Rattle.std.proofs.lemmas.List.{append-nil, append_assoc}
 use Rattle.std.proofs.lemmas.List.Sums.{sum_by-cons}
+use Rattle.hl_num.specs.Decimal.{Decimal}
 use Rattle.book.specs.declared.amount.Amount.{Amount}
 use Rattle.book.specs.declared.amount.Assertion.{Assertion}
 use Rattle.book.specs.declared.amount.Cost.{Cost}
@@ -25,9 +26,9 @@ use Rattle.entry_balance.proofs.Turnover.{AllAtMost, magnitude, magnitude-append
 use Rattle.balancing.specs.declared.groups.Part.TheVariants as taken
 use Rattle.balancing.specs.Groups.{day_of}
 use Rattle.balancing.specs.Parts.{is_chosen, is_found, part_on}
-use Rattle.balancing.specs.Assigned.{given, given_posting, given_postings}
+use Rattle.balancing.specs.Assigned.{given_by, given_posting_by, given_postings_by}
 use Rattle.balancing.specs.Load.{group_cause, fault_at, fault_of_group, moved_on}
-use Rattle.balancing.proofs.Given.{assignable_days, assignable_one, given-unassigned, given_here}
+use Rattle.balancing.proofs.Given.{assignable_days, assignable_one, given-unassigned, given_here_by}
 
 -- ---- the order of what is moved
 
@@ -129,14 +130,15 @@ solved_covers all (p ∷ ps) =
 
 -- ---- the days
 
-given_undated : (seen ps : List Posting) → AllByRecursion (λ p. p.day ≡ None) ps → AllByRecursion (λ p. p.day ≡ None) (given_postings seen ps)
-given_undated seen [] h = tt
-given_undated seen (p ∷ ps) h = (by p.amount p.wanted, given_undated (seen ++ given_posting seen p p.amount p.wanted ∷ []) ps h.1)
-  where
-    by : (a : Option Amount) (w : Option Assertion) → (given_posting seen p a w).day ≡ None
-    by (Some a) w = h.0
-    by None None = h.0
-    by None (Some w) = h.0
+module _ (enter : Decimal → Decimal) where
+  given_undated : (seen ps : List Posting) → AllByRecursion (λ p. p.day ≡ None) ps → AllByRecursion (λ p. p.day ≡ None) (given_postings_by enter seen ps)
+  given_undated seen [] h = tt
+  given_undated seen (p ∷ ps) h = (by p.amount p.wanted, given_undated (seen ++ given_posting_by enter seen p p.amount p.wanted ∷ []) ps h.1)
+    where
+      by : (a : Option Amount) (w : Option Assertion) → (given_posting_by enter seen p a w).day ≡ None
+      by (Some a) w = h.0
+      by None None = h.0
+      by None (Some w) = h.0
 
 all-append : (P : Posting → Type 0) (xs ys : List Posting) → AllByRecursion P xs → AllByRecursion P ys → AllByRecursion P (xs ++ ys)
 all-append P [] ys h k = k
@@ -160,40 +162,41 @@ solved_undated all (p ∷ ps) h = all-append (λ p. p.day ≡ None) (solved_post
 
 -- ---- the cause
 
-absent_one : (seen : List Posting) (side : Side) (p : Posting) → is_missing side (given_posting seen p p.amount p.wanted) ≡ is_absent side p
-absent_one seen side p = by p.amount p.wanted refl refl
-  where
-    none_and : (s w : Bool) → (s && false) ≡ ((s && false) && w)
-    none_and true w = refl
-    none_and false w = refl
+module _ (enter : Decimal → Decimal) where
+  absent_one : (seen : List Posting) (side : Side) (p : Posting) → is_missing side (given_posting_by enter seen p p.amount p.wanted) ≡ is_absent side p
+  absent_one seen side p = by p.amount p.wanted refl refl
+    where
+      none_and : (s w : Bool) → (s && false) ≡ ((s && false) && w)
+      none_and true w = refl
+      none_and false w = refl
 
-    all_and : (s : Bool) → (s && true) ≡ ((s && true) && true)
-    all_and true = refl
-    all_and false = refl
+      all_and : (s : Bool) → (s && true) ≡ ((s && true) && true)
+      all_and true = refl
+      all_and false = refl
 
-    no_and : (s : Bool) → (s && false) ≡ ((s && true) && false)
-    no_and true = refl
-    no_and false = refl
+      no_and : (s : Bool) → (s && false) ≡ ((s && true) && false)
+      no_and true = refl
+      no_and false = refl
 
-    by : (a : Option Amount) (w : Option Assertion) → p.amount ≡ a → p.wanted ≡ w → is_missing side (given_posting seen p a w) ≡ is_absent side p
-    by (Some a) w is_a is_w =
-        ap (λ (x : Option Amount). same_side side p.side && is_none x) is_a ∙ none_and (same_side side p.side) (is_none p.wanted)
-        ∙ sym (ap (λ (x : Option Amount). (same_side side p.side && is_none x) && is_none p.wanted) is_a)
-    by None None is_a is_w =
-        ap (λ (x : Option Amount). same_side side p.side && is_none x) is_a ∙ all_and (same_side side p.side)
-        ∙ sym (λ i. (same_side side p.side && is_none (is_a i)) && is_none (is_w i))
-    by None (Some w) is_a is_w = no_and (same_side side p.side) ∙ sym (λ i. (same_side side p.side && is_none (is_a i)) && is_none (is_w i))
+      by : (a : Option Amount) (w : Option Assertion) → p.amount ≡ a → p.wanted ≡ w → is_missing side (given_posting_by enter seen p a w) ≡ is_absent side p
+      by (Some a) w is_a is_w =
+          ap (λ (x : Option Amount). same_side side p.side && is_none x) is_a ∙ none_and (same_side side p.side) (is_none p.wanted)
+          ∙ sym (ap (λ (x : Option Amount). (same_side side p.side && is_none x) && is_none p.wanted) is_a)
+      by None None is_a is_w =
+          ap (λ (x : Option Amount). same_side side p.side && is_none x) is_a ∙ all_and (same_side side p.side)
+          ∙ sym (λ i. (same_side side p.side && is_none (is_a i)) && is_none (is_w i))
+      by None (Some w) is_a is_w = no_and (same_side side p.side) ∙ sym (λ i. (same_side side p.side && is_none (is_a i)) && is_none (is_w i))
 
-absent_all : (seen : List Posting) (side : Side) (ps : List Posting) → missing_count side (given_postings seen ps) ≡ absent_count side ps
-absent_all seen side [] = refl
-absent_all seen side (p ∷ ps) =
-    let q = given_posting seen p p.amount p.wanted in
-    sum_by-cons (λ x. cond (is_missing side x) 1 0) q (given_postings (seen ++ q ∷ []) ps)
-    ∙ (λ i. cond {A = ℕ} (absent_one seen side p i) 1 0 + absent_all (seen ++ q ∷ []) side ps i)
-    ∙ sym (sum_by-cons (λ x. cond (is_absent side x) 1 0) p ps)
+  absent_all : (seen : List Posting) (side : Side) (ps : List Posting) → missing_count side (given_postings_by enter seen ps) ≡ absent_count side ps
+  absent_all seen side [] = refl
+  absent_all seen side (p ∷ ps) =
+      let q = given_posting_by enter seen p p.amount p.wanted in
+      sum_by-cons (λ x. cond (is_missing side x) 1 0) q (given_postings_by enter (seen ++ q ∷ []) ps)
+      ∙ (λ i. cond {A = ℕ} (absent_one seen side p i) 1 0 + absent_all (seen ++ q ∷ []) side ps i)
+      ∙ sym (sum_by-cons (λ x. cond (is_absent side x) 1 0) p ps)
 
-given_two : (seen ps : List Posting) → has_two_missing (given_postings seen ps) ≡ lacks_two ps
-given_two seen ps = λ i. (ltb 1 (absent_all seen Real ps i) || ltb 1 (absent_all seen Balanced ps i)) || ltb 0 (absent_all seen Free ps i)
+  given_two : (seen ps : List Posting) → has_two_missing (given_postings_by enter seen ps) ≡ lacks_two ps
+  given_two seen ps = λ i. (ltb 1 (absent_all seen Real ps i) || ltb 1 (absent_all seen Balanced ps i)) || ltb 0 (absent_all seen Free ps i)
 
 module _ (ps : List Posting) where
   range_rest : (fits : Bool) (sums : List Value) → group_cause false (cond fits (unbalanced_by sums) (Some cause.Range)) ≡ Some cause.Range
@@ -207,17 +210,18 @@ module _ (ps : List Posting) where
       ∙ ap (λ (b : Bool). group_cause false (cond b (Some cause.TwoMissing) (cond (fits_alone ps) (unbalanced_by (unbalanced_sums ps)) (Some cause.Range)))) one
       ∙ range_rest (fits_alone ps) (unbalanced_sums ps)
 
--- the fault of a group whose assignments can't be told
-pub range_fault : (seen : List Posting) (w : Txn) (day : ℕ) → is_assignable w.postings ≡ true → w.day.0 ≡ day → turnover_fits (moved (seen ++ given_postings seen w.postings)) ≡ false → fault_of_group (moved seen) day (Some (given seen w)) ≡ Some (record { line = w.line; cause = cause.Range })
-range_fault seen w day assignable here range =
-    let made = given_postings seen w.postings in
-    let t = with_postings w made in
-    let undated = solved_undated made made (given_undated seen w.postings (assignable_days w.postings assignable)) in
-    let covers : Covers (moved seen ++ moved_on day (settled t)) (moved (seen ++ made)) =
-    subst (Covers (moved seen ++ moved_on day (settled t))) (sym (flat_map-append moved_by seen made))
-    (covers_both (moved seen) (moved seen) (moved made) (moved_on day (settled t)) (covers_same (moved seen))
-    (covers_through (moved_on day (settled t)) (moved (solved made)) (moved made) (on_covers day (settled t) here undated) (solved_covers made made))) in
-    let not_fits : turnover_fits (moved seen ++ moved_on day (settled t)) ≡ false = false-from _ (λ fits. false≢true (sym range ∙ covered-fits (moved seen ++ moved_on day (settled t)) (moved (seen ++ made)) covers fits)) in
-    ap (λ (x : Txn). fault_of_group (moved seen) day (Some x)) (given_here seen w assignable)
-    ∙ ap (λ (b : Bool). fault_at w.line (group_cause b (cause_alone made))) not_fits
-    ∙ ap (fault_at w.line) (range_cause made (given-unassigned seen w.postings) (given_two seen w.postings ∙ assignable_one w.postings assignable))
+module _ (enter : Decimal → Decimal) where
+  -- the fault of a group whose assignments can't be told
+  pub range_fault : (seen : List Posting) (w : Txn) (day : ℕ) → is_assignable w.postings ≡ true → w.day.0 ≡ day → turnover_fits (moved (seen ++ given_postings_by enter seen w.postings)) ≡ false → fault_of_group (moved seen) day (Some (given_by enter seen w)) ≡ Some (record { line = w.line; cause = cause.Range })
+  range_fault seen w day assignable here range =
+      let made = given_postings_by enter seen w.postings in
+      let t = with_postings w made in
+      let undated = solved_undated made made (given_undated enter seen w.postings (assignable_days w.postings assignable)) in
+      let covers : Covers (moved seen ++ moved_on day (settled t)) (moved (seen ++ made)) =
+      subst (Covers (moved seen ++ moved_on day (settled t))) (sym (flat_map-append moved_by seen made))
+      (covers_both (moved seen) (moved seen) (moved made) (moved_on day (settled t)) (covers_same (moved seen))
+      (covers_through (moved_on day (settled t)) (moved (solved made)) (moved made) (on_covers day (settled t) here undated) (solved_covers made made))) in
+      let not_fits : turnover_fits (moved seen ++ moved_on day (settled t)) ≡ false = false-from _ (λ fits. false≢true (sym range ∙ covered-fits (moved seen ++ moved_on day (settled t)) (moved (seen ++ made)) covers fits)) in
+      ap (λ (x : Txn). fault_of_group (moved seen) day (Some x)) (given_here_by enter seen w assignable)
+      ∙ ap (λ (b : Bool). fault_at w.line (group_cause b (cause_alone made))) not_fits
+      ∙ ap (fault_at w.line) (range_cause made (given-unassigned enter seen w.postings) (given_two enter seen w.postings ∙ assignable_one w.postings assignable))

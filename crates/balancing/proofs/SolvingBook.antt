@@ -6,6 +6,7 @@ use Rattle.std.specs.Option.{option_map}
 use Rattle.std.proofs.lemmas.Bool.{false≢true}
 use Rattle.std.proofs.lemmas.List.{append_assoc, append-nil, map-append}
 use Rattle.std.proofs.lemmas.Grind.{flat_map-append}
+use Rattle.hl_num.specs.Decimal.{Decimal}
 use Rattle.hl_time.specs.declared.day.Day.{Day}
 use Rattle.book.specs.declared.amount.Amount.{Amount}
 use Rattle.book.specs.declared.amount.Assertion.{Assertion}
@@ -24,7 +25,7 @@ use Rattle.entry_balance.proofs.Turnover.{fits-first}
 use Rattle.balancing.specs.Groups.{Group, group_cmp, groups_by, groups_from, groups_of, day_of}
 use Rattle.assertions.specs.Assertions.{is_same, is_other, first_of, found_instead, failure_at, failure_of, first_failure, or_else_fault, held_in}
 use Rattle.balancing.specs.Parts.{postings_of_group}
-use Rattle.balancing.specs.Assigned.{given, given_postings}
+use Rattle.balancing.specs.Assigned.{given_by, given_postings_by}
 use Rattle.balancing.specs.Load.{moved_on, moved_of_group, group_cause, fault_at, fault_of_group, first_fault}
 use Rattle.balancing.specs.Solves.{is_allowed, Holds, HoldsIf, AreMade, AreMadeTxns}
 use Rattle.balancing.proofs.SolvingRising.{all_append, all_by}
@@ -264,24 +265,25 @@ pub all_with_none : (ms : List Txn) (gs : List Group) → AllByRecursion (λ t. 
 all_with_none ms [] h = tt
 all_with_none ms (g ∷ gs) h = (with_none ms h g.1, all_with_none ms gs h)
 
--- a transaction that was given without a cause may have its assignments
-allowed_one : (seen : List Posting) (t : Txn) → cause_alone (given seen t).postings ≡ None → is_allowed t ≡ true
-allowed_one seen t h = by (has_assignment t.postings) (assignment_fault t.postings) refl refl
-  where
-    by : (a : Bool) (c : Option Cause) → has_assignment t.postings ≡ a → assignment_fault t.postings ≡ c → (not a || is_none c) ≡ true
-    by false c e f = refl
-    by true None e f = refl
-    by true (Some c) e f =
-        let cannot : is_assignable t.postings ≡ false = λ i. e i && is_none (f i) in
-        let same : given seen t ≡ t = ap (λ (b : Bool). cond b (with_postings t (given_postings seen t.postings)) t) cannot in
-        let none : cause_alone t.postings ≡ None = ap (λ (x : Txn). cause_alone x.postings) (sym same) ∙ h in
-        let told : cause_alone t.postings ≡ Some c = with_assignment t.postings e ∙ f in
-        absurd (let never : ⊥ = cc in never)
+module _ (enter : Decimal → Decimal) where
+  -- a transaction that was given without a cause may have its assignments
+  allowed_one : (seen : List Posting) (t : Txn) → cause_alone (given_by enter seen t).postings ≡ None → is_allowed t ≡ true
+  allowed_one seen t h = by (has_assignment t.postings) (assignment_fault t.postings) refl refl
+    where
+      by : (a : Bool) (c : Option Cause) → has_assignment t.postings ≡ a → assignment_fault t.postings ≡ c → (not a || is_none c) ≡ true
+      by false c e f = refl
+      by true None e f = refl
+      by true (Some c) e f =
+          let cannot : is_assignable t.postings ≡ false = λ i. e i && is_none (f i) in
+          let same : given_by enter seen t ≡ t = ap (λ (b : Bool). cond b (with_postings t (given_postings_by enter seen t.postings)) t) cannot in
+          let none : cause_alone t.postings ≡ None = ap (λ (x : Txn). cause_alone x.postings) (sym same) ∙ h in
+          let told : cause_alone t.postings ≡ Some c = with_assignment t.postings e ∙ f in
+          absurd (let never : ⊥ = cc in never)
 
-pub all_allowed : (ws ms : List Txn) → AreGiven ws ms → AllByRecursion (λ t. cause_alone t.postings ≡ None) ms → list_all is_allowed ws ≡ true
-all_allowed [] [] h causes = refl
-all_allowed [] (m ∷ ms) h causes = absurd h
-all_allowed (w ∷ ws) [] h causes = absurd h
-all_allowed (w ∷ ws) (m ∷ ms) h causes =
-    let first = allowed_one h.0.0 w (subst (λ (x : Txn). cause_alone x.postings ≡ None) h.0.1 causes.0) in
-    λ i. first i && all_allowed ws ms h.1 causes.1 i
+  pub all_allowed : (ws ms : List Txn) → AreGiven enter ws ms → AllByRecursion (λ t. cause_alone t.postings ≡ None) ms → list_all is_allowed ws ≡ true
+  all_allowed [] [] h causes = refl
+  all_allowed [] (m ∷ ms) h causes = absurd h
+  all_allowed (w ∷ ws) [] h causes = absurd h
+  all_allowed (w ∷ ws) (m ∷ ms) h causes =
+      let first = allowed_one h.0.0 w (subst (λ (x : Txn). cause_alone x.postings ≡ None) h.0.1 causes.0) in
+      λ i. first i && all_allowed ws ms h.1 causes.1 i

@@ -2,7 +2,7 @@
 use Rattle.std.proofs.Common.{◌≡◌, ℕ, Bool, true, false, cond, ◌&&◌, not, eqb, List, [], ◌∷◌, ◌++◌, map, filter, Option, Some, None, is_some, is_none, refl, sym, ap, ◌∙◌, subst}
 use Rattle.std.specs.Prelude.{unwrap_or}
 use Rattle.std.specs.List.{flat_map, AllByRecursion}
-use Rattle.hl_num.specs.Decimal.{negated}
+use Rattle.hl_num.specs.Decimal.{Decimal, negated}
 use Rattle.book.specs.Mixed.{plus}
 use Rattle.entry_balance.specs.Tally.{total_of}
 use Rattle.book.specs.declared.amount.Cost.TheVariants.{Total}
@@ -22,17 +22,18 @@ use Rattle.balancing.specs.declared.groups.Part.TheVariants.{ButFound}
 use Rattle.balancing.specs.Groups.{day_of}
 use Rattle.assertions.specs.Assertions.{counts_for, held_by, held_in}
 use Rattle.balancing.specs.Parts.{is_found, is_chosen}
-use Rattle.balancing.specs.Assigned.{assigned_value, assigned_posting, given_posting, given_postings}
+use Rattle.balancing.specs.Assigned.{assigned_value_by, assigned_posting, given_posting_by, given_postings_by}
 use Rattle.balancing.specs.Solves.{IsMadeBy, AreMade}
 use Rattle.balancing.proofs.SolvingSeen.{EachAfter}
 
-abbrev pub amount_after : List Posting → Posting → Option Assertion → Option Amount
-amount_after seen p None = None
-amount_after seen p (Some w) = Some (plain_amount (assigned_value seen p w))
+module _ (enter : Decimal → Decimal) where
+  abbrev pub amount_after : List Posting → Posting → Option Assertion → Option Amount
+  amount_after seen p None = None
+  amount_after seen p (Some w) = Some (plain_amount (assigned_value_by enter seen p w))
 
--- an assigned posting after others has the amount that it is assigned there
-abbrev pub AssignedAfter : List Posting → Posting → Type 0
-AssignedAfter seen p = is_assigned p ≡ true → p.amount ≡ amount_after seen p p.wanted
+  -- an assigned posting after others has the amount that it is assigned there
+  abbrev pub AssignedAfter : List Posting → Posting → Type 0
+  AssignedAfter seen p = is_assigned p ≡ true → p.amount ≡ amount_after seen p p.wanted
 
 -- ---- a recorded cost changes a cost alone
 
@@ -126,83 +127,86 @@ same_missing : (xs ys : List Posting) (p : Posting) → LeaveSame xs ys → p.am
 same_missing xs ys p h e below root =
     h below root ∙ sym (append-nil (held_in below root ys)) ∙ ap (λ (vs : List Value). held_in below root ys ++ vs) (sym (nothing_held below root p e)) ∙ sym (held_more below root ys p)
 
-abbrev assigned_by : Assertion → List Value → Value
-assigned_by w vs = (w.amount.symbol, plus w.amount.value (negated (total_of w.amount.symbol vs)))
+module _ (enter : Decimal → Decimal) where
+  abbrev less_held : Assertion → List Value → Value
+  less_held w vs = (w.amount.symbol, plus w.amount.value (negated (enter (total_of w.amount.symbol vs))))
 
--- what an assignment comes to depends on what its account holds
-after_same : (seen seen0 : List Posting) (q p : Posting) (w : Assertion) → LeaveSame seen seen0 → q.account ≡ p.account → assigned_value seen q w ≡ assigned_value seen0 p w
-after_same seen seen0 q p w h e =
-    (λ i. assigned_value seen (record q { account = e i }) w) ∙ ap (λ (vs : List Value). assigned_by w vs) (h w.below p.account)
+module _ (enter : Decimal → Decimal) where
+  -- what an assignment comes to depends on what its account holds
+  after_same : (seen seen0 : List Posting) (q p : Posting) (w : Assertion) → LeaveSame seen seen0 → q.account ≡ p.account → assigned_value_by enter seen q w ≡ assigned_value_by enter seen0 p w
+  after_same seen seen0 q p w h e =
+      (λ i. assigned_value_by enter seen (record q { account = e i }) w) ∙ ap (λ (vs : List Value). less_held enter w vs) (h w.below p.account)
 
 abbrev pub AreUnmarked : List Posting → Type 0
 AreUnmarked ps = AllByRecursion (λ p. p.filled ≡ false) ps
 
-amount_same : (seen seen0 : List Posting) (q p : Posting) (o : Option Assertion) (w : Assertion) → o ≡ Some w → LeaveSame seen seen0 → q.account ≡ p.account → amount_after seen q o ≡ Some (plain_amount (assigned_value seen0 p w))
-amount_same seen seen0 q p o w is h e = ap (amount_after seen q) is ∙ ap (λ (v : Value). Some (plain_amount v)) (after_same seen seen0 q p w h e)
+module _ (enter : Decimal → Decimal) where
+  amount_same : (seen seen0 : List Posting) (q p : Posting) (o : Option Assertion) (w : Assertion) → o ≡ Some w → LeaveSame seen seen0 → q.account ≡ p.account → amount_after enter seen q o ≡ Some (plain_amount (assigned_value_by enter seen0 p w))
+  amount_same seen seen0 q p o w is h e = ap (amount_after enter seen q) is ∙ ap (λ (v : Value). Some (plain_amount v)) (after_same enter seen seen0 q p w h e)
 
-pub unassigned_holds : (seen : List Posting) (p : Posting) → is_assigned p ≡ false → AssignedAfter seen p
-unassigned_holds seen p h e = absurd (false≢true (sym h ∙ e))
+  pub unassigned_holds : (seen : List Posting) (p : Posting) → is_assigned p ≡ false → AssignedAfter enter seen p
+  unassigned_holds seen p h e = absurd (false≢true (sym h ∙ e))
 
 pub unfilled : (p : Posting) → p.filled ≡ false → is_assigned p ≡ false
 unfilled p h = ap (λ b. b && is_some p.wanted) h
 
-module _ (ps0 : List Posting) where
+module _ (enter : Decimal → Decimal) (ps0 : List Posting) where
   abbrev costs : Cost
   costs = recorded_cost ps0
 
   -- assignments that are made one after another have the amounts that they are assigned there
   given_step : (w : Posting) (ws : List Posting) (seen seen0 : List Posting) (oa : Option Amount) (ow : Option Assertion) → w.amount ≡ oa → w.wanted ≡ ow → w.filled ≡ false → LeaveSame seen seen0 →
-      ((seen seen0 : List Posting) → LeaveSame seen seen0 → EachAfter AssignedAfter seen (there ps0 (given_postings seen0 ws))) →
-      EachAfter AssignedAfter seen (there ps0 (given_posting seen0 w oa ow ∷ given_postings (seen0 ++ given_posting seen0 w oa ow ∷ []) ws))
+      ((seen seen0 : List Posting) → LeaveSame seen seen0 → EachAfter (AssignedAfter enter) seen (there ps0 (given_postings_by enter seen0 ws))) →
+      EachAfter (AssignedAfter enter) seen (there ps0 (given_posting_by enter seen0 w oa ow ∷ given_postings_by enter (seen0 ++ given_posting_by enter seen0 w oa ow ∷ []) ws))
   given_step w ws seen seen0 (Some a) ow ea ew unmarked same rest =
       let q = costed_posting costs w in
       let alike = costed_alike costs w in
-      subst (λ (o : Option Amount). EachAfter AssignedAfter seen (costed_if ps0 w o ++ there ps0 (given_postings (seen0 ++ w ∷ []) ws))) (sym ea) (
-        unassigned_holds seen q (alike_assigned q w alike ∙ unfilled w unmarked),
+      subst (λ (o : Option Amount). EachAfter (AssignedAfter enter) seen (costed_if ps0 w o ++ there ps0 (given_postings_by enter (seen0 ++ w ∷ []) ws))) (sym ea) (
+        unassigned_holds enter seen q (alike_assigned q w alike ∙ unfilled w unmarked),
         rest (seen ++ q ∷ []) (seen0 ++ w ∷ []) (same_more seen seen0 q w same (λ below root. alike_held below root q w alike)),
       )
   given_step w ws seen seen0 None None ea ew unmarked same rest =
-      subst (λ (o : Option Amount). EachAfter AssignedAfter seen (costed_if ps0 w o ++ there ps0 (given_postings (seen0 ++ w ∷ []) ws))) (sym ea)
+      subst (λ (o : Option Amount). EachAfter (AssignedAfter enter) seen (costed_if ps0 w o ++ there ps0 (given_postings_by enter (seen0 ++ w ∷ []) ws))) (sym ea)
       (rest seen (seen0 ++ w ∷ []) (same_missing seen seen0 w same ea))
   given_step w ws seen seen0 None (Some wanted) ea ew unmarked same rest =
-      let p = assigned_posting w (assigned_value seen0 w wanted) in
+      let p = assigned_posting w (assigned_value_by enter seen0 w wanted) in
       let q = costed_posting costs p in
       let alike = costed_alike costs p in (
-        (λ _. alike.amount ∙ sym (amount_same seen seen0 q w q.wanted wanted (alike.wanted ∙ ew) same alike.account)),
+        (λ _. alike.amount ∙ sym (amount_same enter seen seen0 q w q.wanted wanted (alike.wanted ∙ ew) same alike.account)),
         rest (seen ++ q ∷ []) (seen0 ++ p ∷ []) (same_more seen seen0 q p same (λ below root. alike_held below root q p alike)),
       )
 
-  pub given_holds : (ws : List Posting) → AreUnmarked ws → (seen seen0 : List Posting) → LeaveSame seen seen0 → EachAfter AssignedAfter seen (there ps0 (given_postings seen0 ws))
+  pub given_holds : (ws : List Posting) → AreUnmarked ws → (seen seen0 : List Posting) → LeaveSame seen seen0 → EachAfter (AssignedAfter enter) seen (there ps0 (given_postings_by enter seen0 ws))
   given_holds [] h seen seen0 same = tt
   given_holds (w ∷ ws) h seen seen0 same = given_step w ws seen seen0 w.amount w.wanted refl refl h.0 same (given_holds ws h.1)
 
   -- assignments with the amounts that they are assigned there were made one after another
   made_step : (w q : Posting) (ws qs : List Posting) (seen seen0 : List Posting) (oa : Option Amount) (ow : Option Assertion) → w.amount ≡ oa → w.wanted ≡ ow → LeaveSame seen seen0 → IsMadeBy oa ow w q →
-      ((seen seen0 : List Posting) → LeaveSame seen seen0 → EachAfter AssignedAfter seen (there ps0 qs) → qs ≡ given_postings seen0 ws) →
-      EachAfter AssignedAfter seen (there ps0 (q ∷ qs)) → q ∷ qs ≡ given_posting seen0 w oa ow ∷ given_postings (seen0 ++ given_posting seen0 w oa ow ∷ []) ws
+      ((seen seen0 : List Posting) → LeaveSame seen seen0 → EachAfter (AssignedAfter enter) seen (there ps0 qs) → qs ≡ given_postings_by enter seen0 ws) →
+      EachAfter (AssignedAfter enter) seen (there ps0 (q ∷ qs)) → q ∷ qs ≡ given_posting_by enter seen0 w oa ow ∷ given_postings_by enter (seen0 ++ given_posting_by enter seen0 w oa ow ∷ []) ws
   made_step w q ws qs seen seen0 (Some a) ow ea ew same is rest h =
       let c = costed_posting costs w in
       let alike = costed_alike costs w in
-      let here = subst (λ (o : Option Amount). EachAfter AssignedAfter seen (costed_if ps0 w o ++ there ps0 qs)) ea (subst (λ (x : Posting). EachAfter AssignedAfter seen (costed_if ps0 x x.amount ++ there ps0 qs)) is h) in
+      let here = subst (λ (o : Option Amount). EachAfter (AssignedAfter enter) seen (costed_if ps0 w o ++ there ps0 qs)) ea (subst (λ (x : Posting). EachAfter (AssignedAfter enter) seen (costed_if ps0 x x.amount ++ there ps0 qs)) is h) in
       let tail = rest (seen ++ c ∷ []) (seen0 ++ w ∷ []) (same_more seen seen0 c w same (λ below root. alike_held below root c w alike)) here.1 in
       λ i. is i ∷ tail i
   made_step w q ws qs seen seen0 None None ea ew same is rest h =
-      let here = subst (λ (o : Option Amount). EachAfter AssignedAfter seen (costed_if ps0 w o ++ there ps0 qs)) ea (subst (λ (x : Posting). EachAfter AssignedAfter seen (costed_if ps0 x x.amount ++ there ps0 qs)) is h) in
+      let here = subst (λ (o : Option Amount). EachAfter (AssignedAfter enter) seen (costed_if ps0 w o ++ there ps0 qs)) ea (subst (λ (x : Posting). EachAfter (AssignedAfter enter) seen (costed_if ps0 x x.amount ++ there ps0 qs)) is h) in
       let tail = rest seen (seen0 ++ w ∷ []) (same_missing seen seen0 w same ea) here in
       λ i. is i ∷ tail i
   made_step w q ws qs seen seen0 None (Some wanted) ea ew same is rest h =
       let p = assigned_posting w is.0 in
       let c = costed_posting costs p in
       let alike = costed_alike costs p in
-      let here : AssignedAfter seen c × EachAfter AssignedAfter (seen ++ c ∷ []) (there ps0 qs) = subst (λ (x : Posting). EachAfter AssignedAfter seen (costed_if ps0 x x.amount ++ there ps0 qs)) is.1 h in
+      let here : AssignedAfter enter seen c × EachAfter (AssignedAfter enter) (seen ++ c ∷ []) (there ps0 qs) = subst (λ (x : Posting). EachAfter (AssignedAfter enter) seen (costed_if ps0 x x.amount ++ there ps0 qs)) is.1 h in
       let assigned : is_assigned c ≡ true = alike_assigned c p alike ∙ ap is_some ew in
-      let amount : Some (plain_amount is.0) ≡ Some (plain_amount (assigned_value seen0 w wanted)) = sym alike.amount ∙ here.0 assigned ∙ amount_same seen seen0 c w c.wanted wanted (alike.wanted ∙ ew) same alike.account in
-      let first : q ≡ assigned_posting w (assigned_value seen0 w wanted) = is.1 ∙ ap (λ (o : Option Amount). let made : Posting = record w { amount = o; cost = None; filled = true; costed = false } in made) amount in
-      let tail = rest (seen ++ c ∷ []) (seen0 ++ assigned_posting w (assigned_value seen0 w wanted) ∷ [])
-      (same_more seen seen0 c (assigned_posting w (assigned_value seen0 w wanted)) same (λ below root. alike_held below root c p alike ∙ ap (λ (x : Posting). held_by below root x) (sym is.1 ∙ first))) here.1 in
+      let amount : Some (plain_amount is.0) ≡ Some (plain_amount (assigned_value_by enter seen0 w wanted)) = sym alike.amount ∙ here.0 assigned ∙ amount_same enter seen seen0 c w c.wanted wanted (alike.wanted ∙ ew) same alike.account in
+      let first : q ≡ assigned_posting w (assigned_value_by enter seen0 w wanted) = is.1 ∙ ap (λ (o : Option Amount). let made : Posting = record w { amount = o; cost = None; filled = true; costed = false } in made) amount in
+      let tail = rest (seen ++ c ∷ []) (seen0 ++ assigned_posting w (assigned_value_by enter seen0 w wanted) ∷ [])
+      (same_more seen seen0 c (assigned_posting w (assigned_value_by enter seen0 w wanted)) same (λ below root. alike_held below root c p alike ∙ ap (λ (x : Posting). held_by below root x) (sym is.1 ∙ first))) here.1 in
       λ i. first i ∷ tail i
 
-  pub made_given : (ws qs : List Posting) → AreMade ws qs → (seen seen0 : List Posting) → LeaveSame seen seen0 → EachAfter AssignedAfter seen (there ps0 qs) → qs ≡ given_postings seen0 ws
+  pub made_given : (ws qs : List Posting) → AreMade ws qs → (seen seen0 : List Posting) → LeaveSame seen seen0 → EachAfter (AssignedAfter enter) seen (there ps0 qs) → qs ≡ given_postings_by enter seen0 ws
   made_given [] [] made seen seen0 same h = refl
   made_given [] (q ∷ qs) made seen seen0 same h = absurd made
   made_given (w ∷ ws) [] made seen seen0 same h = absurd made

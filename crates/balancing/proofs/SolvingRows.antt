@@ -73,6 +73,18 @@ a_gift = record {
   fits = refl;
 }
 
+-- ---- the decimals that are wanted, or more where the amount needs them
+
+abbrev with_cents : ℤ → List Txn
+with_cents m = on 5 (record (missing (codes "cash")) { amount = Some (plain_amount (codes "EUR", record { mantissa = m; places = 2 })) } ∷ []) ∷ []
+
+-- 100 less 30.00, and less 30.50
+as_wanted : difference_at (with_cents (pos 3000)) (at 10 1 0) (assignment (codes "cash") (pos 100)) (wanting (pos 100)) ≡ euros (pos 70)
+as_wanted = refl
+
+as_needed : difference_at (with_cents (pos 3050)) (at 10 1 0) (assignment (codes "cash") (pos 100)) (wanting (pos 100)) ≡ (codes "EUR", record { mantissa = pos 695; places = 1 })
+as_needed = refl
+
 -- ---- what is missing comes after all others
 
 -- `a` without an amount, `a  5 EUR`, `c  1 EUR` and `a  = 8 EUR`: 3 EUR are assigned, and -9 EUR were missing

@@ -3,6 +3,7 @@ use Rattle.std.proofs.Common.{◌≡◌, ℕ, Bool, true, false, cond, ◌&&◌,
 use Rattle.std.specs.Prelude.{unwrap_or}
 use Rattle.std.specs.List.{list_any, AllByRecursion}
 use Rattle.std.proofs.lemmas.Bool.{false≢true, or_parts}
+use Rattle.hl_num.specs.Decimal.{Decimal}
 use Rattle.hl_time.specs.declared.day.Day.{Day}
 use Rattle.book.specs.declared.amount.Amount.{Amount}
 use Rattle.book.specs.declared.amount.Assertion.{Assertion}
@@ -17,7 +18,7 @@ use Rattle.entry_balance.proofs.Named.{left_true, right_true}
 use Rattle.balancing.specs.declared.groups.Part.TheVariants.{All, ButFound, Found}
 use Rattle.balancing.specs.Groups.{day_of}
 use Rattle.balancing.specs.Parts.{is_found, is_chosen, part_on, postings_on}
-use Rattle.balancing.specs.Assigned.{assigned_posting, assigned_value, given_posting, given_postings, given}
+use Rattle.balancing.specs.Assigned.{assigned_posting, assigned_value_by, given_posting_by, given_postings_by, given_by}
 use Rattle.balancing.specs.Solves.{is_allowed, IsMadeBy, AreMade, IsMadeTxn}
 use Rattle.balancing.proofs.SolvingRising.{all_append}
 use Rattle.balancing.proofs.SolvingSeen.{EachAfter, each_append, each_first}
@@ -149,9 +150,10 @@ still_all P p (x ∷ xs) h =
     let rest = still_all P p xs h.1 in
     elim (p x) as (λ b. AllByRecursion P (cond b (x ∷ filter p xs) (filter p xs))) [ true ↦ (h.0, rest) | false ↦ rest ]
 
-none_assigned : (seen ps : List Posting) → AllByRecursion (λ p. is_assigned p ≡ false) ps → EachAfter AssignedAfter seen ps
-none_assigned seen [] h = tt
-none_assigned seen (p ∷ ps) h = (unassigned_holds seen p h.0, none_assigned (seen ++ p ∷ []) ps h.1)
+module _ (enter : Decimal → Decimal) where
+  none_assigned : (seen ps : List Posting) → AllByRecursion (λ p. is_assigned p ≡ false) ps → EachAfter (AssignedAfter enter) seen ps
+  none_assigned seen [] h = tt
+  none_assigned seen (p ∷ ps) h = (unassigned_holds enter seen p h.0, none_assigned (seen ++ p ∷ []) ps h.1)
 
 found_unassigned : (p : Posting) → is_found p ≡ true → is_assigned p ≡ false
 found_unassigned p h = by p.filled p.wanted h
@@ -161,10 +163,11 @@ found_unassigned p h = by p.filled p.wanted h
     by true (Some w) h = absurd (false≢true h)
     by false o h = absurd (false≢true h)
 
-found_part : (day : ℕ) (T : Txn) (seen : List Posting) → EachAfter AssignedAfter seen (part_on Found day T)
-found_part day T seen =
-    none_assigned seen (part_on Found day T)
-    (all_filtered (λ p. is_assigned p ≡ false) (is_chosen Found day T) (λ x e. found_unassigned x (right_true (eqb (day_of T x) day) (is_found x) e)) T.postings)
+module _ (enter : Decimal → Decimal) where
+  found_part : (day : ℕ) (T : Txn) (seen : List Posting) → EachAfter (AssignedAfter enter) seen (part_on Found day T)
+  found_part day T seen =
+      none_assigned enter seen (part_on Found day T)
+      (all_filtered (λ p. is_assigned p ≡ false) (is_chosen Found day T) (λ x e. found_unassigned x (right_true (eqb (day_of T x) day) (is_found x) e)) T.postings)
 
 -- the group of a transaction whose assignments are made: the postings that aren't missing, and then what was missing
 group_made : (t u : Txn) → IsMadeTxn t u → AreUnmarked t.postings → is_assignable t.postings ≡ true → postings_on t.day.0 (settled u) ≡ there u.postings u.postings ++ part_on Found t.day.0 (settled u)
@@ -177,14 +180,15 @@ group_made t u made unmarked can =
 
 -- ---- assignments made one after another
 
-given_one : (seen : List Posting) (a : Option Amount) (o : Option Assertion) (w : Posting) → IsMadeBy a o w (given_posting seen w a o)
-given_one seen (Some a) o w = refl
-given_one seen None None w = refl
-given_one seen None (Some x) w = (assigned_value seen w x, refl)
+module _ (enter : Decimal → Decimal) where
+  given_one : (seen : List Posting) (a : Option Amount) (o : Option Assertion) (w : Posting) → IsMadeBy a o w (given_posting_by enter seen w a o)
+  given_one seen (Some a) o w = refl
+  given_one seen None None w = refl
+  given_one seen None (Some x) w = (assigned_value_by enter seen w x, refl)
 
-given_all : (seen ws : List Posting) → AreMade ws (given_postings seen ws)
-given_all seen [] = tt
-given_all seen (w ∷ ws) = (given_one seen w.amount w.wanted w, given_all (seen ++ given_posting seen w w.amount w.wanted ∷ []) ws)
+  given_all : (seen ws : List Posting) → AreMade ws (given_postings_by enter seen ws)
+  given_all seen [] = tt
+  given_all seen (w ∷ ws) = (given_one seen w.amount w.wanted w, given_all (seen ++ given_posting_by enter seen w w.amount w.wanted ∷ []) ws)
 
 nothing_given : (a : Option Amount) (o : Option Assertion) (w : Posting) → (is_none a && is_some o) ≡ false → IsMadeBy a o w w
 nothing_given (Some a) o w h = refl
@@ -197,13 +201,14 @@ as_written (w ∷ ws) h =
     let parts = or_parts (is_assignment w) (has_assignment ws) h in
     (nothing_given w.amount w.wanted w parts.0, as_written ws parts.1)
 
--- what is given is made, where it may be
-pub given_made : (seen : List Posting) (t : Txn) → is_allowed t ≡ true → IsMadeTxn t (given seen t)
-given_made seen t allowed =
-    elim (is_assignable t.postings) as (λ b. is_assignable t.postings ≡ b → IsMadeTxn t (cond b (with_postings t (given_postings seen t.postings)) t)) [
-      | true ↦ λ e. record { postings = given_all seen t.postings; rest = refl }
-      | false ↦ λ e. record { postings = as_written t.postings (has_none (has_assignment t.postings) (is_none (assignment_fault t.postings)) allowed e); rest = refl }
-    ] refl
+module _ (enter : Decimal → Decimal) where
+  -- what is given is made, where it may be
+  pub given_made : (seen : List Posting) (t : Txn) → is_allowed t ≡ true → IsMadeTxn t (given_by enter seen t)
+  given_made seen t allowed =
+      elim (is_assignable t.postings) as (λ b. is_assignable t.postings ≡ b → IsMadeTxn t (cond b (with_postings t (given_postings_by enter seen t.postings)) t)) [
+        | true ↦ λ e. record { postings = given_all enter seen t.postings; rest = refl }
+        | false ↦ λ e. record { postings = as_written t.postings (has_none (has_assignment t.postings) (is_none (assignment_fault t.postings)) allowed e); rest = refl }
+      ] refl
 
 unassigned_found : (p : Posting) (vs : List Value) → AllByRecursion (λ p. is_assigned p ≡ false) (map (found_posting p) vs)
 unassigned_found p [] = tt
@@ -225,33 +230,33 @@ unassigned_on day T h =
       | false ↦ still_all P (is_chosen All day T) T.postings h
     ]
 
-module _ (day : ℕ) (seen : List Posting) (t : Txn) (unmarked : AreUnmarked t.postings) (own : is_assignable t.postings ≡ true → day ≡ t.day.0) where
-  given_group : is_assignable t.postings ≡ true → EachAfter AssignedAfter seen (postings_on day (settled (with_postings t (given_postings seen t.postings))))
+module _ (enter : Decimal → Decimal) (day : ℕ) (seen : List Posting) (t : Txn) (unmarked : AreUnmarked t.postings) (own : is_assignable t.postings ≡ true → day ≡ t.day.0) where
+  given_group : is_assignable t.postings ≡ true → EachAfter (AssignedAfter enter) seen (postings_on day (settled (with_postings t (given_postings_by enter seen t.postings))))
   given_group can =
-      let u = with_postings t (given_postings seen t.postings) in
-      let made : IsMadeTxn t u = record { postings = given_all seen t.postings; rest = refl } in
-      subst (λ (d : ℕ). EachAfter AssignedAfter seen (postings_on d (settled u))) (sym (own can))
-      (subst (λ (ps : List Posting). EachAfter AssignedAfter seen ps) (sym (group_made t u made unmarked can))
-      (each_append AssignedAfter seen (there u.postings u.postings) (part_on Found t.day.0 (settled u))
-      (given_holds u.postings t.postings unmarked seen seen (λ below root. refl))
-      (found_part t.day.0 (settled u) (seen ++ there u.postings u.postings))))
+      let u = with_postings t (given_postings_by enter seen t.postings) in
+      let made : IsMadeTxn t u = record { postings = given_all enter seen t.postings; rest = refl } in
+      subst (λ (d : ℕ). EachAfter (AssignedAfter enter) seen (postings_on d (settled u))) (sym (own can))
+      (subst (λ (ps : List Posting). EachAfter (AssignedAfter enter) seen ps) (sym (group_made t u made unmarked can))
+      (each_append (AssignedAfter enter) seen (there u.postings u.postings) (part_on Found t.day.0 (settled u))
+      (given_holds enter u.postings t.postings unmarked seen seen (λ below root. refl))
+      (found_part enter t.day.0 (settled u) (seen ++ there u.postings u.postings))))
 
   -- what was given has the amounts that it is assigned in its group
-  pub given_is_assigned : EachAfter AssignedAfter seen (postings_on day (settled (given seen t)))
+  pub given_is_assigned : EachAfter (AssignedAfter enter) seen (postings_on day (settled (given_by enter seen t)))
   given_is_assigned =
-      elim (is_assignable t.postings) as (λ b. is_assignable t.postings ≡ b → EachAfter AssignedAfter seen (postings_on day (settled (cond b (with_postings t (given_postings seen t.postings)) t)))) [
+      elim (is_assignable t.postings) as (λ b. is_assignable t.postings ≡ b → EachAfter (AssignedAfter enter) seen (postings_on day (settled (cond b (with_postings t (given_postings_by enter seen t.postings)) t)))) [
         | true ↦ λ e. given_group e
-        | false ↦ λ e. none_assigned seen (postings_on day (settled t)) (unassigned_on day (settled t) (unassigned_all t.postings t.postings unmarked))
+        | false ↦ λ e. none_assigned enter seen (postings_on day (settled t)) (unassigned_on day (settled t) (unassigned_all t.postings t.postings unmarked))
       ] refl
 
   -- what has the amounts that it is assigned in its group was given
-  pub assigned_is_given : (u : Txn) → IsMadeTxn t u → is_allowed t ≡ true → EachAfter AssignedAfter seen (postings_on day (settled u)) → u ≡ given seen t
+  pub assigned_is_given : (u : Txn) → IsMadeTxn t u → is_allowed t ≡ true → EachAfter (AssignedAfter enter) seen (postings_on day (settled u)) → u ≡ given_by enter seen t
   assigned_is_given u made allowed h =
-      elim (is_assignable t.postings) as (λ b. is_assignable t.postings ≡ b → u ≡ cond b (with_postings t (given_postings seen t.postings)) t) [
+      elim (is_assignable t.postings) as (λ b. is_assignable t.postings ≡ b → u ≡ cond b (with_postings t (given_postings_by enter seen t.postings)) t) [
         | true ↦ λ e.
-            let on = subst (λ (d : ℕ). EachAfter AssignedAfter seen (postings_on d (settled u))) (own e) h in
-            let parts = subst (λ (ps : List Posting). EachAfter AssignedAfter seen ps) (group_made t u made unmarked e) on in
-            let first = each_first AssignedAfter seen (there u.postings u.postings) (part_on Found t.day.0 (settled u)) parts in
-            made.rest ∙ ap (with_postings t) (made_given u.postings t.postings u.postings made.postings seen seen (λ below root. refl) first)
+            let on = subst (λ (d : ℕ). EachAfter (AssignedAfter enter) seen (postings_on d (settled u))) (own e) h in
+            let parts = subst (λ (ps : List Posting). EachAfter (AssignedAfter enter) seen ps) (group_made t u made unmarked e) on in
+            let first = each_first (AssignedAfter enter) seen (there u.postings u.postings) (part_on Found t.day.0 (settled u)) parts in
+            made.rest ∙ ap (with_postings t) (made_given enter u.postings t.postings u.postings made.postings seen seen (λ below root. refl) first)
         | false ↦ λ e. made.rest ∙ ap (with_postings t) (none_made t.postings u.postings made.postings (has_none (has_assignment t.postings) (is_none (assignment_fault t.postings)) allowed e))
       ] refl

@@ -1,6 +1,6 @@
 -- Transactions without assertions ask for no account.
 use Rattle.std.proofs.Common.{◌≡◌, ℕ, Bool, true, false, ◌&&◌, ◌||◌, List, [], ◌∷◌, ◌++◌, Option, Some, None, is_some, refl, sym, ap, ◌∙◌}
-use Rattle.std.specs.List.{list_all, list_any}
+use Rattle.std.specs.List.{list_all}
 use Rattle.std.proofs.lemmas.Bool.{false≢true, or_parts}
 use Rattle.book.specs.declared.amount.Assertion.{Assertion}
 use Rattle.book.specs.declared.transaction.Posting.{Posting}

@@ -1,6 +1,7 @@
 -- What the fault of a text is. Nothing here says how it is found.
-use Rattle.std.specs.Prelude.{◌≡◌, suc, ◌==◌, nat_lt, Bool, true, false, not, ◌&&◌, ◌||◌, List, ◌∷◌, ◌++◌, [], map, filter, Option, Some, None, is_some, if◌then◌else◌}
+use Rattle.std.specs.Prelude.{◌≡◌, ◌⊎◌, suc, ◌==◌, nat_lt, Bool, true, false, not, ◌&&◌, ◌||◌, List, ◌∷◌, ◌++◌, [], map, filter, Option, Some, None, is_some, if◌then◌else◌}
 use Rattle.std.specs.List.{list_any, find, slice_get, AllByRecursion}
+use Rattle.hl_num.specs.Decimal.{Decimal}
 use Rattle.book.specs.declared.amount.Assertion.{Assertion}
 use Rattle.book.specs.declared.fault.Fault.{Fault}
 use Rattle.book.specs.declared.fault.Cause.{Cause}
@@ -12,8 +13,9 @@ use Rattle.entry_balance.specs.Tally.{turnover_fits}
 use Rattle.entry_balance.specs.Entry.{lacks_two, has_assignment, is_dated, costs_fit, fits_alone, unbalanced_by, unbalanced_sums, settled, moved, or_else}
 use Rattle.balancing.specs.Groups.{Group, groups_of}
 use Rattle.assertions.specs.Assertions.{found_instead, failure_at, or_else_fault}
-use Rattle.balancing.specs.Load.{fault_at}
-use Rattle.balancing.specs.Solves.{are_unmarked, is_allowed, IsMadeTxn, values_before, just_after, IsAssignedAt}
+use Rattle.balancing.specs.Assigned.{shortened, whole}
+use Rattle.balancing.specs.Load.{fault_at, carries_sum}
+use Rattle.balancing.specs.Solves.{are_unmarked, is_allowed, IsMadeTxn, values_before, just_after, IsAssignedAtBy, SolvesBy}
 
 -- ---- up to a group
 
@@ -112,8 +114,8 @@ AreMadeIf [] [] = Unit {0}
 AreMadeIf (w ∷ ws) (m ∷ ms) = IsMadeIf (is_allowed w) w m × AreMadeIf ws ms
 AreMadeIf _ _ = ⊥
 
--- It is the fault of the first group that has one.
-pub record IsFaultOf (written : List Txn) (fault : Fault) : Type 0 where
+-- It is the fault of the first group that has one, where sums enter assigned amounts in some way.
+pub record IsFaultBy (enter : Decimal → Decimal) (written : List Txn) (fault : Fault) : Type 0 where
   -- nothing that is written is marked as found
   pub unmarked : are_unmarked written ≡ true
   -- the written transactions, with some amount for each assignment that may be there
@@ -125,11 +127,28 @@ pub record IsFaultOf (written : List Txn) (fault : Fault) : Type 0 where
   pub after : List Group
   pub order : groups_of written ≡ before ++ group ∷ after
   -- up to this group an assignment's amount is its wanted amount less the sum at its place
-  pub assigned : AllByRecursion (IsAssignedAt (map settled made)) (placed_through (map settled made) group)
+  pub assigned : AllByRecursion (IsAssignedAtBy enter (map settled made)) (placed_through (map settled made) group)
   -- those before it have no fault
   pub sound : AllByRecursion (λ g. fault_of written made g ≡ None) before
   -- it has this one
   pub is : fault_of written made group ≡ Some fault
+
+-- The fault that is told in place of one. Where that carries a sum it is the fault of the first group by sums with all
+-- their decimals, if these have one; and else it is told itself.
+abbrev pub IsToldIf : Bool → List Txn → Fault → Fault → Type 0
+IsToldIf false written own fault = fault ≡ own
+IsToldIf true written own fault = IsFaultBy whole written fault ⊎ ((book : List Txn) × SolvesBy whole written book × (fault ≡ own))
+
+abbrev pub IsToldFor : List Txn → Fault → Fault → Type 0
+IsToldFor written own fault = IsToldIf (carries_sum own.cause) written own fault
+
+-- It is the fault that what is written has in place of a book.
+pub record IsFaultOf (written : List Txn) (fault : Fault) : Type 0 where
+  -- where sums enter shortened, as in books, some group has a fault
+  pub own : Fault
+  pub lacks : IsFaultBy shortened written own
+  -- this is the one that is told, with all the decimals of its sum
+  pub told : IsToldFor written own fault
 
 -- the fault that an answer tells, if it tells one
 abbrev pub IsFaultIf : List Txn → Option Fault → Type 0

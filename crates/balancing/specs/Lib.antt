@@ -1,5 +1,7 @@
 pub mod Assigned
+pub mod Back
 pub mod Check
+pub mod Entering
 pub mod Claims
 pub mod Faults
 pub mod Giving

@@ -14,7 +14,7 @@ use Rattle.entry_balance.specs.Tally.{turnover_fits}
 use Rattle.entry_balance.specs.Entry.{settled, moved, cause_alone}
 use Rattle.balancing.specs.Parts.{postings_on, postings_of_group}
 use Rattle.assertions.specs.Assertions.{first_failure, or_else_fault}
-use Rattle.balancing.specs.Assigned.{assigned}
+use Rattle.balancing.specs.Assigned.{whole, assigned, assigned_by}
 use Rattle.balancing.specs.Groups.{Group, groups_of}
 
 -- what a transaction's group on a day moves
@@ -63,7 +63,32 @@ loaded txns (Some fault) = Err fault
 abbrev pub book_of : List Txn → Result Book Fault
 book_of txns = loaded txns (first_fault txns [] [] (groups_of txns))
 
+-- a cause that carries a sum
+abbrev pub carries_sum : Cause → Bool
+carries_sum (cause.Unbalanced symbol sum) = true
+carries_sum (cause.AssertionFailed wanted found) = true
+carries_sum _ = false
+
+abbrev pub told_if : Bool → Fault → Result Book Fault → Fault
+told_if false own other = own
+told_if true own (Err told) = told
+told_if true own (Ok book) = own
+
+-- the fault that is told in place of one: where it carries a sum, that of another result, if it has one
+abbrev pub told_by : Fault → Result Book Fault → Fault
+told_by own other = told_if (carries_sum own.cause) own other
+
+-- a book, or the fault that is told in place of its own
+abbrev pub or_told : Result Book Fault → Result Book Fault → Result Book Fault
+or_told (Ok book) other = Ok book
+or_told (Err fault) other = Err (told_by fault other)
+
+-- the book of some transactions, in which sums enter assigned amounts shortened; or their fault, whose sum is that of
+-- the walk in which they enter whole
+abbrev pub load_txns : List Txn → Result Book Fault
+load_txns txns = or_told (book_of (assigned txns)) (book_of (assigned_by whole txns))
+
 -- the book of the items of a text: its transactions in their order, with what balancing found; or the fault of the
 -- first group, by day and then by transaction, that has one
 abbrev pub load : List Placed → Result Book Fault
-load items = book_of (assigned (txns_of items))
+load items = load_txns (txns_of items)

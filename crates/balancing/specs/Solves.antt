@@ -2,7 +2,7 @@
 use Rattle.std.specs.Prelude.{◌≡◌, ◌≤◌, ℕ, suc, Bool, true, not, ◌&&◌, ◌||◌, List, [], ◌∷◌, map, filter, Option, Some, None, is_none}
 use Rattle.std.specs.List.{flat_map, list_all, AllByRecursion}
 use Rattle.std.specs.Option.{option_map}
-use Rattle.hl_num.specs.Decimal.{negated}
+use Rattle.hl_num.specs.Decimal.{Decimal, negated}
 use Rattle.book.specs.declared.amount.Amount.{Amount}
 use Rattle.book.specs.declared.amount.Assertion.{Assertion}
 use Rattle.book.specs.declared.transaction.Posting.{Posting}
@@ -14,7 +14,7 @@ use Rattle.entry_balance.specs.Values.{Value, value_of}
 use Rattle.entry_balance.specs.Tally.{total_of, sums_of, turnover_fits}
 use Rattle.entry_balance.specs.Entry.{from_amount, plain_amount, has_assignment, assignment_fault, cause_alone, settled, moved, with_postings}
 use Rattle.assertions.specs.Assertions.{first_of, is_same, is_other}
-use Rattle.balancing.specs.Assigned.{assigned_posting}
+use Rattle.balancing.specs.Assigned.{shortened, assigned_posting}
 
 -- ---- what is written
 
@@ -83,18 +83,28 @@ symbol_beside symbol values = option_map (λ sum. sum.0) (first_of (filter (is_o
 abbrev pub just_after : Place → Place
 just_after place = record { day = place.day; txn = place.txn; posting = suc place.posting }
 
--- what an assignment at a place comes to: its wanted amount less the sum at its place
-abbrev pub difference_at : List Txn → Place → Posting → Assertion → Value
-difference_at book place p w =
-    (w.amount.symbol, plus w.amount.value (negated (total_of w.amount.symbol (values_before book p.account w.below place))))
+-- what an assignment at a place comes to: its wanted amount less the sum at its place, which enters in some way
+abbrev pub difference_at_by : (Decimal → Decimal) → List Txn → Place → Posting → Assertion → Value
+difference_at_by enter book place p w =
+    (w.amount.symbol, plus w.amount.value (negated (enter (total_of w.amount.symbol (values_before book p.account w.below place)))))
 
-abbrev pub amount_at : List Txn → Place → Posting → Option Assertion → Option Amount
-amount_at book place p None = None
-amount_at book place p (Some w) = Some (plain_amount (difference_at book place p w))
+abbrev pub amount_at_by : (Decimal → Decimal) → List Txn → Place → Posting → Option Assertion → Option Amount
+amount_at_by enter book place p None = None
+amount_at_by enter book place p (Some w) = Some (plain_amount (difference_at_by enter book place p w))
 
 -- an assigned posting at its place has that amount
+abbrev pub IsAssignedAtBy : (Decimal → Decimal) → List Txn → Place × Posting → Type 0
+IsAssignedAtBy enter book e = is_assigned e.1 ≡ true → e.1.amount ≡ amount_at_by enter book e.0 e.1 e.1.wanted
+
+-- the same as in books: with the decimals that are wanted, or more where its value needs them
+abbrev pub difference_at : List Txn → Place → Posting → Assertion → Value
+difference_at book place p w = difference_at_by shortened book place p w
+
+abbrev pub amount_at : List Txn → Place → Posting → Option Assertion → Option Amount
+amount_at book place p wanted = amount_at_by shortened book place p wanted
+
 abbrev pub IsAssignedAt : List Txn → Place × Posting → Type 0
-IsAssignedAt book e = is_assigned e.1 ≡ true → e.1.amount ≡ amount_at book e.0 e.1 e.1.wanted
+IsAssignedAt book e = IsAssignedAtBy shortened book e
 
 -- ---- assertions
 
@@ -114,8 +124,8 @@ IsAssertedAt book e = HoldsIf e.1.wanted (λ w. values_before book e.1.account w
 
 -- ---- the book
 
--- A book solves the transactions that are written.
-pub record Solves (written book : List Txn) : Type 0 where
+-- A book solves the transactions that are written, where sums enter assigned amounts in some way.
+pub record SolvesBy (enter : Decimal → Decimal) (written book : List Txn) : Type 0 where
   -- what is written is marked nowhere as found, and assignments stand only where they may
   pub unmarked : are_unmarked written ≡ true
   pub allowed : list_all is_allowed written ≡ true
@@ -127,11 +137,15 @@ pub record Solves (written book : List Txn) : Type 0 where
   -- the book has them in order, with the missing amounts and recorded costs that balancing finds
   pub found : book ≡ map settled made
   -- an assignment's amount is its wanted amount less the sum at its place
-  pub assigned : AllByRecursion (IsAssignedAt book) (placed_from 0 book)
+  pub assigned : AllByRecursion (IsAssignedAtBy enter book) (placed_from 0 book)
   -- each assertion holds by the sum just after its place
   pub asserted : AllByRecursion (IsAssertedAt book) (placed_from 0 book)
   -- all that is moved stays in range
   pub fits : turnover_fits (moved (postings_of book)) ≡ true
+
+-- A book solves the transactions that are written.
+abbrev pub Solves : List Txn → List Txn → Type 0
+Solves written book = SolvesBy shortened written book
 
 -- The book that solves what is written, where nothing written is marked as found, and the only one.
 pub record IsSolution (written book : List Txn) : Type 0 where

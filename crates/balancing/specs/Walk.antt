@@ -1,6 +1,7 @@
 -- What is known while groups are judged one after another.
 use Rattle.std.specs.Prelude.{◌≡◌, ◌≤◌, ℕ, true, List, [], ◌∷◌, ◌++◌, Option, Some, None, is_some, if◌then◌else◌}
 use Rattle.std.specs.List.{slice_get, AllByRecursion}
+use Rattle.hl_num.specs.Decimal.{Decimal}
 use Rattle.book.specs.declared.fault.Cause.{Cause}
 use Rattle.book.specs.declared.fault.Fault.{Fault}
 use Rattle.book.specs.declared.transaction.Txn.{Txn}
@@ -14,7 +15,7 @@ use Rattle.entry_balance.specs.Entry.{is_assignable, moved, moved_by}
 use Rattle.assertions.specs.Assertions.{first_failure, or_else_fault}
 use Rattle.balancing.specs.Parts.{is_chosen, postings_on, postings_of_group}
 use Rattle.assertions.specs.Kept.{Keeping, IsBalance, are_asked}
-use Rattle.balancing.specs.Assigned.{given_at, given_from}
+use Rattle.balancing.specs.Assigned.{given_at_by, given_from_by}
 use Rattle.balancing.specs.declared.groups.Part.{Part}
 use Rattle.balancing.specs.Load.{moved_on, moved_of_group, group_cause, fault_at, fault_of_group, first_fault}
 use Rattle.entry_balance.specs.Settled.{AreSettled}
@@ -39,10 +40,10 @@ abbrev pub moved_when : Part → ℕ → Txn → Posting → List Value
 moved_when part day t p = if is_chosen part day t p then moved_by p else []
 
 -- The assignments of a group's transaction were made after other postings, or what is moved through it is out of range.
-pub record IsGiven (written : List Txn) (seen : List Posting) (g : Group) (own below : Keeping) (txns : List Txn) (causes : List (Option Cause)) (fault : Option Fault) : Type 0 where
-  pub settled : fault ≡ None → AreSettled (given_at seen g.1 written) txns causes
+pub record IsGiven (enter : Decimal → Decimal) (written : List Txn) (seen : List Posting) (g : Group) (own below : Keeping) (txns : List Txn) (causes : List (Option Cause)) (fault : Option Fault) : Type 0 where
+  pub settled : fault ≡ None → AreSettled (given_at_by enter seen g.1 written) txns causes
   pub asked : fault ≡ None → are_asked own below txns ≡ true
-  pub range : is_some fault ≡ true → fault ≡ fault_of_group (moved seen) g.0 (slice_get (given_at seen g.1 written) g.1)
+  pub range : is_some fault ≡ true → fault ≡ fault_of_group (moved seen) g.0 (slice_get (given_at_by enter seen g.1 written) g.1)
 
 -- what some groups move, one after another
 abbrev pub moved_before : List Txn → List Value → List Group → List Value
@@ -84,17 +85,17 @@ abbrev pub AreOwn : List Txn → List Group → Type 0
 AreOwn txns groups = AllByRecursion (λ g. IsOwn g.0 (slice_get txns g.1)) groups
 
 -- The assignments are made up to some groups: those that are left lead to the transactions with all of them.
-pub record AreGiven (all now txns : List Txn) (causes : List (Option Cause)) (seen : List Posting) (left : List Group) (own below : Keeping) : Type 0 where
-  pub rest : given_from now seen left ≡ all
+pub record AreGiven (enter : Decimal → Decimal) (all now txns : List Txn) (causes : List (Option Cause)) (seen : List Posting) (left : List Group) (own below : Keeping) : Type 0 where
+  pub rest : given_from_by enter now seen left ≡ all
   pub owned : AreOwn now left
   pub settled : AreSettled now txns causes
   pub asked : are_asked own below txns ≡ true
 
 -- What is known after one more group: its answer, and without a fault the assignments are made through it, and the
 -- turnover and the balances have it.
-pub record IsAfter (all now txns : List Txn) (causes : List (Option Cause)) (seen : List Posting) (g : Group) (left : List Group) (sums : List Value) (own below : Keeping) (fault : Option Fault) : Type 0 where
+pub record IsAfter (enter : Decimal → Decimal) (all now txns : List Txn) (causes : List (Option Cause)) (seen : List Posting) (g : Group) (left : List Group) (sums : List Value) (own below : Keeping) (fault : Option Fault) : Type 0 where
   pub passed : IsPassed all (moved seen) seen g sums own below fault
-  pub given : fault ≡ None → AreGiven all (given_at seen g.1 now) txns causes (seen ++ postings_of_group g.0 (slice_get all g.1)) left own below
+  pub given : fault ≡ None → AreGiven enter all (given_at_by enter seen g.1 now) txns causes (seen ++ postings_of_group g.0 (slice_get all g.1)) left own below
 
 -- The fault of the first group that has one; without a fault the transactions are settled, and all that is moved is
 -- within the bound.

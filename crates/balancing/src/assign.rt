@@ -2,14 +2,17 @@
 ghost use Rattle.std.specs.Prelude.{◌≡◌, ◌++◌, true, false, Some, List, OnOk, IfOk, IfErr, IsSomeAnd};
 ghost use Rattle.std.specs.List.{list_all};
 ghost use Rattle.book.specs.declared.transaction.Posting.{Posting};
-ghost use Rattle.entry_balance.specs.Values.{Value};
+ghost use Rattle.hl_num.specs.Decimal.{units_of};
+ghost use Rattle.entry_balance.specs.Values.{Value, trimmed};
 ghost use Rattle.entry_balance.specs.Entry.{moved};
 ghost use Rattle.entry_balance.specs.Tally.{sums_of, total_of, turnover_fits, IsRange};
 ghost use Rattle.assertions.specs.Assertions.{held_in};
-ghost use Rattle.balancing.specs.Assigned.{given_posting, given_postings};
-ghost use Rattle.balancing.specs.Giving.{IsReady, IsHeld, IsGivenNext, given_next, given_with, value_after, fits_after};
+ghost use Rattle.balancing.specs.Assigned.{given_posting_by, given_postings_by};
+ghost use Rattle.balancing.specs.Entering.{entering};
+ghost use Rattle.balancing.specs.Giving.{IsReady, IsHeld, IsGivenNext, given_next, given_with, value_after, value_after_by, fits_after, fits_after_by};
 ghost use Rattle.assertions.specs.Kept.{IsBalance, is_asked};
 
+use crate::form::Form;
 use assertions::{Balances, add_posting, asked_by, asked_for, total_in};
 use book::{Amount, Assertion, Posting};
 use entry_balance::{TallyFault, checked_sum, plain_amount};
@@ -20,15 +23,18 @@ use std::alloc::Global;
 /// The postings of a transaction with their assignments made, one after another, by what the accounts hold before it.
 pub(crate) fn assign(
     alloc: Global,
+    form: Form,
     balances: &Balances,
     postings: List<Posting>,
 ) -> Result<List<Posting>, TallyFault>
-    ensures given { IfOk result (λ given. (seen : List Posting) → IsBalance seen balances.now.own balances.now.below
+    ensures given { IfOk result (λ given. (seen : List Posting)
+        → IsBalance seen balances.now.own balances.now.below
         → list_all (is_asked balances.now.own balances.now.below) postings ≡ true
-        → given ≡ given_postings seen postings) }
-    ensures range { IfErr result (λ e. IsRange e → (seen : List Posting) → IsBalance seen balances.now.own balances.now.below
+        → given ≡ given_postings_by (entering form) seen postings) }
+    ensures range { IfErr result (λ e. IsRange e → (seen : List Posting)
+        → IsBalance seen balances.now.own balances.now.below
         → list_all (is_asked balances.now.own balances.now.below) postings ≡ true
-        → turnover_fits (moved (seen ++ given_postings seen postings)) ≡ false) }
+        → turnover_fits (moved (seen ++ given_postings_by (entering form) seen postings)) ≡ false) }
 {
     let mut here = match asked_by(alloc, postings.as_slice()) {
         Ok(here) => here,
@@ -39,7 +45,7 @@ pub(crate) fn assign(
         Err(_) => return Err(TallyFault::Memory),
     };
     for posting in postings.into_vec() {
-        match give_next(alloc, balances, &mut here, &mut given, posting) {
+        match give_next(alloc, form, balances, &mut here, &mut given, posting) {
             Ok(()) => {}
             Err(fault) => return Err(fault),
         }
@@ -50,21 +56,25 @@ pub(crate) fn assign(
 /// Gives one more posting, and adds it to what the postings before it came to.
 fn give_next(
     alloc: Global,
+    form: Form,
     balances: &Balances,
     here: &mut Balances,
     given: &mut Vec<Posting>,
     posting: Posting,
 ) -> Result<(), TallyFault>
     ensures given { OnOk result ((seen : List Posting)
-        → IsReady seen given.old.items posting balances.now.own balances.now.below here.old.own here.old.below
-        → IsGivenNext (seen ++ given.old.items) posting given.old.items given.new.items here.new.own here.new.below) }
+        → IsReady seen given.old.items posting balances.now.own balances.now.below here.old.own
+        here.old.below
+        → IsGivenNext (entering form) (seen
+        ++ given.old.items) posting given.old.items given.new.items here.new.own here.new.below) }
     ensures own { OnOk result (here.new.own.1 ≡ here.old.own.1) }
     ensures below { OnOk result (here.new.below.1 ≡ here.old.below.1) }
     ensures range { IfErr result (λ e. IsRange e → (seen : List Posting)
-        → IsReady seen given.old.items posting balances.now.own balances.now.below here.old.own here.old.below
-        → turnover_fits (moved (given_next seen given.old.items posting)) ≡ false) }
+        → IsReady seen given.old.items posting balances.now.own balances.now.below here.old.own
+        here.old.below
+        → turnover_fits (moved (given_next (entering form) seen given.old.items posting)) ≡ false) }
 {
-    let posting = match give_one(alloc, balances, here, posting) {
+    let posting = match give_one(alloc, form, balances, here, posting) {
         Ok(posting) => posting,
         Err(fault) => return Err(fault),
     };
@@ -81,18 +91,20 @@ fn give_next(
 /// A posting with its assignment made, if it is one.
 fn give_one(
     alloc: Global,
+    form: Form,
     balances: &Balances,
     here: &Balances,
     posting: Posting,
 ) -> Result<Posting, TallyFault>
     ensures given { IfOk result (λ p. (seen done : List Posting)
         → IsReady seen done posting balances.now.own balances.now.below here.now.own here.now.below
-        → p ≡ given_posting (seen ++ done) posting posting.amount posting.wanted) }
+        → p ≡ given_posting_by (entering form) (seen
+        ++ done) posting posting.amount posting.wanted) }
     ensures range { IfErr result (λ e. IsRange e → (seen done : List Posting)
         → IsReady seen done posting balances.now.own balances.now.below here.now.own here.now.below
-        → turnover_fits (moved (given_next seen done posting)) ≡ false) }
+        → turnover_fits (moved (given_next (entering form) seen done posting)) ≡ false) }
 {
-    match assigned_amount(alloc, balances, here, &posting) {
+    match assigned_amount(alloc, form, balances, here, &posting) {
         Ok(Some(amount)) => Ok(with_amount(posting, amount)),
         Ok(None) => Ok(posting),
         Err(fault) => Err(fault),
@@ -113,16 +125,21 @@ pub fn with_amount(mut posting: Posting, amount: Amount) -> Posting
 /// The amount that a posting is assigned, if it is an assignment.
 fn assigned_amount(
     alloc: Global,
+    form: Form,
     balances: &Balances,
     here: &Balances,
     posting: &Posting,
 ) -> Result<Option<Amount>, TallyFault>
     ensures given { IfOk result (λ amount. (seen done : List Posting)
-        → IsReady seen done posting.now balances.now.own balances.now.below here.now.own here.now.below
-        → given_with posting.now amount ≡ given_posting (seen ++ done) posting.now posting.now.amount posting.now.wanted) }
+        → IsReady seen done posting.now balances.now.own balances.now.below here.now.own
+        here.now.below
+        → given_with posting.now amount
+        ≡ given_posting_by (entering form) (seen
+        ++ done) posting.now posting.now.amount posting.now.wanted) }
     ensures range { IfErr result (λ e. IsRange e → (seen done : List Posting)
-        → IsReady seen done posting.now balances.now.own balances.now.below here.now.own here.now.below
-        → turnover_fits (moved (given_next seen done posting.now)) ≡ false) }
+        → IsReady seen done posting.now balances.now.own balances.now.below here.now.own
+        here.now.below
+        → turnover_fits (moved (given_next (entering form) seen done posting.now)) ≡ false) }
 {
     if posting.amount.is_some() {
         return Ok(None);
@@ -130,7 +147,13 @@ fn assigned_amount(
     match &posting.wanted {
         Some(wanted) => {
             let wanted = wanted.get();
-            let value = match assigned_value(balances, here, posting.account.as_bytes(), wanted) {
+            let value = match assigned_value(
+                form,
+                balances,
+                here,
+                posting.account.as_bytes(),
+                wanted,
+            ) {
                 Ok(value) => value,
                 Err(fault) => return Err(fault),
             };
@@ -145,21 +168,81 @@ fn assigned_amount(
 
 /// What is wanted of an account, less what it holds before a transaction and by the transaction's postings so far.
 fn assigned_value(
+    form: Form,
     balances: &Balances,
     here: &Balances,
     account: &[u8],
     wanted: &Assertion,
 ) -> Result<Dec, TallyFault>
     ensures value { IfOk result (λ value. (seen done : List Posting)
-        → IsHeld seen done account.now wanted.now.below balances.now.own balances.now.below here.now.own here.now.below
-        → value ≡ value_after (held_in wanted.now.below account.now (seen ++ done)) wanted.now.amount) }
+        → IsHeld seen done account.now wanted.now.below balances.now.own balances.now.below
+        here.now.own here.now.below
+        → value ≡ value_after_by (entering form) (held_in wanted.now.below account.now (seen
+        ++ done)) wanted.now.amount) }
     ensures range { IfErr result (λ e. IsRange e → (seen done : List Posting)
-        → IsHeld seen done account.now wanted.now.below balances.now.own balances.now.below here.now.own here.now.below
-        → fits_after (held_in wanted.now.below account.now (seen ++ done)) wanted.now.amount ≡ false) }
+        → IsHeld seen done account.now wanted.now.below balances.now.own balances.now.below
+        here.now.own here.now.below
+        → fits_after_by (entering form) (held_in wanted.now.below account.now (seen
+        ++ done)) wanted.now.amount ≡ false) }
 {
     let symbol = wanted.amount.symbol.as_str();
     let before = total_in(asked_for(balances, account, wanted.below), symbol);
     let so_far = total_in(asked_for(here, account, wanted.below), symbol);
     let held = checked_sum(before, so_far)?;
-    checked_sum(wanted.amount.value, held.negated())
+    difference_in(form, &wanted.amount, held)
+}
+
+/// What is wanted of an account, less what it holds, which enters with as few decimals as it needs. So the amount has
+/// the decimals that are wanted, or more where its value needs them, however the account's sum was added up.
+pub fn difference(wanted: &Amount, held: Dec) -> Result<Dec, TallyFault>
+    ensures value { IfOk result (λ value. (values : List Value)
+        → held ≡ total_of wanted.now.symbol values
+        → value ≡ value_after values wanted.now) }
+    ensures range { IfErr result (λ e. IsRange e → (values : List Value)
+        → held ≡ total_of wanted.now.symbol values
+        → fits_after values wanted.now ≡ false) }
+{
+    difference_in(Form::Shortened, wanted, held)
+}
+
+/// The same in a form.
+fn difference_in(form: Form, wanted: &Amount, held: Dec) -> Result<Dec, TallyFault>
+    ensures value { IfOk result (λ value. (values : List Value)
+        → held ≡ total_of wanted.now.symbol values
+        → value ≡ value_after_by (entering form) values wanted.now) }
+    ensures range { IfErr result (λ e. IsRange e → (values : List Value)
+        → held ≡ total_of wanted.now.symbol values
+        → fits_after_by (entering form) values wanted.now ≡ false) }
+{
+    let _decimals = held.decimals();
+    checked_sum(wanted.value, entered(form, held).negated())
+}
+
+/// An account's sum as it enters in a form.
+fn entered(form: Form, held: Dec) -> Dec
+    ensures { result ≡ entering form held }
+{
+    match form {
+        Form::Shortened => shortened(held),
+        Form::Whole => held,
+    }
+}
+
+/// A number with as few decimals as it needs.
+pub fn shortened(number: Dec) -> Dec
+    ensures { result ≡ trimmed (units_of number) 36 }
+{
+    let _decimals = number.decimals();
+    let _magnitude = number.magnitude();
+    let one = Dec {
+        mantissa: 1,
+        places: 0,
+    };
+    match number.mul(one) {
+        Ok(same) => {
+            let _places = same.decimals();
+            same
+        }
+        Err(_) => unreachable!(),
+    }
 }

@@ -25,12 +25,14 @@ pub(crate) fn claim_group(
     txn: &Txn,
     day: u32,
 ) -> Result<Option<Fault>, TallyFault>
-    ensures ok { IfOk result (λ fault. (seen : List Posting) → IsBalance seen balances.old.own balances.old.below
+    ensures ok { IfOk result (λ fault. (seen : List Posting)
+        → IsBalance seen balances.old.own balances.old.below
         → list_all (is_asked balances.old.own balances.old.below) txn.now.postings ≡ true
         → AreClaimed seen (postings_on day txn.now) balances.new.own balances.new.below fault) }
     ensures own { IfOk result (λ fault. balances.new.own.1 ≡ balances.old.own.1) }
     ensures below { IfOk result (λ fault. balances.new.below.1 ≡ balances.old.below.1) }
-    ensures range { IfErr result (λ e. IsRange e → (seen : List Posting) → IsBalance seen balances.old.own balances.old.below
+    ensures range { IfErr result (λ e. IsRange e → (seen : List Posting)
+        → IsBalance seen balances.old.own balances.old.below
         → list_all (is_asked balances.old.own balances.old.below) txn.now.postings ≡ true
         → turnover_fits (moved (seen ++ postings_on day txn.now)) ≡ false) }
 {
@@ -53,12 +55,14 @@ fn claim_part(
     day: u32,
     part: Part,
 ) -> Result<Option<Fault>, TallyFault>
-    ensures ok { IfOk result (λ fault. (seen : List Posting) → IsBalance seen balances.old.own balances.old.below
+    ensures ok { IfOk result (λ fault. (seen : List Posting)
+        → IsBalance seen balances.old.own balances.old.below
         → list_all (is_asked balances.old.own balances.old.below) txn.now.postings ≡ true
         → AreClaimed seen (part_on part day txn.now) balances.new.own balances.new.below fault) }
     ensures own { IfOk result (λ fault. balances.new.own.1 ≡ balances.old.own.1) }
     ensures below { IfOk result (λ fault. balances.new.below.1 ≡ balances.old.below.1) }
-    ensures range { IfErr result (λ e. IsRange e → (seen : List Posting) → IsBalance seen balances.old.own balances.old.below
+    ensures range { IfErr result (λ e. IsRange e → (seen : List Posting)
+        → IsBalance seen balances.old.own balances.old.below
         → list_all (is_asked balances.old.own balances.old.below) txn.now.postings ≡ true
         → turnover_fits (moved (seen ++ part_on part day txn.now)) ≡ false) }
 {

@@ -66,7 +66,8 @@ pub fn has_assigned(postings: &[Posting]) -> bool
 /// Notes the groups of a transaction.
 pub(crate) fn note_groups(groups: &mut Vec<Group>, txn: &Txn, number: usize) -> Result<(), Memory>
     ensures { OnOk result ((rest : List Group) → each_once group_cmp (groups.new.items ++ rest)
-        ≡ each_once group_cmp (groups.old.items ++ (groups_by number txn.now txn.now.postings ++ rest))) }
+        ≡ each_once group_cmp (groups.old.items
+        ++ (groups_by number txn.now txn.now.postings ++ rest))) }
 {
     if txn.postings.is_empty() {
         return note(groups, (txn.day.0, number));
@@ -154,7 +155,8 @@ fn sorted(alloc: Global, groups: &[Group]) -> Result<Vec<Group>, Memory>
 /// Puts a group into a set.
 fn insert_at(set: &mut BTreeSet<Group>, groups: &[Group], at: usize) -> Result<(), Memory>
     requires { at < length groups.now }
-    ensures { OnOk result ((d : Group) → set.new.keys ≡ insert_key group_cmp set.old.keys (slice_index_or groups.now at d)) }
+    ensures { OnOk result ((d : Group)
+        → set.new.keys ≡ insert_key group_cmp set.old.keys (slice_index_or groups.now at d)) }
 {
     let group = groups[at];
     set.insert(group)?;

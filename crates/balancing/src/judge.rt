@@ -12,8 +12,7 @@ ghost use Rattle.balancing.specs.Walk.{IsJudged, moved_when};
 
 use crate::groups::{Part, has_assigned, is_chosen};
 use crate::moves::Moves;
-use assertions::copied_amount;
-use book::{Boxed, Cause, Fault, Posting, Txn};
+use book::{Boxed, Cause, Fault, Posting, Txn, copied_amount};
 use entry_balance::{TallyFault, absolute, cost_of, costs_fit};
 use hl_base::{Memory, Text};
 use hl_num::Dec;
@@ -27,8 +26,10 @@ pub(crate) fn judge(
     day: u32,
     cause: &Option<Boxed<Cause>>,
 ) -> Result<Option<Fault>, Memory>
-    ensures { IfOk result (λ fault. (lacks_sums cause.now ≡ false → costs_fit txn.now.postings ≡ true)
-        → (before : List Value) → IsTurnover before totals.old → IsJudged before day txn.now cause.now totals.new fault) }
+    ensures { IfOk result (λ fault.
+        (lacks_sums cause.now ≡ false → costs_fit txn.now.postings ≡ true)
+        → (before : List Value) → IsTurnover before totals.old
+        → IsJudged before day txn.now cause.now totals.new fault) }
 {
     if lacks_sums(cause) || !costs_fit(txn.postings.as_slice()) {
         return own_fault(alloc, txn.line, cause);
@@ -78,7 +79,8 @@ fn add_group(alloc: Global, totals: &mut Moves, txn: &Txn, day: u32) -> Result<(
     requires { costs_fit txn.now.postings ≡ true }
     ensures ok { OnOk result ((before : List Value) → IsTurnover before totals.old
         → IsTurnover (before ++ moved_on day txn.now) totals.new) }
-    ensures range { IfErr result (λ e. IsRange e → (before : List Value) → IsTurnover before totals.old
+    ensures range { IfErr result (λ e. IsRange e → (before : List Value)
+        → IsTurnover before totals.old
         → turnover_fits (before ++ moved_on day txn.now) ≡ false) }
 {
     if !has_assigned(txn.postings.as_slice()) {
@@ -101,7 +103,8 @@ fn add_part(
     requires { costs_fit txn.now.postings ≡ true }
     ensures ok { OnOk result ((before : List Value) → IsTurnover before totals.old
         → IsTurnover (before ++ moved (part_on part day txn.now)) totals.new) }
-    ensures range { IfErr result (λ e. IsRange e → (before : List Value) → IsTurnover before totals.old
+    ensures range { IfErr result (λ e. IsRange e → (before : List Value)
+        → IsTurnover before totals.old
         → turnover_fits (before ++ moved (part_on part day txn.now)) ≡ false) }
 {
     for posting in txn.postings.as_slice() {
@@ -125,7 +128,8 @@ fn add_chosen(
     requires { amount_cost_fits posting.now.amount posting.now.cost ≡ true }
     ensures ok { OnOk result ((before : List Value) → IsTurnover before totals.old
         → IsTurnover (before ++ moved_when part day txn.now posting.now) totals.new) }
-    ensures range { IfErr result (λ e. IsRange e → (before : List Value) → IsTurnover before totals.old
+    ensures range { IfErr result (λ e. IsRange e → (before : List Value)
+        → IsTurnover before totals.old
         → turnover_fits (before ++ moved_when part day txn.now posting.now) ≡ false) }
 {
     if is_chosen(part, txn, posting, day) {
@@ -140,7 +144,8 @@ fn add_moved(alloc: Global, totals: &mut Moves, posting: &Posting) -> Result<(),
     requires { amount_cost_fits posting.now.amount posting.now.cost ≡ true }
     ensures ok { OnOk result ((before : List Value) → IsTurnover before totals.old
         → IsTurnover (before ++ moved_by posting.now) totals.new) }
-    ensures range { IfErr result (λ e. IsRange e → (before : List Value) → IsTurnover before totals.old
+    ensures range { IfErr result (λ e. IsRange e → (before : List Value)
+        → IsTurnover before totals.old
         → turnover_fits (before ++ moved_by posting.now) ≡ false) }
 {
     match &posting.amount {
@@ -165,7 +170,8 @@ fn add_moved(alloc: Global, totals: &mut Moves, posting: &Posting) -> Result<(),
 fn add_value(alloc: Global, totals: &mut Moves, symbol: &str, number: Dec) -> Result<(), TallyFault>
     ensures ok { OnOk result ((before : List Value) → IsTurnover before totals.old
         → IsTurnover (before ++ (symbol.now, number) ∷ []) totals.new) }
-    ensures range { IfErr result (λ e. IsRange e → (before : List Value) → IsTurnover before totals.old
+    ensures range { IfErr result (λ e. IsRange e → (before : List Value)
+        → IsTurnover before totals.old
         → turnover_fits (before ++ (symbol.now, number) ∷ []) ≡ false) }
 {
     let _decimals = number.decimals();

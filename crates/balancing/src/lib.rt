@@ -4,13 +4,15 @@
 pub mod assign;
 mod claims;
 pub mod fault;
+mod form;
 pub mod groups;
 mod judge;
 mod laws;
 mod moves;
 mod walk;
+mod written;
 
-pub use assign::with_amount;
+pub use assign::{difference, shortened, with_amount};
 pub use entry_balance::{BalanceFault, balance_txn};
 pub use fault::CheckFault;
 pub use groups::{Part, has_assigned, is_in};

@@ -49,7 +49,8 @@ impl Moves {
     pub(crate) fn add(&mut self, alloc: Global, symbol: &str, value: Dec) -> Result<(), TallyFault>
         ensures ok { OnOk result (self.new ≡ added_to self.old symbol.now value) }
         ensures within { OnOk result (are_within self.old ≡ true → are_within self.new ≡ true) }
-        ensures range { IfErr result (λ e. IsRange e → fits_with (held symbol.now self.old) value ≡ false) }
+        ensures range { IfErr result (λ e. IsRange e
+            → fits_with (held symbol.now self.old) value ≡ false) }
     {
         if self.many {
             return self.totals.add(alloc, symbol, value);
@@ -81,8 +82,10 @@ fn add_to_only(
 ) -> Result<(), TallyFault>
     requires { takes only.old symbol.now ≡ true }
     ensures ok { OnOk result (single only.new ≡ added_to (single only.old) symbol.now value) }
-    ensures within { OnOk result (are_within (single only.old) ≡ true → are_within (single only.new) ≡ true) }
-    ensures range { IfErr result (λ e. IsRange e → fits_with (held symbol.now (single only.old)) value ≡ false) }
+    ensures within { OnOk result (are_within (single only.old) ≡ true
+        → are_within (single only.new) ≡ true) }
+    ensures range { IfErr result (λ e. IsRange e
+        → fits_with (held symbol.now (single only.old)) value ≡ false) }
 {
     match only.take() {
         Some((name, sum)) => {
@@ -121,8 +124,10 @@ fn add_beside(
     requires other { takes only.now symbol.now ≡ false }
     requires empty { totals.old ≡ [] }
     ensures ok { OnOk result (totals.new ≡ added_to (single only.now) symbol.now value) }
-    ensures within { OnOk result (are_within (single only.now) ≡ true → are_within totals.new ≡ true) }
-    ensures range { IfErr result (λ e. IsRange e → fits_with (held symbol.now (single only.now)) value ≡ false) }
+    ensures within { OnOk result (are_within (single only.now) ≡ true
+        → are_within totals.new ≡ true) }
+    ensures range { IfErr result (λ e. IsRange e
+        → fits_with (held symbol.now (single only.now)) value ≡ false) }
 {
     match only {
         Some(sum) => {

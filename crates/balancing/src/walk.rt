@@ -1,6 +1,6 @@
 //! The check of a text's items, which makes its book.
 ghost use Rattle.std.specs.List.{list_all, slice_get};
-ghost use Rattle.std.specs.Prelude.{◌≡◌, ◌||◌, ◌++◌, ◌∷◌, [], ◌<◌, List, ℕ, length, slice_set, true, false, Some, None, OnOk, IfOk, IfErr};
+ghost use Rattle.std.specs.Prelude.{◌≡◌, ◌||◌, ◌++◌, ◌∷◌, [], ◌<◌, List, ℕ, length, slice_set, true, false, Some, None, OnOk, IfOk, IfErr, IfSome};
 ghost use Rattle.hl_base.specs.Gives.{Gives};
 ghost use Rattle.book.specs.Bounds.{TurnoverFits};
 ghost use Rattle.book.specs.Postings.{postings_of, txns_of};
@@ -8,33 +8,35 @@ ghost use Rattle.book.specs.declared.transaction.Posting.{Posting};
 ghost use Rattle.book.specs.declared.transaction.Txn.{Txn};
 ghost use Rattle.entry_balance.specs.Entry.{moved, with_postings};
 ghost use Rattle.entry_balance.specs.Tally.{turnover_fits, IsRange};
-ghost use Rattle.balancing.specs.Assigned.{given_from, given_postings, is_ready};
+ghost use Rattle.balancing.specs.Assigned.{whole, assigned_by, given_from_by, given_postings_by, is_ready};
 ghost use Rattle.balancing.specs.Check.{cause_in};
 ghost use Rattle.balancing.specs.Claims.{AreClaimed};
 ghost use Rattle.balancing.specs.Faults.{IsFaultIf};
-ghost use Rattle.balancing.specs.Groups.{Group};
-ghost use Rattle.balancing.specs.Load.{load};
+ghost use Rattle.balancing.specs.Back.{IsKept, txns_back, causes_back};
+ghost use Rattle.balancing.specs.Entering.{entering};
+ghost use Rattle.balancing.specs.Groups.{Group, groups_of};
+ghost use Rattle.balancing.specs.Load.{book_of, carries_sum, told_by, told_if, load};
 ghost use Rattle.balancing.specs.Solves.{IsSolution, HaveFew, are_unmarked};
 ghost use Rattle.entry_balance.specs.Settled.{AreSettled, IsSettled};
 ghost use Rattle.assertions.specs.Kept.{IsBalance, are_asked, is_asked};
 ghost use Rattle.balancing.specs.Wanting.{any_wanted, has_wanted, wants};
-ghost use Rattle.balancing.specs.Walk.{IsRead, IsTold, AreGiven, AreOwn, IsOwn, IsAfter, IsGiven, IsVisited, IsPassed, group_in};
+ghost use Rattle.balancing.specs.Walk.{IsRead, IsTold, AreOwn, IsOwn, IsGiven, IsVisited, IsPassed, group_in};
 ghost use Rattle.entry_balance.specs.Turnover.{IsTurnover};
 ghost use Rattle.entry_balance.specs.Values.{Value};
 
 use crate::assign::assign;
 use crate::claims::claim_group;
 use crate::fault::CheckFault;
+use crate::form::Form;
 use crate::groups::{Group, in_order, note_groups};
 use crate::judge::judge;
 use crate::moves::Moves;
+use crate::written::{Written, keep, put_back};
 use assertions::{Balances, asked};
-use book::{Book, Boxed, Cause, Fault, Item, Items, Mark, Placed, Posting, Txn};
+use book::{Book, Boxed, Cause, Fault, Item, Items, Placed, Posting, Txn, copied_txn};
 use entry_balance::{Settled, TallyFault, is_assignable, settle};
-use hl_base::{List, Memory, Text};
-use hl_time::Day;
+use hl_base::{List, Memory};
 use std::alloc::Global;
-use std::mem::replace;
 
 /// The book of a text's items: its transactions in their order, each balanced. Else the fault of the first group, by
 /// day and then by transaction, that has one, a group being the postings of one transaction on one day: two missing
@@ -46,7 +48,8 @@ pub fn check(alloc: Global, items: Items) -> Result<Book, CheckFault>
     ensures fits { IfOk result (λ book. TurnoverFits (postings_of book.txns)) }
     ensures few { IfOk result (λ book. HaveFew book.txns) }
     ensures solves { IfOk result (λ book. IsSolution (txns_of items) book.txns) }
-    ensures fault { IfErr result (λ e. are_unmarked (txns_of items) ≡ true → IsFaultIf (txns_of items) (cause_in e)) }
+    ensures fault { IfErr result (λ e. are_unmarked (txns_of items) ≡ true
+        → IsFaultIf (txns_of items) (cause_in e)) }
 {
     let Entries {
         mut txns,
@@ -61,12 +64,79 @@ pub fn check(alloc: Global, items: Items) -> Result<Book, CheckFault>
         Ok(groups) => groups,
         Err(Memory) => return Err(CheckFault::Memory),
     };
-    match first_fault(alloc, &mut txns, &mut causes, &groups, asks) {
+    let kept = Vec::new(alloc);
+    let mut making = Making {
+        form: Form::Shortened,
+        kept,
+    };
+    match first_fault(alloc, &mut making, &mut txns, &mut causes, &groups, asks) {
         Ok(None) => Ok(Book {
             txns: List::from_vec(txns),
         }),
-        Ok(Some(fault)) => Err(CheckFault::Journal(fault)),
+        Ok(Some(fault)) => {
+            let entries = Entries {
+                txns,
+                causes,
+                groups,
+                asks,
+            };
+            Err(told(alloc, fault, making.kept, entries))
+        }
         Err(Memory) => Err(CheckFault::Memory),
+    }
+}
+
+/// The fault that is told in place of one, by what is kept of the transactions as they are written: itself, or where it
+/// carries a sum the one that has all its decimals.
+fn told(alloc: Global, fault: Fault, kept: Vec<Written>, entries: Entries) -> CheckFault
+    requires { entries.asks ≡ false → any_wanted (txns_back kept.items entries.txns.items) ≡ false }
+    ensures { IfSome (cause_in result) (λ told. (written : List Txn)
+        → AreSettled written (txns_back kept.items entries.txns.items)
+        (causes_back kept.items entries.causes.items)
+        → entries.groups.items ≡ groups_of written
+        → told ≡ told_by fault (book_of (assigned_by whole written))) }
+{
+    if carries_sum(&fault) {
+        told_whole(alloc, fault, kept, entries)
+    } else {
+        CheckFault::Journal(fault)
+    }
+}
+
+/// Whether a fault carries a sum.
+fn carries_sum(fault: &Fault) -> bool
+    ensures { result ≡ carries_sum fault.now.cause }
+{
+    matches!(
+        &fault.cause,
+        Cause::Unbalanced { .. } | Cause::AssertionFailed { .. }
+    )
+}
+
+/// The fault of the walk in which sums enter assigned amounts whole, in place of one.
+fn told_whole(alloc: Global, fault: Fault, kept: Vec<Written>, entries: Entries) -> CheckFault
+    requires { entries.asks ≡ false → any_wanted (txns_back kept.items entries.txns.items) ≡ false }
+    ensures { IfSome (cause_in result) (λ told. (written : List Txn)
+        → AreSettled written (txns_back kept.items entries.txns.items)
+        (causes_back kept.items entries.causes.items)
+        → entries.groups.items ≡ groups_of written
+        → told ≡ told_if true fault (book_of (assigned_by whole written))) }
+{
+    let Entries {
+        mut txns,
+        mut causes,
+        groups,
+        asks,
+    } = entries;
+    put_back(&mut txns, &mut causes, kept);
+    let mut making = Making {
+        form: Form::Whole,
+        kept: Vec::new(alloc),
+    };
+    match first_fault(alloc, &mut making, &mut txns, &mut causes, &groups, asks) {
+        Ok(Some(told)) => CheckFault::Journal(told),
+        Ok(None) => CheckFault::Journal(fault),
+        Err(Memory) => CheckFault::Memory,
     }
 }
 
@@ -82,7 +152,8 @@ struct Entries {
 
 /// Settles each transaction of a text.
 fn settle_items(alloc: Global, items: Items) -> Result<Entries, Memory>
-    ensures read { IfOk result (λ entries. IsRead (txns_of items) entries.txns.items entries.causes.items entries.groups.items) }
+    ensures read { IfOk result (λ entries.
+        IsRead (txns_of items) entries.txns.items entries.causes.items entries.groups.items) }
     ensures asks { IfOk result (λ entries. entries.asks ≡ any_wanted entries.txns.items) }
 {
     let count = items.len();
@@ -103,8 +174,10 @@ fn settle_items(alloc: Global, items: Items) -> Result<Entries, Memory>
 
 /// Settles one more transaction.
 fn settle_txn(alloc: Global, entries: &mut Entries, txn: Txn) -> Result<(), Memory>
-    ensures read { OnOk result ((written : List Txn) → IsRead written entries.old.txns.items entries.old.causes.items entries.old.groups.items
-        → IsRead (written ++ txn ∷ []) entries.new.txns.items entries.new.causes.items entries.new.groups.items) }
+    ensures read { OnOk result ((written : List Txn)
+        → IsRead written entries.old.txns.items entries.old.causes.items entries.old.groups.items
+        → IsRead (written ++ txn
+        ∷ []) entries.new.txns.items entries.new.causes.items entries.new.groups.items) }
     ensures asks { OnOk result (entries.old.asks ≡ any_wanted entries.old.txns.items
         → entries.new.asks ≡ any_wanted entries.new.txns.items) }
 {
@@ -142,7 +215,8 @@ fn asks_with(before: bool, postings: &[Posting]) -> bool
 fn balances_of(alloc: Global, txns: &[Txn], asks: bool) -> Result<Balances, Memory>
     requires { asks ≡ false → any_wanted txns.now ≡ false }
     ensures fresh { IfOk result (λ balances. IsBalance [] balances.own balances.below) }
-    ensures asked { IfOk result (λ balances. are_asked balances.own balances.below txns.now ≡ true) }
+    ensures asked { IfOk result (λ balances.
+        are_asked balances.own balances.below txns.now ≡ true) }
 {
     if asks {
         return asked(alloc, txns);
@@ -150,22 +224,39 @@ fn balances_of(alloc: Global, txns: &[Txn], asks: bool) -> Result<Balances, Memo
     Ok(Balances::new(alloc))
 }
 
+/// How assignments are made, and the transactions that had some, as they were before.
+#[derive(Drop)]
+struct Making {
+    form: Form,
+    kept: Vec<Written>,
+}
+
 /// The fault of the first group that has one, where the assignments of each group are made after the groups before it.
+/// What is kept then leads back to the transactions before.
 fn first_fault(
     alloc: Global,
+    making: &mut Making,
     txns: &mut Vec<Txn>,
     causes: &mut Vec<Option<Boxed<Cause>>>,
     groups: &[Group],
     asks: bool,
 ) -> Result<Option<Fault>, Memory>
     requires { asks ≡ false → any_wanted txns.old.items ≡ false }
-    ensures { IfOk result (λ fault. (written : List Txn) → AreSettled written txns.old.items causes.old.items → AreOwn written groups.now
-        → IsTold (given_from written [] groups.now) txns.new.items causes.new.items groups.now fault) }
+    ensures told { IfOk result (λ fault. (written : List Txn)
+        → AreSettled written txns.old.items causes.old.items → AreOwn written groups.now
+        → IsTold (given_from_by (entering making.old.form) written [] groups.now) txns.new.items
+        causes.new.items groups.now fault) }
+    ensures back { OnOk result (IsKept making.old.kept.items txns.old.items causes.old.items
+        making.new.kept.items txns.new.items causes.new.items) }
 {
     let mut totals = Moves::new(alloc);
     let mut balances = balances_of(alloc, txns.as_slice(), asks)?;
     for group in groups {
-        let fault = pass(alloc, &mut totals, &mut balances, txns, causes, *group)?;
+        let given = give(alloc, making, &balances, txns, causes, *group)?;
+        if given.is_some() {
+            return Ok(given);
+        }
+        let fault = pass_given(alloc, &mut totals, &mut balances, txns, causes, *group)?;
         if fault.is_some() {
             return Ok(fault);
         }
@@ -173,52 +264,39 @@ fn first_fault(
     Ok(None)
 }
 
-/// Makes the assignments of a group's transaction. The fault of the group or of its first assertion that fails, else
-/// adds what it moves.
-fn pass(
-    alloc: Global,
-    totals: &mut Moves,
-    balances: &mut Balances,
-    txns: &mut Vec<Txn>,
-    causes: &mut Vec<Option<Boxed<Cause>>>,
-    group: Group,
-) -> Result<Option<Fault>, Memory>
-    ensures { IfOk result (λ fault. (all now : List Txn) (seen : List Posting) (left : List Group)
-        → AreGiven all now txns.old.items causes.old.items seen (group ∷ left) balances.old.own balances.old.below
-        → IsTurnover (moved seen) totals.old → IsBalance seen balances.old.own balances.old.below
-        → IsAfter all now txns.new.items causes.new.items seen group left totals.new balances.new.own balances.new.below fault) }
-{
-    match give(alloc, balances, txns, causes, group) {
-        Ok(None) => pass_given(alloc, totals, balances, txns, causes, group),
-        Ok(Some(fault)) => Ok(Some(fault)),
-        Err(Memory) => Err(Memory),
-    }
-}
-
-/// Makes the assignments of a group's transaction, if it has some that can be made. `range` where they or the sums of
-/// the accounts that they ask for are out of range.
+/// Makes the assignments of a group's transaction, if it has some that can be made, and keeps it as it was. `range` where
+/// they or the sums of the accounts that they ask for are out of range.
 fn give(
     alloc: Global,
+    making: &mut Making,
     balances: &Balances,
     txns: &mut Vec<Txn>,
     causes: &mut Vec<Option<Boxed<Cause>>>,
     group: Group,
 ) -> Result<Option<Fault>, Memory>
-    ensures { IfOk result (λ fault. (written : List Txn) (seen : List Posting)
-        → AreSettled written txns.old.items causes.old.items → IsOwn group.0 (slice_get written group.1)
-        → IsBalance seen balances.now.own balances.now.below → are_asked balances.now.own balances.now.below txns.old.items ≡ true
-        → IsGiven written seen group balances.now.own balances.now.below txns.new.items causes.new.items fault) }
+    ensures given { IfOk result (λ fault. (written : List Txn) (seen : List Posting)
+        → AreSettled written txns.old.items causes.old.items
+        → IsOwn group.0 (slice_get written group.1)
+        → IsBalance seen balances.now.own balances.now.below
+        → are_asked balances.now.own balances.now.below txns.old.items ≡ true
+        → IsGiven (entering making.old.form) written seen group balances.now.own balances.now.below
+        txns.new.items causes.new.items fault) }
+    ensures form { OnOk result (making.new.form ≡ making.old.form) }
+    ensures back { OnOk result (IsKept making.old.kept.items txns.old.items causes.old.items
+        making.new.kept.items txns.new.items causes.new.items) }
 {
     let (_day, number) = group;
     if txns.len() <= number || causes.len() <= number {
         return Ok(None);
     }
-    if !is_assignable(txns[number].postings.as_slice()) {
+    let written = &txns[number];
+    if !is_assignable(written.postings.as_slice()) {
         return Ok(None);
     }
-    let txn = take_txn(alloc, txns, number);
+    let txn = copied_txn(alloc, written)?;
     let line = txn.line;
-    match given(alloc, balances, txn) {
+    keep(alloc, &mut making.kept, txns, causes, number)?;
+    match given(alloc, making.form, balances, txn) {
         Ok(settled) => {
             put_settled(txns, causes, number, settled);
             Ok(None)
@@ -229,16 +307,6 @@ fn give(
         })),
         Err(TallyFault::Memory) => Err(Memory),
     }
-}
-
-/// Takes a transaction out of its place.
-fn take_txn(alloc: Global, txns: &mut Vec<Txn>, number: usize) -> Txn
-    requires { number < length txns.old.items }
-    ensures taken { slice_get txns.old.items number ≡ Some result }
-    ensures places { length txns.new.items ≡ length txns.old.items }
-    ensures others { (txn : Txn) → slice_set txns.new.items number txn ≡ slice_set txns.old.items number txn }
-{
-    replace(&mut txns[number], vacant(alloc))
 }
 
 /// Puts a transaction that was settled, and what is wrong with it, into their places.
@@ -258,28 +326,18 @@ fn put_settled(
     causes[number] = cause;
 }
 
-/// A transaction that holds a place.
-fn vacant(alloc: Global) -> Txn {
-    Txn {
-        line: 0,
-        day: Day(1),
-        mark: Mark::Unmarked,
-        code: Text::new(alloc),
-        description: Text::new(alloc),
-        comment: Text::new(alloc),
-        tags: List::new(alloc),
-        postings: List::new(alloc),
-    }
-}
-
 /// A transaction with its assignments made, and what balancing finds for it then.
-fn given(alloc: Global, balances: &Balances, txn: Txn) -> Result<Settled, TallyFault>
-    ensures given { IfOk result (λ s. (seen : List Posting) → IsBalance seen balances.now.own balances.now.below
+fn given(alloc: Global, form: Form, balances: &Balances, txn: Txn) -> Result<Settled, TallyFault>
+    ensures given { IfOk result (λ s. (seen : List Posting)
+        → IsBalance seen balances.now.own balances.now.below
         → list_all (is_asked balances.now.own balances.now.below) txn.postings ≡ true
-        → IsSettled (with_postings txn (given_postings seen txn.postings)) s.txn s.cause) }
-    ensures range { IfErr result (λ e. IsRange e → (seen : List Posting) → IsBalance seen balances.now.own balances.now.below
+        → IsSettled (with_postings txn (given_postings_by (entering form) seen txn.postings)) s.txn
+        s.cause) }
+    ensures range { IfErr result (λ e. IsRange e → (seen : List Posting)
+        → IsBalance seen balances.now.own balances.now.below
         → list_all (is_asked balances.now.own balances.now.below) txn.postings ≡ true
-        → turnover_fits (moved (seen ++ given_postings seen txn.postings)) ≡ false) }
+        → turnover_fits (moved (seen ++ given_postings_by (entering form) seen txn.postings))
+        ≡ false) }
 {
     let Txn {
         line,
@@ -291,7 +349,7 @@ fn given(alloc: Global, balances: &Balances, txn: Txn) -> Result<Settled, TallyF
         tags,
         postings,
     } = txn;
-    let postings = match assign(alloc, balances, postings) {
+    let postings = match assign(alloc, form, balances, postings) {
         Ok(postings) => postings,
         Err(fault) => return Err(fault),
     };
@@ -320,13 +378,16 @@ fn pass_given(
     causes: &[Option<Boxed<Cause>>],
     group: Group,
 ) -> Result<Option<Fault>, Memory>
-    ensures passed { IfOk result (λ fault. (written : List Txn) (before : List Value) (seen : List Posting)
+    ensures passed { IfOk result (λ fault.
+        (written : List Txn) (before : List Value) (seen : List Posting)
         → AreSettled written txns.now causes.now → is_ready (slice_get written group.1) ≡ true
         → IsTurnover before totals.old → before ≡ moved seen
-        → IsBalance seen balances.old.own balances.old.below → are_asked balances.old.own balances.old.below txns.now ≡ true
+        → IsBalance seen balances.old.own balances.old.below
+        → are_asked balances.old.own balances.old.below txns.now ≡ true
         → IsPassed written before seen group totals.new balances.new.own balances.new.below fault) }
     ensures own { IfOk result (λ fault. fault ≡ None → balances.new.own.1 ≡ balances.old.own.1) }
-    ensures below { IfOk result (λ fault. fault ≡ None → balances.new.below.1 ≡ balances.old.below.1) }
+    ensures below { IfOk result (λ fault. fault ≡ None
+        → balances.new.below.1 ≡ balances.old.below.1) }
 {
     match visit(alloc, totals, txns, causes, group) {
         Ok(None) => claim_at(alloc, balances, txns, group),
@@ -342,12 +403,15 @@ fn claim_at(
     txns: &[Txn],
     group: Group,
 ) -> Result<Option<Fault>, Memory>
-    ensures claimed { IfOk result (λ fault. (seen : List Posting) → IsBalance seen balances.old.own balances.old.below
+    ensures claimed { IfOk result (λ fault. (seen : List Posting)
+        → IsBalance seen balances.old.own balances.old.below
         → are_asked balances.old.own balances.old.below txns.now ≡ true
         → turnover_fits (moved (seen ++ group_in group.0 (slice_get txns.now group.1))) ≡ true
-        → AreClaimed seen (group_in group.0 (slice_get txns.now group.1)) balances.new.own balances.new.below fault) }
+        → AreClaimed seen (group_in group.0 (slice_get txns.now group.1)) balances.new.own
+        balances.new.below fault) }
     ensures own { IfOk result (λ fault. fault ≡ None → balances.new.own.1 ≡ balances.old.own.1) }
-    ensures below { IfOk result (λ fault. fault ≡ None → balances.new.below.1 ≡ balances.old.below.1) }
+    ensures below { IfOk result (λ fault. fault ≡ None
+        → balances.new.below.1 ≡ balances.old.below.1) }
 {
     let (day, number) = group;
     if balances.is_empty() || txns.len() <= number {
@@ -372,8 +436,10 @@ fn visit(
     causes: &[Option<Boxed<Cause>>],
     group: Group,
 ) -> Result<Option<Fault>, Memory>
-    ensures { IfOk result (λ fault. (written : List Txn) (before : List Value) → AreSettled written txns.now causes.now
-        → is_ready (slice_get written group.1) ≡ true → IsTurnover before totals.old → IsVisited written before group totals.new fault) }
+    ensures { IfOk result (λ fault. (written : List Txn) (before : List Value)
+        → AreSettled written txns.now causes.now
+        → is_ready (slice_get written group.1) ≡ true → IsTurnover before totals.old
+        → IsVisited written before group totals.new fault) }
 {
     let (day, number) = group;
     if txns.len() <= number || causes.len() <= number {

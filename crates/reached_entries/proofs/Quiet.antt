@@ -13,6 +13,7 @@ use Rattle.book.specs.Mixed.{plus}
 use Rattle.book.specs.SumsBefore.{Place, is_before, is_of, placed_in, placed_from, postings_before, is_assigned}
 use Rattle.entry_balance.specs.Tally.{total_of}
 use Rattle.entry_balance.specs.Entry.{plain_amount}
+use Rattle.balancing.specs.Assigned.{shortened}
 use Rattle.balancing.specs.Solves.{Holds, HoldsIf, IsAssignedAt, IsAssertedAt, amount_at, just_after, values_before, values_of}
 use Rattle.reached_entries.specs.Reached.{AreSame, IsLeft, asks_for, counts_for}
 
@@ -154,7 +155,7 @@ assigned-same one two e same h = λ is. h is ∙ amounts e.1.wanted refl
   where
     amounts : (o : Option Assertion) → e.1.wanted ≡ o → amount_at one e.0 e.1 o ≡ amount_at two e.0 e.1 o
     amounts None q = refl
-    amounts (Some w) q = ap (λ (ps : List Posting). Some (plain_amount (w.amount.symbol, plus w.amount.value (negated (total_of w.amount.symbol (values_of ps)))))) (same.until w q)
+    amounts (Some w) q = ap (λ (ps : List Posting). Some (plain_amount (w.amount.symbol, plus w.amount.value (negated (shortened (total_of w.amount.symbol (values_of ps))))))) (same.until w q)
 
 pub asserted-same : (one two : List Txn) (e : Entry) → SameSums one two e → IsAssertedAt one e → IsAssertedAt two e
 asserted-same one two e same h = holds e.1.wanted refl h

@@ -7,7 +7,8 @@ use Rattle.book.specs.declared.transaction.Posting.{Posting}
 use Rattle.entry_balance.specs.Entry.{moved}
 use Rattle.entry_balance.specs.Tally.{turnover_fits}
 use Rattle.entry_balance.proofs.Adding.{list_all-at}
-use Rattle.balancing.specs.Assigned.{given_posting, given_postings}
+use Rattle.balancing.specs.Assigned.{given_posting_by, given_postings_by}
+use Rattle.balancing.specs.Entering.{entering}
 use Rattle.balancing.specs.Giving.{IsReady, given_next}
 use Rattle.assertions.specs.Kept.{is_asked}
 use Rattle.assertions.proofs.Balanced.{asked_same, each-stays}
@@ -30,11 +31,12 @@ loop-posting-preserved c =
       finite = tt;
       given = λ seen h asked.
           let b = c.args.balances.now in
+          let enter = entering c.args.form in
           let done = c.loop-posting.invariant.given seen h asked in
           let mine = list_all-at (is_asked b.own b.below) all (length xs) x turn.0 turn.1 (ap (list_all (is_asked b.own b.below)) whole ∙ asked) in
           let ready : IsReady seen c.loop-posting.given.items x b.own b.below old.own old.below = record { before = h; here = done.1; asked = mine; asked_here = asked_here } in
           let next = c.in-Ok-give_next.ensures.given seen ready in
-          (next.is ∙ (λ i. done.0 i ++ given_posting (seen ++ done.0 i) x x.amount x.wanted ∷ []) ∙ sym (given-push seen xs x), next.here);
+          (next.is ∙ (λ i. done.0 i ++ given_posting_by enter (seen ++ done.0 i) x x.amount x.wanted ∷ []) ∙ sym (given-push enter seen xs x), next.here);
       asked = each-stays _ _ c.args.postings (λ p e. asked_same old.own old.below new.own new.below p c.in-Ok-give_next.ensures.own c.in-Ok-give_next.ensures.below ∙ e) c.loop-posting.invariant.asked;
     }
 
@@ -49,6 +51,7 @@ returns-in-Err-give_next-clause-range c = λ range seen h asked.
     let so_far = sym (map-id xs) ∙ YieldsList-so_far yields xs c.loop-posting.posting-iterator c.loop-posting.yielded_by in
     let old = c.loop-posting.here in
     let b = c.args.balances.now in
+    let enter = entering c.args.form in
     let done = c.loop-posting.invariant.given seen h asked in
     let ready : IsReady seen c.loop-posting.given.items x b.own b.below old.own old.below = record {
       before = h;
@@ -57,8 +60,8 @@ returns-in-Err-give_next-clause-range c = λ range seen h asked.
       asked_here = list_all-at (is_asked old.own old.below) all (length xs) x turn.0 turn.1 (ap (list_all (is_asked old.own old.below)) whole ∙ c.loop-posting.invariant.asked);
     } in
     let front = front-is xs all x (sym so_far) turn.0 turn.1 in
-    through_range seen xs c.args.postings front.0 x (sym whole ∙ front.1)
-    (ap (λ (ps : List Posting). turnover_fits (moved (given_next seen ps x))) (sym done.0) ∙ c.in-Err-give_next.ensures.range range seen ready)
+    through_range enter seen xs c.args.postings front.0 x (sym whole ∙ front.1)
+    (ap (λ (ps : List Posting). turnover_fits (moved (given_next enter seen ps x))) (sym done.0) ∙ c.in-Err-give_next.ensures.range range seen ready)
 
 pub returns-clause-given : goal.returns-clause-given
 returns-clause-given c = λ seen h asked.
@@ -66,4 +69,4 @@ returns-clause-given c = λ seen h asked.
     let whole : all ≡ c.args.postings = c.into_vec-posting-items.ensures in
     let yields = YieldsList-from_vec {s = c.into_iter-posting-iterator.result} all (search rules) (search rules) in
     let end = YieldsList-end yields c.loop-posting.yielded c.loop-posting.posting-iterator c.loop-posting.yielded_by c.next.result c.next.new.self c.in-None.is c.next.ensures.steps in
-    c.from_vec.ensures ∙ (c.loop-posting.invariant.given seen h asked).0 ∙ ap (given_postings seen) (sym (map-id c.loop-posting.yielded) ∙ end.0 ∙ whole)
+    c.from_vec.ensures ∙ (c.loop-posting.invariant.given seen h asked).0 ∙ ap (given_postings_by (entering c.args.form) seen) (sym (map-id c.loop-posting.yielded) ∙ end.0 ∙ whole)

@@ -1,4 +1,4 @@
-use Rattle.std.proofs.Common.{◌≡◌, Bool, List, ◌∷◌, [], ◌++◌, ◌||◌, Option, length, sym, ap, ◌∙◌, subst, rules}
+use Rattle.std.proofs.Common.{◌≡◌, List, ◌∷◌, [], ◌++◌, ◌||◌, Option, length, sym, ap, ◌∙◌, subst, rules}
 use Rattle.book.specs.declared.fault.Cause.{Cause}
 use Rattle.book.specs.declared.transaction.Txn.{Txn}
 use Rattle.balancing.specs.Walk.{IsRead}
