@@ -2,11 +2,9 @@
 use Rattle.std.proofs.Common.{◌≡◌, ℕ, Bool, false, List, [], ◌∷◌, sym, ap, ◌∙◌}
 use Rattle.std.specs.List.{fold}
 use Rattle.std.proofs.lemmas.Bool.{false≢true}
-use Rattle.hl_num.specs.Decimal.{Decimal, add_fits, negated}
-use Rattle.book.specs.declared.amount.Amount.{Amount}
+use Rattle.hl_num.specs.Decimal.{Decimal, add_fits}
 use Rattle.book.specs.declared.transaction.Posting.{Posting}
 use Rattle.book.specs.Mixed.{plus}
-use Rattle.entry_balance.specs.Values.{Value}
 use Rattle.entry_balance.specs.Tally.{no_sum, total_of, turnover_fits}
 use Rattle.entry_balance.specs.Entry.{moved}
 use Rattle.entry_balance.proofs.Adding.{false-from}
@@ -14,8 +12,7 @@ use Rattle.entry_balance.proofs.Covers.{covered-fits, covers_same, covers_both}
 use Rattle.entry_balance.proofs.Turnover.{numbers-here, plus_none}
 use Rattle.assertions.specs.Assertions.{held_in}
 use Rattle.assertions.proofs.Balanced.{covers_held}
-use Rattle.balancing.specs.Giving.{value_after, fits_after}
-use Rattle.balancing.proofs.Adding.{total-append, sums_fit, difference_fits}
+use Rattle.balancing.proofs.Adding.{total-append, sums_fit}
 use Rattle.entry_check.specs.Checked.{Told, held_after}
 
 one_value : (s : List ℕ) (d : Decimal) → total_of s ((s, d) ∷ []) ≡ d
@@ -38,10 +35,3 @@ module _ (told : Told) (below : Bool) (account symbol : List ℕ) (done : List P
   pub held_beyond : turnover_fits (held_after told below account symbol done) ≡ false → turnover_fits ((symbol, told below account symbol) ∷ moved done) ≡ false
   held_beyond range = false-from _ (λ fits. false≢true (sym range ∙ covered-fits ((symbol, told below account symbol) ∷ moved done) (held_after told below account symbol done)
       (covers_both ((symbol, told below account symbol) ∷ []) ((symbol, told below account symbol) ∷ []) (held_in below account done) (moved done) (covers_same ((symbol, told below account symbol) ∷ [])) (covers_held below account done)) fits))
-
-module _ (told : Told) (w : Amount) (below : Bool) (account : List ℕ) (done : List Posting) (held : Decimal) (is_held : held ≡ total_of w.symbol (held_after told below account w.symbol done)) where
-  pub value_held : (value : Decimal) → value ≡ plus w.value (negated held) → value ≡ value_after (held_after told below account w.symbol done) w
-  value_held value is = is ∙ ap (λ (d : Decimal). plus w.value (negated d)) is_held
-
-  pub value_beyond : add_fits w.value (negated held) ≡ false → fits_after (held_after told below account w.symbol done) w ≡ false
-  value_beyond differs = false-from _ (λ fits. false≢true (sym differs ∙ ap (λ (d : Decimal). add_fits w.value (negated d)) is_held ∙ difference_fits (held_after told below account w.symbol done) w fits))

@@ -1,5 +1,6 @@
 pub mod Asked
-pub mod Shortened
+pub mod Counting
+pub mod Once
 pub mod Holding
 pub mod Within
 pub mod Giving

@@ -1,3 +1,5 @@
+pub mod Asked
+pub mod Asking
 pub mod Checked
 pub mod Failing
 pub mod Making

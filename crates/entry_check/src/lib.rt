@@ -1,6 +1,7 @@
 //! Checks one transaction by the sums of the accounts before it, whoever tells them.
 #![tactic(auto)]
 
+mod asked_once;
 mod check;
 mod failure;
 mod held;

@@ -1,20 +1,21 @@
 //! The assignments of one transaction.
-ghost use Rattle.std.specs.Prelude.{◌≡◌, ◌++◌, ◌∷◌, [], true, false, List, OnOk, IfOk, IfErr};
+ghost use Rattle.std.specs.Prelude.{◌≡◌, ◌≤◌, ◌+◌, ◌++◌, ◌∷◌, [], true, false, List, OnOk, IfOk, IfErr};
 ghost use Rattle.book.specs.SumsBefore.{OnlyAsked};
 ghost use Rattle.book.specs.declared.transaction.Posting.{Posting};
 ghost use Rattle.entry_balance.specs.Tally.{IsRange};
 ghost use Rattle.entry_balance.specs.Entry as amounts;
 ghost use Rattle.assertions.specs.Kept.{IsBalance, is_asked, is_kept_for};
 ghost use Rattle.balancing.specs.Giving.{given_with, value_after, fits_after};
+ghost use Rattle.entry_check.specs.Asking.{making, nodes_making};
 ghost use Rattle.entry_check.specs.Checked.{told_before, held_after, made_posting, made_postings, made};
 ghost use Rattle.entry_check.specs.Making.{IsMadeNext};
 ghost use Rattle.entry_check.specs.Ranging.{are_in_range};
 
 use crate::held::held;
 use assertions::{Balances, add_posting, asked_by};
-use balancing::with_amount;
+use balancing::{difference, with_amount};
 use book::{Amount, Assertion, Posting, Sums, Txn};
-use entry_balance::{TallyFault, checked_sum, is_assignable, plain_amount};
+use entry_balance::{TallyFault, is_assignable, plain_amount};
 use hl_base::{List, Memory, Steps, Text};
 use hl_num::Dec;
 use std::alloc::Global;
@@ -27,11 +28,15 @@ pub(crate) fn make<S: Sums, L: Ledger>(
     sums: &S,
     steps: &mut Steps<L>,
 ) -> Result<Txn, TallyFault>
-    ensures made { IfOk result (λ t. t ≡ made (told_before (S.txns sums.now) (S.place sums.now)) txn) }
+    ensures made { IfOk result (λ t.
+        t ≡ made (told_before (S.txns sums.now) (S.place sums.now)) txn) }
     ensures range { IfErr result (λ e. IsRange e
         → (amounts.is_assignable txn.postings ≡ true)
-        × (are_in_range (told_before (S.txns sums.now) (S.place sums.now)) (made (told_before (S.txns sums.now) (S.place sums.now)) txn).postings ≡ false)) }
+        × (are_in_range (told_before (S.txns sums.now) (S.place sums.now))
+        (made (told_before (S.txns sums.now) (S.place sums.now)) txn).postings ≡ false)) }
     ensures steps { OnlyAsked steps.old steps.new }
+    ensures few { OnOk result (steps.new.nodes ≤ steps.old.nodes
+        + nodes_making (S.asks sums.now) txn.postings) }
 {
     if !is_assignable(txn.postings.as_slice()) {
         return Ok(txn);
@@ -69,10 +74,14 @@ fn make_all<S: Sums, L: Ledger>(
     sums: &S,
     steps: &mut Steps<L>,
 ) -> Result<List<Posting>, TallyFault>
-    ensures made { IfOk result (λ ps. ps ≡ made_postings (told_before (S.txns sums.now) (S.place sums.now)) [] postings) }
-    ensures range { IfErr result (λ e. IsRange e → are_in_range (told_before (S.txns sums.now) (S.place sums.now))
+    ensures made { IfOk result (λ ps.
+        ps ≡ made_postings (told_before (S.txns sums.now) (S.place sums.now)) [] postings) }
+    ensures range { IfErr result (λ e. IsRange e
+        → are_in_range (told_before (S.txns sums.now) (S.place sums.now))
         (made_postings (told_before (S.txns sums.now) (S.place sums.now)) [] postings) ≡ false) }
     ensures steps { OnlyAsked steps.old steps.new }
+    ensures few { OnOk result (steps.new.nodes ≤ steps.old.nodes
+        + nodes_making (S.asks sums.now) postings) }
 {
     let mut here = match asked_by(alloc, postings.as_slice()) {
         Ok(here) => here,
@@ -102,14 +111,20 @@ fn make_next<S: Sums, L: Ledger>(
 ) -> Result<(), TallyFault>
     ensures made { OnOk result (IsBalance made.old.items here.old.own here.old.below
         → is_asked here.old.own here.old.below posting ≡ true
-        → IsMadeNext (told_before (S.txns sums.now) (S.place sums.now)) posting made.old.items made.new.items here.new.own here.new.below) }
+        → IsMadeNext (told_before (S.txns sums.now) (S.place sums.now)) posting made.old.items
+        made.new.items here.new.own here.new.below) }
     ensures own { OnOk result (here.new.own.1 ≡ here.old.own.1) }
     ensures below { OnOk result (here.new.below.1 ≡ here.old.below.1) }
-    ensures range { IfErr result (λ e. IsRange e → IsBalance made.old.items here.old.own here.old.below
+    ensures range { IfErr result (λ e. IsRange e
+        → IsBalance made.old.items here.old.own here.old.below
         → is_asked here.old.own here.old.below posting ≡ true
         → are_in_range (told_before (S.txns sums.now) (S.place sums.now))
-        (made.old.items ++ made_posting (told_before (S.txns sums.now) (S.place sums.now)) made.old.items posting posting.amount posting.wanted ∷ []) ≡ false) }
+        (made.old.items
+        ++ made_posting (told_before (S.txns sums.now) (S.place sums.now)) made.old.items posting
+        posting.amount posting.wanted ∷ []) ≡ false) }
     ensures steps { OnlyAsked steps.old steps.new }
+    ensures few { OnOk result (steps.new.nodes ≤ steps.old.nodes
+        + making (S.asks sums.now) posting) }
 {
     let posting = match make_one(alloc, sums, here, posting, steps) {
         Ok(posting) => posting,
@@ -133,14 +148,20 @@ fn make_one<S: Sums, L: Ledger>(
     posting: Posting,
     steps: &mut Steps<L>,
 ) -> Result<Posting, TallyFault>
-    ensures made { IfOk result (λ p. (done : List Posting) → IsBalance done here.now.own here.now.below
+    ensures made { IfOk result (λ p. (done : List Posting)
+        → IsBalance done here.now.own here.now.below
         → is_asked here.now.own here.now.below posting ≡ true
-        → p ≡ made_posting (told_before (S.txns sums.now) (S.place sums.now)) done posting posting.amount posting.wanted) }
-    ensures range { IfErr result (λ e. IsRange e → (done : List Posting) → IsBalance done here.now.own here.now.below
+        → p ≡ made_posting (told_before (S.txns sums.now) (S.place sums.now)) done posting
+        posting.amount posting.wanted) }
+    ensures range { IfErr result (λ e. IsRange e → (done : List Posting)
+        → IsBalance done here.now.own here.now.below
         → is_asked here.now.own here.now.below posting ≡ true
         → are_in_range (told_before (S.txns sums.now) (S.place sums.now))
-        (done ++ made_posting (told_before (S.txns sums.now) (S.place sums.now)) done posting posting.amount posting.wanted ∷ []) ≡ false) }
+        (done ++ made_posting (told_before (S.txns sums.now) (S.place sums.now)) done posting
+        posting.amount posting.wanted ∷ []) ≡ false) }
     ensures steps { OnlyAsked steps.old steps.new }
+    ensures few { OnOk result (steps.new.nodes ≤ steps.old.nodes
+        + making (S.asks sums.now) posting) }
 {
     match assigned_amount(alloc, sums, here, &posting, steps) {
         Ok(Some(amount)) => Ok(with_amount(posting, amount)),
@@ -157,15 +178,21 @@ fn assigned_amount<S: Sums, L: Ledger>(
     posting: &Posting,
     steps: &mut Steps<L>,
 ) -> Result<Option<Amount>, TallyFault>
-    ensures made { IfOk result (λ amount. (done : List Posting) → IsBalance done here.now.own here.now.below
+    ensures made { IfOk result (λ amount. (done : List Posting)
+        → IsBalance done here.now.own here.now.below
         → is_asked here.now.own here.now.below posting.now ≡ true
         → given_with posting.now amount
-        ≡ made_posting (told_before (S.txns sums.now) (S.place sums.now)) done posting.now posting.now.amount posting.now.wanted) }
-    ensures range { IfErr result (λ e. IsRange e → (done : List Posting) → IsBalance done here.now.own here.now.below
+        ≡ made_posting (told_before (S.txns sums.now) (S.place sums.now)) done posting.now
+        posting.now.amount posting.now.wanted) }
+    ensures range { IfErr result (λ e. IsRange e → (done : List Posting)
+        → IsBalance done here.now.own here.now.below
         → is_asked here.now.own here.now.below posting.now ≡ true
         → are_in_range (told_before (S.txns sums.now) (S.place sums.now))
-        (done ++ made_posting (told_before (S.txns sums.now) (S.place sums.now)) done posting.now posting.now.amount posting.now.wanted ∷ []) ≡ false) }
+        (done ++ made_posting (told_before (S.txns sums.now) (S.place sums.now)) done posting.now
+        posting.now.amount posting.now.wanted ∷ []) ≡ false) }
     ensures steps { OnlyAsked steps.old steps.new }
+    ensures few { OnOk result (steps.new.nodes ≤ steps.old.nodes
+        + making (S.asks sums.now) posting.now) }
 {
     if posting.amount.is_some() {
         return Ok(None);
@@ -193,17 +220,23 @@ fn assigned_value<S: Sums, L: Ledger>(
     wanted: &Assertion,
     steps: &mut Steps<L>,
 ) -> Result<Dec, TallyFault>
-    ensures value { IfOk result (λ value. (done : List Posting) → IsBalance done here.now.own here.now.below
+    ensures value { IfOk result (λ value. (done : List Posting)
+        → IsBalance done here.now.own here.now.below
         → is_kept_for here.now.own here.now.below account.now wanted.now.below ≡ true
         → value ≡ value_after
-        (held_after (told_before (S.txns sums.now) (S.place sums.now)) wanted.now.below account.now wanted.now.amount.symbol done)
+        (held_after (told_before (S.txns sums.now) (S.place sums.now)) wanted.now.below account.now
+        wanted.now.amount.symbol done)
         wanted.now.amount) }
-    ensures range { IfErr result (λ e. IsRange e → (done : List Posting) → IsBalance done here.now.own here.now.below
+    ensures range { IfErr result (λ e. IsRange e → (done : List Posting)
+        → IsBalance done here.now.own here.now.below
         → is_kept_for here.now.own here.now.below account.now wanted.now.below ≡ true
         → fits_after
-        (held_after (told_before (S.txns sums.now) (S.place sums.now)) wanted.now.below account.now wanted.now.amount.symbol done)
+        (held_after (told_before (S.txns sums.now) (S.place sums.now)) wanted.now.below account.now
+        wanted.now.amount.symbol done)
         wanted.now.amount ≡ false) }
     ensures steps { OnlyAsked steps.old steps.new }
+    ensures few { steps.new.nodes ≤ steps.old.nodes
+        + S.asks sums.now account.now wanted.now.amount.symbol wanted.now.below }
 {
     let held = match held(
         sums,
@@ -216,5 +249,5 @@ fn assigned_value<S: Sums, L: Ledger>(
         Ok(held) => held,
         Err(fault) => return Err(fault),
     };
-    checked_sum(wanted.amount.value, held.negated())
+    difference(&wanted.amount, held)
 }

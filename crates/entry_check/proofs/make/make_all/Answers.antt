@@ -1,4 +1,4 @@
-use Rattle.std.proofs.Common.{◌≡◌, List, ◌∷◌, [], ◌++◌, length, false, sym, ap, ◌∙◌, subst, rules}
+use Rattle.std.proofs.Common.{◌≡◌, ◌≤◌, ◌+◌, List, ◌∷◌, [], ◌++◌, length, false, sym, ap, ◌∙◌, subst, rules}
 use Rattle.std.specs.List.{list_all}
 use Rattle.std.proofs.lemmas.Iterator.Adapters.{YieldsList-from_vec}
 use Rattle.std.proofs.lemmas.Iterator.Consumers.{YieldsList-end, YieldsList-turn, YieldsList-so_far}
@@ -8,9 +8,11 @@ use Rattle.entry_balance.proofs.Adding.{list_all-at}
 use Rattle.assertions.specs.Kept.{is_asked}
 use Rattle.assertions.proofs.Balanced.{asked_same, each-stays}
 use Rattle.balancing.proofs.Giving.{front-is}
+use Rattle.entry_check.specs.Asking.{making, nodes_making}
 use Rattle.entry_check.specs.Checked.{told_before, made_posting, made_postings}
 use Rattle.entry_check.specs.Ranging.{are_in_range}
 use Rattle.entry_check.proofs.Asked.{asked_both}
+use Rattle.entry_check.proofs.Counting.{asked_push}
 use Rattle.entry_check.proofs.Giving.{made-push, through_beyond}
 use Rattle.entry_check.proofs.make.make_all.Goals as goal
 
@@ -35,6 +37,7 @@ loop-posting-preserved g c =
       here = next.here;
       asked = each-stays _ _ c.args.postings (λ p e. asked_same old.own old.below new.own new.below p c.in-Ok-make_next.ensures.own c.in-Ok-make_next.ensures.below ∙ e) kept.asked;
       steps = asked_both _ _ _ kept.steps c.in-Ok-make_next.ensures.steps;
+      few = asked_push (making (g.S.Sums.asks c.args.sums.now)) xs x c.args.steps.now.nodes c.loop-posting.steps.nodes c.make_next.new.steps.nodes kept.few c.in-Ok-make_next.ensures.few;
     }
 
 pub returns-in-Err-make_next-clause-range : goal.returns-in-Err-make_next-clause-range
@@ -65,3 +68,11 @@ returns-clause-made g c =
     let yields = YieldsList-from_vec {s = c.into_iter-posting-iterator.result} all (search rules) (search rules) in
     let end = YieldsList-end yields c.loop-posting.yielded c.loop-posting.posting-iterator c.loop-posting.yielded_by c.next.result c.next.new.self c.in-None.is c.next.ensures.steps in
     c.from_vec.ensures ∙ c.loop-posting.invariant.made ∙ ap (made_postings told []) (sym (map-id c.loop-posting.yielded) ∙ end.0 ∙ whole)
+
+pub returns-clause-few : goal.returns-clause-few
+returns-clause-few g c =
+    let all = c.into_vec-posting-items.result.items in
+    let whole : all ≡ c.args.postings = c.into_vec-posting-items.ensures in
+    let yields = YieldsList-from_vec {s = c.into_iter-posting-iterator.result} all (search rules) (search rules) in
+    let end = YieldsList-end yields c.loop-posting.yielded c.loop-posting.posting-iterator c.loop-posting.yielded_by c.next.result c.next.new.self c.in-None.is c.next.ensures.steps in
+    subst (λ (ps : List Posting). c.loop-posting.steps.nodes ≤ c.args.steps.now.nodes + nodes_making (g.S.Sums.asks c.args.sums.now) ps) (sym (map-id c.loop-posting.yielded) ∙ end.0 ∙ whole) c.loop-posting.invariant.few

@@ -1,6 +1,7 @@
-use Rattle.std.proofs.Common.{◌≡◌, List, [], ◌∷◌, ◌++◌, true, false, OnOk, sym, ap, ◌∙◌, subst}
+use Rattle.std.proofs.Common.{◌≡◌, ◌≤◌, ◌+◌, List, [], ◌∷◌, ◌++◌, true, false, OnOk, sym, ap, ◌∙◌, subst}
 use Rattle.book.specs.declared.transaction.Posting.{Posting}
 use Rattle.assertions.specs.Kept.{IsBalance, is_asked}
+use Rattle.entry_check.specs.Asking.{making}
 use Rattle.entry_check.specs.Checked.{told_before}
 use Rattle.entry_check.specs.Making.{IsMadeNext}
 use Rattle.entry_check.specs.Ranging.{are_in_range}
@@ -29,4 +30,12 @@ returns-clause-made g c =
         here = subst (λ (ps : List Posting). IsBalance ps new.own new.below) (sym w.in-Ok-push.ensures.items) (c.in-Ok-add_posting.ensures.ok done h);
       })
       | in-Err-push w ↦ subst (λ r. OnOk r (IsBalance done old.own old.below → is_asked old.own old.below p ≡ true → IsMadeNext told p done all new.own new.below)) (sym w.result-is) tt
+    ]
+
+pub returns-clause-few : goal.returns-clause-few
+returns-clause-few g c =
+    let P : Type 0 = c.make_one.new.steps.nodes ≤ c.args.steps.now.nodes + making (g.S.Sums.asks c.args.sums.now) c.args.posting in
+    elim c.match-push.branch [
+      | in-Ok-push w ↦ subst (λ r. OnOk r P) (sym w.result-is) c.in-Ok.ensures.few
+      | in-Err-push w ↦ subst (λ r. OnOk r P) (sym w.result-is) tt
     ]
