@@ -1,5 +1,5 @@
 -- What stands in the book of a text that was read.
-use Rattle.std.proofs.Common.{ℕ, zero, suc, ◌≡◌, ◌+◌, ◌*ℤ◌, ◌≤◌, Bool, true, false, cond, ◌==◌, ◌&&◌, not, List, [], ◌∷◌, ◌++◌, map, filter, Option, Some, None, Ok, is_none, refl, sym, ap, subst, ◌∙◌, arith, append_assoc, append-nil}
+use Rattle.std.proofs.Common.{ℕ, max, zero, suc, ◌≡◌, ◌+◌, ◌*ℤ◌, ◌≤◌, Bool, true, false, cond, ◌==◌, ◌&&◌, not, List, [], ◌∷◌, ◌++◌, map, filter, Option, Some, None, Ok, is_none, refl, sym, ap, subst, ◌∙◌, arith, append_assoc, append-nil}
 use Rattle.std.specs.BTreeSet.{insert_key}
 use Rattle.std.specs.List.{count_by, flat_map, fold, list_any, slice_get, AllByRecursion}
 use Rattle.std.specs.Ordering.{match_ordering, nat_cmp}
@@ -8,7 +8,7 @@ use Rattle.std.specs.Str.{bytes_eq, is_utf8}
 use Rattle.std.specs.declared.cmp.Ordering.{Ordering}
 use Rattle.std.specs.declared.cmp.Ordering.TheVariants.{Less, Equal, Greater}
 use Rattle.std.proofs.lemmas.Grind.{flat_map-append}
-use Rattle.hl_num.specs.Decimal.{Decimal, negated}
+use Rattle.hl_num.specs.Decimal.{Decimal, negated, units_of}
 use Rattle.book.specs.Bounds.{TurnoverFits}
 use Rattle.book.specs.Mixed.{plus}
 use Rattle.book.specs.Order.{each_once}
@@ -26,14 +26,14 @@ use Rattle.book.specs.declared.transaction.Posting.{Posting}
 use Rattle.book.specs.declared.transaction.Side.{Side}
 use Rattle.book.specs.declared.transaction.Side.TheVariants.{Real}
 use Rattle.book.specs.declared.transaction.Txn.{Txn}
-use Rattle.assertions.specs.Assertions.{counts_for, held_by, held_in}
+use Rattle.assertions.specs.Assertions.{held_in}
 use Rattle.entry_balance.specs.Entry.{costed_posting, exchanges, found_posting, found_values, from_amount, is_assignable, is_nothing, is_nothing_at, is_real_of, left_over, moved, moved_by, needed, or_nothing, plain_amount, precision_of, recorded, recorded_between, recorded_cost, same_side, second_is_first, settled, share_of, side_values, solved, solved_posting, with_postings}
 use Rattle.entry_balance.specs.Tally.{no_sum, numbers_of, sums_of, symbols_in, total_of, turnover_fits}
-use Rattle.entry_balance.specs.Values.{Value, absolute_value, at_cost, cost_of, cost_values, value_of}
+use Rattle.entry_balance.specs.Values.{Value, absolute_value, at_cost, cost_of, cost_values, trimmed, value_of}
 use Rattle.entry_balance.proofs.Trimmed.{trimmed-places}
-use Rattle.balancing.specs.Assigned.{assigned, given, given_at, given_from, given_posting, given_postings}
+use Rattle.balancing.specs.Assigned.{whole, shortened, assigned, assigned_by, given, given_at, given_from, given_posting, given_postings}
 use Rattle.balancing.specs.Groups.{Group, groups_of}
-use Rattle.balancing.specs.Load.{first_fault, load, moved_of_group}
+use Rattle.balancing.specs.Load.{book_of, first_fault, load, moved_of_group}
 use Rattle.balancing.specs.Parts.{is_chosen, part_on, postings_of_group, postings_on}
 use Rattle.balancing.specs.Walk.{moved_before}
 use Rattle.balancing.specs.declared.groups.Part.TheVariants as part
@@ -43,6 +43,7 @@ use Rattle.balancing.proofs.Turned.{book-fits}
 use Rattle.written_logs.proofs.Lines.{all_parts}
 use Rattle.closed_journals.proofs.Declared.{AreToldItems, IsToldItem}
 use Rattle.closed_journals.proofs.Entered.{AmountIs, AreTold, CostIs, IsToldPosting, WantedIs}
+use Rattle.balancing.proofs.Solving.{own_book}
 use Rattle.closed_journals.proofs.Loading.{loaded_is}
 use Rattle.closed_journals.proofs.Told.{IsTold, IsToldAmount, no_symbol}
 
@@ -254,23 +255,22 @@ Valued p = BookedIs p.amount
 abbrev IsGivenTxn : Txn → Type 0
 IsGivenTxn t = AllByRecursion IsGiven t.postings
 
-held_are : (below : Bool) (account : List ℕ) (ps : List Posting) → AllByRecursion Valued ps → AreValues (held_in below account ps)
-held_are below account ps are = all_flat Valued IsValue (held_by below account) (λ p h. by (counts_for below account p.account) p.amount h) ps are
-  where
-    by : (t : Bool) (a : Option Amount) → BookedIs a → AreValues (cond t (from_amount (λ x. value_of x ∷ []) a) [])
-    by true None h = tt
-    by true (Some a) h = (h, tt)
-    by false a h = tt
+both_few : (a b : ℕ) → a ≤ 36 → b ≤ 36 → max a b ≤ 36
+both_few a b h k = omega arith
+
+-- what is wanted less a sum with as few decimals as it needs
+difference_few : (wanted sum : Decimal) → wanted.places ≤ 36 → (plus wanted (negated (shortened sum))).places ≤ 36
+difference_few wanted sum h = both_few wanted.places (trimmed (units_of sum) 36).places h (trimmed-places (units_of sum) 36)
 
 given_one : (seen : List Posting) (p : Posting) (a : Option Amount) (w : Option Assertion) → AllByRecursion Valued seen → WantedIs w → IsGiven p → IsGiven (given_posting seen p a w)
 given_one seen p (Some a) w are k is = is
 given_one seen p None None are k is = is
 given_one seen p None (Some w) are k is =
-    let few = total_few (w.amount).symbol (held_in w.below p.account seen) (held_are w.below p.account seen are) in
-    let other = k.few in
+    let held = total_of (w.amount).symbol (held_in w.below p.account seen) in
+    let few = k.few in
     record {
       account = is.account;
-      amount = (record { symbol = k.symbol; few = omega (arith, few, other) }, tt);
+      amount = (record { symbol = k.symbol; few = difference_few ((w.amount).value) held (omega (arith, few)) }, tt);
       wanted = is.wanted;
     }
 
@@ -368,7 +368,7 @@ book_told items book told is =
     let ws = txns_of items in
     let ts = assigned ws in
     let gs = groups_of ts in
-    let made = loaded_is ts (first_fault ts [] [] gs) book is in
+    let made = loaded_is ts (first_fault ts [] [] gs) book (own_book (book_of ts) (book_of (assigned_by whole ws)) book is) in
     let all = given_all ws [] (groups_of ws) tt (all_given_txns items told) in
     let fits = (no_fault ts [] [] gs refl made.none).fits in
     let within : turnover_fits (moved_before ts [] gs) ≡ true = ap turnover_fits (moved_parts ts [] gs) ∙ fits in

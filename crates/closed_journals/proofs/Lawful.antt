@@ -16,8 +16,7 @@ use Rattle.book.specs.declared.fault.Fault.{Fault}
 use Rattle.book.specs.declared.item.Book.{Book}
 use Rattle.book.specs.declared.item.Placed.{Placed}
 use Rattle.book.specs.declared.transaction.Txn.{Txn}
-use Rattle.balancing.specs.Assigned.{assigned}
-use Rattle.balancing.specs.Load.{book_of, load}
+use Rattle.balancing.specs.Load.{load, load_txns}
 use Rattle.book_care.specs.Asked.{Asked as Closed, named_postings}
 use Rattle.book_care.specs.Balances.{AreEmpty, Close, Settles}
 use Rattle.book_care.specs.Entries.{Writing, entries_with, entry_on, made}
@@ -260,7 +259,7 @@ module _ (year : Option ℕ) (text output : List ℕ) (closed : Closed) (book : 
     whole_added (inr h) = inr (inl (subst (λ (t : List ℕ). IsRefused closed pair year t) joined_is h))
 
     by_ended : EndsLine full → open_in 0 (lines_of full) ≡ false → Ended year text full closed.items → Joined closed year text output (Some pair)
-    by_ended ends shut (reads placed r context same) = whole_added (two_added m ms e full placed r (ap (λ (ts : List Txn). book_of (assigned ts)) same ∙ loaded) context ends shut)
+    by_ended ends shut (reads placed r context same) = whole_added (two_added m ms e full placed r (ap load_txns same ∙ loaded) context ends shut)
     by_ended ends shut (too_long p last size line f) = inr (inr (record {
       item = p;
       last = last;

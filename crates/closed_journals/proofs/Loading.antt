@@ -1,10 +1,11 @@
 -- The text with both entries behind it loads, or one of them is out of range.
-use Rattle.std.proofs.Common.{ℕ, zero, suc, ◌≡◌, ◌≤◌, true, false, cond, List, [], ◌∷◌, ◌++◌, map, Option, Some, None, Ok, Err, refl, sym, ap, subst, ◌∙◌, arith}
+use Rattle.std.proofs.Common.{ℕ, zero, suc, ◌≡◌, ◌≤◌, true, false, cond, List, [], ◌∷◌, ◌++◌, map, Option, Some, None, Result, Ok, Err, refl, sym, ap, subst, ◌∙◌, arith}
 use Rattle.std.specs.Prelude.{nat_lt, unwrap_or, filter}
 use Rattle.std.specs.List.{flat_map, slice_get, AllByRecursion}
 use Rattle.std.proofs.lemmas.Bool.Decides.{nat_tests}
 use Rattle.std.proofs.lemmas.List.{map-append}
 use Rattle.hl_time.specs.declared.day.Day.{Day}
+use Rattle.hl_num.specs.Decimal.{Decimal}
 use Rattle.book.specs.Postings.{txns_of}
 use Rattle.book.specs.SumsBefore.{placed_from, placed_in}
 use Rattle.book.specs.declared.amount.Amount.{Amount}
@@ -18,11 +19,12 @@ use Rattle.book.specs.declared.transaction.Txn.{Txn}
 use Rattle.entry_balance.specs.Entry.{costed_posting, found_posting, is_assignable, needed, or_nothing, recorded_cost, settled, side_values, solved_posting}
 use Rattle.entry_balance.specs.Tally.{sums_of}
 use Rattle.entry_balance.specs.Values.{Value}
-use Rattle.balancing.specs.Assigned.{assigned, given, given_at, given_from, given_posting, given_postings}
+use Rattle.balancing.specs.Assigned.{assigned, assigned_by, given, given_at, given_from, given_posting, given_postings}
 use Rattle.balancing.specs.Groups.{Group, day_of, groups_of}
-use Rattle.balancing.specs.Load.{book_of, first_fault, load, loaded}
+use Rattle.balancing.specs.Load.{book_of, first_fault, or_told, load, loaded}
 use Rattle.balancing.specs.Parts.{postings_of_group}
 use Rattle.balancing.proofs.Given.{given_here, given_stays}
+use Rattle.balancing.proofs.Solving.{own_book}
 use Rattle.balancing.proofs.SolvingMade.{costed_alike}
 use Rattle.balancing.proofs.SolvingRising.{all_left, all_right}
 use Rattle.book_care.specs.Late.{At, first_late, first_placed, is_late, late_postings}
@@ -138,7 +140,7 @@ module _ (on : ℕ) (items more : List Placed) (book : Book) (one two : Txn) (is
   ts = assigned ws
 
   made : IsLoaded ts (first_fault ts [] [] (groups_of ts)) book
-  made = loaded_is ts (first_fault ts [] [] (groups_of ts)) book is
+  made = loaded_is ts (first_fault ts [] [] (groups_of ts)) book (own_book _ _ book is)
 
   timely : AllByRecursion (IsOnTime on) ts
   timely = timely_book on ts (sym (ap (first_late on) made.txns) ∙ late)
@@ -155,13 +157,17 @@ module _ (on : ℕ) (items more : List Placed) (book : Book) (one two : Txn) (is
       ∙ ap (λ (xs : List Txn). xs ++ settled one ∷ settled two ∷ []) (sym made.txns)
       ∙ (λ i. book.txns ++ plain_one.settled_is i ∷ plain_two.settled_is i ∷ [])
 
-  start : load more ≡ book_of (ts ++ one ∷ two ∷ [])
-  start = ap (λ (xs : List Txn). book_of (assigned xs)) behind ∙ ap book_of whole_assigned
+  -- what a fault with a sum would be told by
+  abbrev other : Result Book Fault
+  other = book_of (assigned_by (λ (d : Decimal). d) (txns_of more))
+
+  start : load more ≡ or_told (book_of (ts ++ one ∷ two ∷ [])) other
+  start = ap (λ (xs : List Txn). or_told (book_of (assigned xs)) other) behind ∙ ap (λ (xs : List Txn). or_told (book_of xs) other) whole_assigned
 
   by : Ends (ts ++ one ∷ two ∷ []) one two → Loads more book.txns one two
-  by (sound e) = whole (start ∙ ap (loaded (ts ++ one ∷ two ∷ [])) e ∙ ap (λ (xs : List Txn). Ok (record { txns = xs })) all_settled)
-  by (first_out e) = one_out (start ∙ ap (loaded (ts ++ one ∷ two ∷ [])) e)
-  by (second_out e) = two_out (start ∙ ap (loaded (ts ++ one ∷ two ∷ [])) e)
+  by (sound e) = whole (start ∙ ap (λ (o : Option Fault). or_told (loaded (ts ++ one ∷ two ∷ []) o) other) e ∙ ap (λ (xs : List Txn). Ok (record { txns = xs })) all_settled)
+  by (first_out e) = one_out (start ∙ ap (λ (o : Option Fault). or_told (loaded (ts ++ one ∷ two ∷ []) o) other) e)
+  by (second_out e) = two_out (start ∙ ap (λ (o : Option Fault). or_told (loaded (ts ++ one ∷ two ∷ []) o) other) e)
 
   pub both_load : Loads more book.txns one two
   both_load = by (ends on ts one two (followed ts timely) made.none)
