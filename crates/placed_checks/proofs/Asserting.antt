@@ -5,7 +5,6 @@ use Rattle.std.specs.Option.{option_map}
 use Rattle.std.specs.Ordering.{int_cmp, is_eq}
 use Rattle.std.specs.Str.{bytes_eq}
 use Rattle.std.proofs.lemmas.Bool.{false≢true}
-use Rattle.std.proofs.lemmas.Grind.{flat_map-append}
 use Rattle.std.proofs.lemmas.Int.{ints}
 use Rattle.hl_num.specs.Decimal.{units_of}
 use Rattle.book.specs.Postings.{postings_of}
@@ -20,17 +19,17 @@ use Rattle.entry_balance.specs.Tally.{sums_of, total_of}
 use Rattle.entry_balance.specs.Values.{Value}
 use Rattle.entry_balance.proofs.Turnover.{alike}
 use Rattle.assertions.specs.Assertions.{failure_at, first_of, is_other, is_same}
-use Rattle.balancing.specs.Solves.{HasFew, HaveFew, Holds, HoldsIf, IsAssertedAt, just_after, values_before}
+use Rattle.balancing.specs.Solves.{HaveFew, Holds, HoldsIf, IsAssertedAt, just_after, values_before}
 use Rattle.balancing.proofs.SolvingSeen.{EachAfter}
-use Rattle.balancing.proofs.SolvingUnits.{other_at, sum_at}
+use Rattle.balancing.proofs.SolvingUnits.{other_at}
 use Rattle.entry_check.specs.Checked.{Others, Told, failure_after, held_after}
 use Rattle.placed_checks.specs.Placed.{AreRight}
 use Rattle.placed_checks.proofs.Besides.{first_same, other_is}
-use Rattle.placed_checks.proofs.Held.{held_units}
 use Rattle.placed_checks.proofs.Lists.{all_chosen, all_first, all_rest, length_more}
 use Rattle.placed_checks.proofs.Ordered.{Passes, each_place, late_wants}
 use Rattle.placed_checks.proofs.Own.{IsOnDay, early, early_place, early_takes, entry_at, is_late, place_at}
 use Rattle.placed_checks.proofs.Through.{sum_through}
+use Rattle.placed_checks.proofs.Units.{same_units}
 
 -- ---- where what is asked for has to be of one symbol, no posting of another one counts
 
@@ -77,30 +76,8 @@ none_of_it account symbol below s apart (p ∷ ps) h =
       | false ↦ λ off. rest
     ] refl
 
--- a transaction's own amounts have few decimals where those of its book have
-pub own_few : (book front back : List Txn) (t : Txn) → book ≡ front ++ t ∷ back → HaveFew book → AllByRecursion (λ p. HasFew p.amount) t.postings
-own_few book front back t is few =
-    let P : Posting → Type 0 = λ p. HasFew p.amount in
-    let whole : postings_of book ≡ postings_of front ++ (t.postings ++ postings_of back) = ap postings_of is ∙ flat_map-append (λ (u : Txn). u.postings) front (t ∷ back) in
-    all_first P t.postings (postings_of back) (all_rest P (postings_of front) (t.postings ++ postings_of back) (subst (AllByRecursion P) whole few))
-
 module _ (told : Told) (others : Others) (book front back : List Txn) (t : Txn) (n : ℕ) (is : book ≡ front ++ t ∷ back) (long : length front ≡ n) (days : AllByRecursion (IsOnDay t) t.postings)
     (few : HaveFew book) (right : AreRight told others book (place_at t n 0)) (unmixed : AllByRecursion (λ p. Unmixed t.postings p.account p.wanted) t.postings) where
-  early_few : (xs ys : List Posting) → t.postings ≡ xs ++ ys → AllByRecursion (λ p. HasFew p.amount) (early t xs)
-  early_few xs ys split =
-      let P : Posting → Type 0 = λ p. HasFew p.amount in
-      all_chosen P (λ p. not (is_late t p)) xs (all_first P xs ys (subst (AllByRecursion P) split (own_few book front back t is few)))
-
-  -- by either sum the account holds the same
-  pub same_units : (account symbol : List ℕ) (below : Bool) (xs ys : List Posting) (m : ℕ) → t.postings ≡ xs ++ ys → length xs ≡ m →
-      units_of (total_of symbol (values_before book account below (place_at t n m))) ≡ units_of (total_of symbol (held_after told below account symbol (early t xs)))
-  same_units account symbol below xs ys m split count =
-      let more : ℤ = sum_of symbol (filter (λ p. is_of account below p.account) (early t xs)) in
-      sum_at book few account below (place_at t n m) symbol
-      ∙ sum_through book front back t n is long days account below symbol m xs ys split count
-      ∙ ap (λ (x : ℤ). x +ℤ more) (sym (right.sums below account symbol))
-      ∙ sym (held_units symbol account below told (early t xs) (right.few below account symbol) (early_few xs ys split))
-
   -- the least other symbol whose sum isn't zero is the same too, where none of its own postings is of another symbol
   other_same : (account symbol : List ℕ) (below : Bool) (xs ys : List Posting) (m : ℕ) → t.postings ≡ xs ++ ys → length xs ≡ m → AllByRecursion (λ q. is_of account below q.account ≡ true → amounts.is_of symbol q.amount ≡ true) (early t xs) →
       other_before book account symbol below (place_at t n m) ≡ other_before book account symbol below (place_at t n 0)
@@ -131,7 +108,7 @@ module _ (told : Told) (others : Others) (book front back : List Txn) (t : Txn) 
       let o : Option (List ℕ) = others w.below p.account w.amount.symbol in
       let same : is_same total w.amount.value ≡ true = same_if p.line w (is_same total w.amount.value) (cond w.only (option_map f o) None) (w.amount.symbol, total) h in
       record {
-        sum = ap (λ (z : ℤ). is_eq (int_cmp z (units_of w.amount.value))) (same_units p.account w.amount.symbol w.below xs ys m split count) ∙ same;
+        sum = ap (λ (z : ℤ). is_eq (int_cmp z (units_of w.amount.value))) (same_units told others book front back t n is long days few right p.account w.amount.symbol w.below xs ys m split count) ∙ same;
         only = λ on.
             let none : failure_at p.line w (option_map f o) ≡ None =
             sym (ap (λ (b : Bool). failure_at p.line w (cond b (cond w.only (option_map f o) None) (Some (w.amount.symbol, total)))) same ∙ ap (λ (b : Bool). failure_at p.line w (cond b (option_map f o) None)) on) ∙ h in

@@ -1,11 +1,11 @@
 -- Assignments of a transaction that are made by what accounts held before it have the amounts that they are to have.
-use Rattle.std.proofs.Common.{◌≡◌, ℕ, Bool, true, false, cond, ◌&&◌, not, List, [], ◌∷◌, ◌++◌, length, filter, map, Option, Some, None, is_some, refl, sym, ap, subst, ◌∙◌}
-use Rattle.std.specs.List.{AllByRecursion, flat_map, fold, list_any}
+use Rattle.std.proofs.Common.{◌≡◌, ℕ, ℤ, Bool, true, false, cond, ◌&&◌, not, List, [], ◌∷◌, ◌++◌, length, filter, map, Option, Some, None, is_some, refl, sym, ap, subst, ◌∙◌}
+use Rattle.std.specs.List.{AllByRecursion, flat_map, list_any}
 use Rattle.std.proofs.lemmas.Bool.{false≢true, or_parts}
 use Rattle.std.proofs.lemmas.Grind.{flat_map-append}
 use Rattle.std.proofs.lemmas.List.{append-nil}
 use Rattle.std.proofs.lemmas.List.Elements.{filter-append}
-use Rattle.hl_num.specs.Decimal.{Decimal, negated}
+use Rattle.hl_num.specs.Decimal.{negated}
 use Rattle.book.specs.Mixed.{plus}
 use Rattle.book.specs.SumsBefore.{Place, is_assigned, placed_in}
 use Rattle.book.specs.declared.amount.Amount.{Amount}
@@ -13,24 +13,19 @@ use Rattle.book.specs.declared.amount.Assertion.{Assertion}
 use Rattle.book.specs.declared.transaction.Posting.{Posting}
 use Rattle.book.specs.declared.transaction.Txn.{Txn}
 use Rattle.entry_balance.specs.Entry.{costed_posting, found_posting, found_values, from_amount, plain_amount, recorded_cost, solved, solved_posting}
-use Rattle.entry_balance.specs.Tally.{no_sum, total_of}
-use Rattle.entry_balance.specs.Values.{Value, value_of}
-use Rattle.entry_balance.proofs.Turnover.{numbers-here, plus_none}
+use Rattle.entry_balance.specs.Values.{Value, trimmed, value_of}
 use Rattle.assertions.specs.Assertions.{counts_for, held_by, held_in}
 use Rattle.balancing.specs.Assigned.{assigned_posting}
 use Rattle.balancing.specs.Giving.{value_after}
-use Rattle.balancing.specs.Solves.{HaveFew, IsAssignedAt, amount_at, values_before}
-use Rattle.balancing.proofs.Adding.{total-append}
+use Rattle.balancing.specs.Solves.{HaveFew, IsAssignedAt, amount_at}
 use Rattle.balancing.proofs.SolvingMade.{Alike, AreUnmarked, alike_assigned, costed_alike, unfilled}
 use Rattle.balancing.proofs.SolvingSeen.{EachAfter}
-use Rattle.balancing.proofs.SolvingUnits.{sum_at}
-use Rattle.entry_check.specs.Checked.{Others, Told, assigned_after, held_after, made_posting, made_postings}
-use Rattle.placed_checks.specs.Placed.{AreRight, IsExact, IsExactFor}
-use Rattle.placed_checks.proofs.Decimals.{same_difference, total_few}
+use Rattle.entry_check.specs.Checked.{Others, Told, assigned_after, made_posting, made_postings}
+use Rattle.placed_checks.specs.Placed.{AreRight}
 use Rattle.placed_checks.proofs.Lists.{all_rest}
 use Rattle.placed_checks.proofs.Ordered.{all_early, each_place, late_unassigned}
 use Rattle.placed_checks.proofs.Own.{IsOnDay, early, early_place, entry_at, is_late, late_by, place_at}
-use Rattle.placed_checks.proofs.Through.{total_through}
+use Rattle.placed_checks.proofs.Units.{same_units}
 
 -- ---- what an assignment comes to after others
 
@@ -169,33 +164,19 @@ early_assigned told ws t unmarked is = early_by told ws unmarked (list_any is_as
 
 -- ---- in a book
 
-one_total : (s : List ℕ) (d : Decimal) → total_of s ((s, d) ∷ []) ≡ d
-one_total s d = ap (fold plus no_sum) (numbers-here s d []) ∙ plus_none d
-
 module _ (told : Told) (others : Others) (book front back : List Txn) (t : Txn) (n : ℕ) (is : book ≡ front ++ t ∷ back) (long : length front ≡ n) (days : AllByRecursion (IsOnDay t) t.postings)
-    (few : HaveFew book) (right : AreRight told others book (place_at t n 0)) (exact : AllByRecursion (IsExact told book (place_at t n 0)) t.postings) where
+    (few : HaveFew book) (right : AreRight told others book (place_at t n 0)) where
   -- it is what is wanted, less the sum at its place
-  pub same_amount : (p : Posting) (o : Option Assertion) (xs ys : List Posting) (m : ℕ) → t.postings ≡ xs ++ ys → length xs ≡ m → IsExactFor told book (place_at t n 0) p.account o → amount_now told (early t xs) p o ≡ amount_at book (place_at t n m) p o
-  same_amount p None xs ys m split count same = refl
-  same_amount p (Some w) xs ys m split count same =
-      let s = w.amount.symbol in
-      let held : List Value = held_in w.below p.account (early t xs) in
-      let a : Decimal = told w.below p.account s in
-      let b : Decimal = total_of s (values_before book p.account w.below (place_at t n 0)) in
-      let o : Decimal = total_of s held in
-      let units = right.sums w.below p.account s ∙ sym (sum_at book few p.account w.below (place_at t n 0) s) in
-      let told_is : total_of s (held_after told w.below p.account s (early t xs)) ≡ plus a o = total-append s ((s, a) ∷ []) held ∙ ap (λ (d : Decimal). plus d o) (one_total s a) in
-      let whole_is = total_through book front back t n is long days p.account w.below s m xs ys split count in
-      ap (λ (d : Decimal). Some (plain_amount (s, plus w.amount.value (negated d)))) told_is
-      ∙ ap (λ (d : Decimal). Some (plain_amount (s, d))) (same_difference w.amount.value a b o (right.few w.below p.account s) (total_few book p.account s w.below (place_at t n 0) few) units same)
-      ∙ ap (λ (d : Decimal). Some (plain_amount (s, plus w.amount.value (negated d)))) (sym whole_is)
+  pub same_amount : (p : Posting) (o : Option Assertion) (xs ys : List Posting) (m : ℕ) → t.postings ≡ xs ++ ys → length xs ≡ m → amount_now told (early t xs) p o ≡ amount_at book (place_at t n m) p o
+  same_amount p None xs ys m split count = refl
+  same_amount p (Some w) xs ys m split count =
+      ap (λ (z : ℤ). Some (plain_amount (w.amount.symbol, plus w.amount.value (negated (trimmed z 36)))))
+      (sym (same_units told others book front back t n is long days few right p.account w.amount.symbol w.below xs ys m split count))
 
   early_is : (k : ℕ) (xs ys : List Posting) (p : Posting) → t.postings ≡ xs ++ p ∷ ys → length xs ≡ k → is_late t p ≡ false → AssignedNow told (early t xs) p → IsAssignedAt book (entry_at t n k p)
   early_is k xs ys p split count e h assigned =
-      let E : Posting → Type 0 = IsExact told book (place_at t n 0) in
-      let same : E p = (all_rest E xs (p ∷ ys) (subst (AllByRecursion E) split exact)).0 in
       let on : IsOnDay t p = (all_rest (IsOnDay t) xs (p ∷ ys) (subst (AllByRecursion (IsOnDay t)) split days)).0 in
-      h assigned ∙ same_amount p p.wanted xs (p ∷ ys) k split count (same assigned)
+      h assigned ∙ same_amount p p.wanted xs (p ∷ ys) k split count
       ∙ ap (λ (place : Place). amount_at book place p p.wanted) (sym (early_place t n k p on e))
 
   late_is : (k : ℕ) (p : Posting) → is_late t p ≡ true → IsAssignedAt book (entry_at t n k p)

@@ -15,7 +15,7 @@ use Rattle.balancing.proofs.SolvingMade.{AreUnmarked, alike_assigned, costed_ali
 use Rattle.balancing.proofs.SolvingSeen.{EachAfter}
 use Rattle.balancing.proofs.SolvingTxn.{none_made}
 use Rattle.entry_check.specs.Checked.{Others, Told, assigned_after, made_posting, made_postings}
-use Rattle.placed_checks.specs.Placed.{AreRight, IsExact}
+use Rattle.placed_checks.specs.Placed.{AreRight}
 use Rattle.placed_checks.proofs.Assigning.{AssignedNow, LeaveSame, alike_held, amount_same, costed_of, early_there, same_amount, same_missing, same_more, solved_by, there}
 use Rattle.placed_checks.proofs.Lists.{all_rest}
 use Rattle.placed_checks.proofs.Own.{IsOnDay, early, early_place, entry_at, is_late, late_by, place_at}
@@ -118,15 +118,13 @@ made_again told ws qs t unmarked made is h = again_by told ws qs unmarked made (
 -- ---- in a book
 
 module _ (told : Told) (others : Others) (book front back : List Txn) (t : Txn) (n : ℕ) (is : book ≡ front ++ t ∷ back) (long : length front ≡ n) (days : AllByRecursion (IsOnDay t) t.postings)
-    (few : HaveFew book) (right : AreRight told others book (place_at t n 0)) (exact : AllByRecursion (IsExact told book (place_at t n 0)) t.postings) where
+    (few : HaveFew book) (right : AreRight told others book (place_at t n 0)) where
   early_now : (k : ℕ) (xs ys : List Posting) (p : Posting) → t.postings ≡ xs ++ p ∷ ys → length xs ≡ k → is_late t p ≡ false → IsAssignedAt book (entry_at t n k p) → AssignedNow told (early t xs) p
   early_now k xs ys p split count e h assigned =
-      let E : Posting → Type 0 = IsExact told book (place_at t n 0) in
-      let same : E p = (all_rest E xs (p ∷ ys) (subst (AllByRecursion E) split exact)).0 in
       let on : IsOnDay t p = (all_rest (IsOnDay t) xs (p ∷ ys) (subst (AllByRecursion (IsOnDay t)) split days)).0 in
       h assigned
       ∙ ap (λ (place : Place). amount_at book place p p.wanted) (early_place t n k p on e)
-      ∙ sym (same_amount told others book front back t n is long days few right exact p p.wanted xs (p ∷ ys) k split count (same assigned))
+      ∙ sym (same_amount told others book front back t n is long days few right p p.wanted xs (p ∷ ys) k split count)
 
   pub each_now : AllByRecursion (IsAssignedAt book) (placed_in t n 0 t.postings) → EachAfter (AssignedNow told) [] (early t t.postings)
   each_now h = each_after t n (AssignedNow told) (IsAssignedAt book) early_now 0 [] t.postings refl refl h

@@ -19,11 +19,12 @@ use Rattle.balancing.specs.Solves.{HaveFew, Holds, HoldsIf, IsAssertedAt, just_a
 use Rattle.balancing.proofs.SolvingSeen.{EachAfter, each_append}
 use Rattle.entry_check.specs.Checked.{Others, Told, failure_after, first_failing, held_after, in_order}
 use Rattle.placed_checks.specs.Placed.{AreRight}
-use Rattle.placed_checks.proofs.Asserting.{Unmixed, beside_same, same_units}
+use Rattle.placed_checks.proofs.Asserting.{Unmixed, beside_same}
 use Rattle.placed_checks.proofs.Elsewhere.{Entry}
 use Rattle.placed_checks.proofs.Lists.{all_rest, length_more}
 use Rattle.placed_checks.proofs.Ordered.{Passes, all_early, found_is}
 use Rattle.placed_checks.proofs.Own.{IsOnDay, early, early_place, early_skips, early_takes, entry_at, is_late, late_by, place_at}
+use Rattle.placed_checks.proofs.Units.{same_units}
 
 -- ---- from the places to the order
 
@@ -86,7 +87,7 @@ module _ (told : Told) (others : Others) (book front back : List Txn) (t : Txn) 
       let total = total_of w.amount.symbol (held_after told w.below p.account w.amount.symbol (early t xs)) in
       let f : List ℕ → Value = λ s. (s, told w.below p.account s) in
       let o : Option (List ℕ) = others w.below p.account w.amount.symbol in
-      let same : is_same total w.amount.value ≡ true = ap (λ (z : ℤ). is_eq (int_cmp z (units_of w.amount.value))) (sym (same_units told others book front back t n is long days few right unmixed p.account w.amount.symbol w.below xs ys m split count)) ∙ h.sum in
+      let same : is_same total w.amount.value ≡ true = ap (λ (z : ℤ). is_eq (int_cmp z (units_of w.amount.value))) (sym (same_units told others book front back t n is long days few right p.account w.amount.symbol w.below xs ys m split count)) ∙ h.sum in
       ap (λ (b : Bool). failure_at p.line w (cond b (cond w.only (option_map f o) None) (Some (w.amount.symbol, total)))) same
       ∙ none_only p.line w f o w.only
       (λ on. sym (beside_same told others book front back t n is long days few right unmixed p w xs ys m split count one on) ∙ ap (λ (vs : List Value). option_map (λ sum. sum.0) (first_of vs)) (h.only on))

@@ -1,32 +1,28 @@
 -- What passes its check by what accounts hold before its place in a book is solved there.
-use Rattle.std.proofs.Common.{◌≡◌, ℕ, Bool, true, false, ◌&&◌, ◌||◌, eqb, is_some, max, not, List, [], ◌∷◌, Option, Some, None, Ok, refl, sym, ap, subst, ◌∙◌}
-use Rattle.std.specs.List.{AllByRecursion, find, list_all, list_any}
+use Rattle.std.proofs.Common.{◌≡◌, ℕ, Bool, true, false, ◌&&◌, ◌||◌, eqb, not, List, [], Option, Some, None, Ok, refl, sym, ap, subst, ◌∙◌}
+use Rattle.std.specs.List.{AllByRecursion, find, list_all}
 use Rattle.std.specs.Option.{option_map}
 use Rattle.std.specs.Str.{bytes_eq}
-use Rattle.std.proofs.lemmas.Bool.{eqb-true, false≢true, leb-true, or_parts}
-use Rattle.book.specs.Bounds.{places_of}
-use Rattle.book.specs.Postings.{postings_of}
+use Rattle.std.proofs.lemmas.Bool.{eqb-true, false≢true}
 use Rattle.book.specs.Sums.{mixed_of, sum_of}
-use Rattle.book.specs.SumsBefore.{Place, is_assigned, is_of, sum_before}
+use Rattle.book.specs.SumsBefore.{Place, is_of, sum_before}
 use Rattle.book.specs.declared.amount.Assertion.{Assertion}
 use Rattle.book.specs.declared.transaction.Posting.{Posting}
 use Rattle.book.specs.declared.transaction.Txn.{Txn}
 use Rattle.entry_balance.specs.Entry as amounts
 use Rattle.entry_balance.specs.Entry.{cause_alone, settled, solved}
-use Rattle.entry_balance.specs.Tally.{total_of}
 use Rattle.entry_balance.proofs.Named.{left_true, right_true}
 use Rattle.entry_balance.proofs.Trimmed.{trimmed-places}
 use Rattle.balancing.specs.Groups.{day_of}
-use Rattle.balancing.specs.Solves.{HaveFew, is_unmarked, values_of}
+use Rattle.balancing.specs.Solves.{is_unmarked}
 use Rattle.reached_entries.specs.Reached.{IsSolved}
 use Rattle.entry_check.specs.Checked.{Others, Told, checked, first_failing, in_order, made, made_postings, others_before, told_before}
-use Rattle.placed_checks.specs.Placed.{AreExact, AreRight, IsExact, IsExactFor, IsPlaced, SameBefore, is_fine, place_of, want_enough, wants_enough}
+use Rattle.placed_checks.specs.Placed.{AreRight, IsPlaced, SameBefore, place_of}
 use Rattle.placed_checks.specs.Judging.{IsJudged, IsSolvedWhere, answered, judged_as}
 use Rattle.placed_checks.specs.declared.judge.Judged.{Judged}
 use Rattle.placed_checks.specs.Unmixed.{are_alike, is_alike, is_single, is_unmixed}
 use Rattle.placed_checks.proofs.Asserting.{IsAlike, Unmixed, all_hold}
 use Rattle.placed_checks.proofs.Assigning.{all_assigned, early_assigned}
-use Rattle.placed_checks.proofs.Decimals.{enough_decimals}
 use Rattle.placed_checks.proofs.Held.{trimmed_is}
 use Rattle.placed_checks.proofs.Lists.{Parts, all_map, all_tested, parted}
 use Rattle.placed_checks.proofs.Ordered.{early_pass}
@@ -76,7 +72,6 @@ placed_is_solved told others book n w t h unmarked passes =
     let day : place_of n w.day ≡ place_at t n 0 = ap (λ (x : Txn). place_of n x.day) (sym solved_is) in
     let days = days_of t h.unmixed in
     let right : AreRight told others book (place_at t n 0) = subst (AreRight told others book) day h.right in
-    let exact : AllByRecursion (IsExact told book (place_at t n 0)) t.postings = subst (λ (p : Place). AreExact told book p t) day h.exact in
     let none : first_failing told others [] (in_order t.postings) ≡ None = ap (λ (x : Txn). first_failing told others [] (in_order x.postings)) (sym passed.is) ∙ passed.none in
     let P : Txn → Type 0 = λ x. cause_alone x.postings ≡ None in
     record {
@@ -86,7 +81,7 @@ placed_is_solved told others book n w t h unmarked passes =
       kept = made_kept told w;
       balanced = subst P made_all passed.alone;
       found = solved_is;
-      assigned = all_assigned told others book parts.front parts.back t n parts.is parts.long days h.few right exact (early_assigned told w.postings t (none_marked w.postings unmarked) postings);
+      assigned = all_assigned told others book parts.front parts.back t n parts.is parts.long days h.few right (early_assigned told w.postings t (none_marked w.postings unmarked) postings);
       asserted = all_hold told others book parts.front parts.back t n parts.is parts.long days h.few right (alike_of t h.unmixed) (early_pass told others t none);
     }
 
@@ -102,45 +97,15 @@ same_are_right one two place same = record {
       ap (λ (ps : List Posting). option_map (λ sum. sum.0) (find (λ sum. not (bytes_eq sum.0 symbol)) (mixed_of ps))) (same account below);
 }
 
--- a transaction without assigned amounts asks for no decimals
-none_exact : (told : Told) (book : List Txn) (place : Place) (ps : List Posting) → list_any is_assigned ps ≡ false → AllByRecursion (IsExact told book place) ps
-none_exact told book place [] h = tt
-none_exact told book place (p ∷ ps) h =
-    let both = or_parts (is_assigned p) (list_any is_assigned ps) h in
-    ((λ e. absurd (false≢true (sym both.0 ∙ e))), none_exact told book place ps both.1)
-
-pub unassigned_exact : (told : Told) (book : List Txn) (place : Place) (t : Txn) → list_any is_assigned t.postings ≡ false → AreExact told book place t
-unassigned_exact told book place t h = none_exact told book place t.postings h
-
--- nor does one ask for more of them whose assigned amounts are wanted with enough
-enough_for : (one two : List Txn) (place : Place) → HaveFew one → SameBefore one two place → (account : List ℕ) (o : Option Assertion) → wants_enough (postings_of one) o ≡ true → IsExactFor (told_before one place) two place account o
-enough_for one two place few same account None h = tt
-enough_for one two place few same account (Some w) h =
-    enough_decimals w.amount.value one account w.amount.symbol w.below place few (leb-true (places_of w.amount.symbol (postings_of one)) w.amount.value.places h)
-    ∙ ap (λ (ps : List Posting). max w.amount.value.places (total_of w.amount.symbol (values_of ps)).places) (same account w.below)
-
-fine_then : (filled wanted enough : Bool) → (not filled || enough) ≡ true → (filled && wanted) ≡ true → enough ≡ true
-fine_then true wanted enough h assigned = h
-fine_then false wanted enough h assigned = absurd (false≢true assigned)
-
-each_enough : (one two : List Txn) (place : Place) → HaveFew one → SameBefore one two place → (ps : List Posting) → AllByRecursion (λ p. is_fine one p ≡ true) ps → AllByRecursion (IsExact (told_before one place) two place) ps
-each_enough one two place few same [] h = tt
-each_enough one two place few same (p ∷ ps) h =
-    ((λ e. enough_for one two place few same p.account p.wanted (fine_then p.filled (is_some p.wanted) (wants_enough (postings_of one) p.wanted) h.0 e)), each_enough one two place few same ps h.1)
-
-pub enough_exact : (one two : List Txn) (place : Place) (t : Txn) → HaveFew one → SameBefore one two place → want_enough one t ≡ true → AreExact (told_before one place) two place t
-enough_exact one two place t few same h = each_enough one two place few same t.postings (all_tested (is_fine one) t.postings h)
-
 -- ---- a check by the sums of one book, in another
 
 pub solved_where : (book : List Txn) (place : Place) (w t : Txn) → list_all is_unmarked w.postings ≡ true → is_unmixed t ≡ true → checked (told_before book place) (others_before book place) w ≡ Ok t → IsSolvedWhere book place w t
-solved_where book place w t unmarked unmixed passes after n at few enough few_after there same =
+solved_where book place w t unmarked unmixed passes after n at few there same =
     placed_is_solved (told_before book place) (others_before book place) after n w t (record {
       there = there;
-      few = few_after;
+      few = few;
       unmixed = unmixed;
       right = subst (λ (p : Place). AreRight (told_before book place) (others_before book place) after p) at (same_are_right book after place same);
-      exact = subst (λ (p : Place). AreExact (told_before book place) after p t) at (enough_exact book after place t few same enough);
     }) unmarked passes
 
 pub judged_right : (book : List Txn) (place : Place) (w t : Txn) (unmarked : Bool) (r : Judged) → checked (told_before book place) (others_before book place) w ≡ Ok t → unmarked ≡ list_all is_unmarked w.postings → r ≡ judged_as (unmarked && is_unmixed t) t → IsJudged book place w r

@@ -1,45 +1,19 @@
 -- What accounts hold at the places of a transaction in a book: what they held before it, and its own earlier postings.
-use Rattle.std.proofs.Common.{◌≡◌, ℕ, ℤ, suc, ◌+◌, ◌+ℤ◌, Bool, true, false, cond, List, [], ◌∷◌, ◌++◌, length, map, filter, refl, sym, ap, ◌∙◌, arith, append_assoc}
+use Rattle.std.proofs.Common.{◌≡◌, ℕ, ℤ, suc, ◌+◌, ◌+ℤ◌, Bool, List, [], ◌∷◌, ◌++◌, length, map, filter, refl, sym, ap, ◌∙◌, arith}
 use Rattle.std.specs.List.{AllByRecursion}
-use Rattle.std.proofs.lemmas.Grind.{flat_map-append}
 use Rattle.std.proofs.lemmas.Int.{ints}
 use Rattle.std.proofs.lemmas.List.{map-append}
 use Rattle.std.proofs.lemmas.List.Elements.{filter-append}
-use Rattle.hl_num.specs.Decimal.{Decimal}
-use Rattle.book.specs.Mixed.{plus}
 use Rattle.book.specs.Sums.{sum_of}
 use Rattle.book.specs.SumsBefore.{is_of, placed_in, placed_from, postings_before, sum_before}
 use Rattle.book.specs.declared.transaction.Posting.{Posting}
 use Rattle.book.specs.declared.transaction.Txn.{Txn}
-use Rattle.entry_balance.specs.Entry.{from_amount}
-use Rattle.entry_balance.specs.Tally.{total_of}
-use Rattle.entry_balance.specs.Values.{Value, value_of}
-use Rattle.assertions.specs.Assertions.{held_in}
-use Rattle.balancing.specs.Solves.{values_before, values_of}
-use Rattle.balancing.proofs.Adding.{total-append}
-use Rattle.balancing.proofs.SolvingSeen.{counts_is}
-use Rattle.balancing.proofs.SolvingSums.{plus_swap}
 use Rattle.placed_checks.proofs.Elsewhere.{Entry, counted, placed_both, same_back, same_front}
 use Rattle.placed_checks.proofs.Held.{sum_both}
 use Rattle.placed_checks.proofs.Own.{IsOnDay, early, own, place_at}
 
 turned : (x y z : ℤ) → x +ℤ (y +ℤ z) ≡ (x +ℤ z) +ℤ y
 turned x y z = omega (arith, ints)
-
--- the amounts of an account's postings are what they add to it
-pub held_values : (account : List ℕ) (below : Bool) (ps : List Posting) → values_of (filter (λ p. is_of account below p.account) ps) ≡ held_in below account ps
-held_values account below [] = refl
-held_values account below (p ∷ ps) =
-    by (is_of account below p.account) (held_values account below ps)
-    ∙ ap (λ (b : Bool). cond b (from_amount (λ a. value_of a ∷ []) p.amount) [] ++ held_in below account ps) (sym (counts_is below account p.account))
-  where
-    by : (b : Bool) → values_of (filter (λ p. is_of account below p.account) ps) ≡ held_in below account ps →
-        values_of (cond b (p ∷ filter (λ p. is_of account below p.account) ps) (filter (λ p. is_of account below p.account) ps)) ≡ cond b (from_amount (λ a. value_of a ∷ []) p.amount) [] ++ held_in below account ps
-    by true h = ap (λ (vs : List Value). from_amount (λ a. value_of a ∷ []) p.amount ++ vs) h
-    by false h = h
-
-values_both : (xs ys : List Posting) → values_of (xs ++ ys) ≡ values_of xs ++ values_of ys
-values_both xs ys = flat_map-append (λ (p : Posting). from_amount (λ a. value_of a ∷ []) p.amount) xs ys
 
 module _ (book front back : List Txn) (t : Txn) (n : ℕ) (is : book ≡ front ++ t ∷ back) (long : length front ≡ n) (days : AllByRecursion (IsOnDay t) t.postings) where
   abbrev first_ones : List Entry
@@ -64,10 +38,10 @@ module _ (book front back : List Txn) (t : Txn) (n : ℕ) (is : book ≡ front +
     of_it p = is_of account below p.account
 
     -- those of other transactions before it
-    abbrev firsts : List Posting
+    abbrev pub firsts : List Posting
     firsts = map (λ (e : Entry). e.1) (filter (at 0) first_ones)
 
-    abbrev lasts : List Posting
+    abbrev pub lasts : List Posting
     lasts = map (λ (e : Entry). e.1) (filter (at 0) last_ones)
 
     before_at : (m : ℕ) (xs ys : List Posting) → t.postings ≡ xs ++ ys → length xs ≡ m → postings_before book account below (place_at t n m) ≡ firsts ++ (filter of_it (early t xs) ++ lasts)
@@ -82,7 +56,7 @@ module _ (book front back : List Txn) (t : Txn) (n : ℕ) (is : book ≡ front +
         ∙ ap (λ (ps : List Posting). map (λ (e : Entry). e.1) (filter (at m) first_ones) ++ ps) (map-append (λ (e : Entry). e.1) (filter (at m) own_ones) (filter (at m) last_ones))
         ∙ (λ i. map (λ (e : Entry). e.1) (front_same i) ++ (its_own i ++ map (λ (e : Entry). e.1) (back_same i)))
 
-    before_it : postings_before book account below (place_at t n 0) ≡ firsts ++ lasts
+    pub before_it : postings_before book account below (place_at t n 0) ≡ firsts ++ lasts
     before_it = before_at 0 [] t.postings refl refl
 
     -- the sum before a place is that before all its postings, and that of its own before the place
@@ -95,19 +69,3 @@ module _ (book front back : List Txn) (t : Txn) (n : ℕ) (is : book ≡ front +
         ∙ ap (λ (z : ℤ). sum_of symbol firsts +ℤ z) (sum_both symbol mine lasts)
         ∙ turned (sum_of symbol firsts) (sum_of symbol mine) (sum_of symbol lasts)
         ∙ ap (λ (z : ℤ). z +ℤ sum_of symbol mine) (sym (ap (sum_of symbol) before_it ∙ sum_both symbol firsts lasts))
-
-    -- the same with the decimals of all that is added
-    pub total_through : (symbol : List ℕ) (m : ℕ) (xs ys : List Posting) → t.postings ≡ xs ++ ys → length xs ≡ m →
-        total_of symbol (values_before book account below (place_at t n m)) ≡ plus (total_of symbol (values_before book account below (place_at t n 0))) (total_of symbol (held_in below account (early t xs)))
-    total_through symbol m xs ys split count =
-        let mine : List Posting = filter of_it (early t xs) in
-        let f : Decimal = total_of symbol (values_of firsts) in
-        let o : Decimal = total_of symbol (values_of mine) in
-        let l : Decimal = total_of symbol (values_of lasts) in
-        ap (λ (ps : List Posting). total_of symbol (values_of ps)) (before_at m xs ys split count ∙ sym (append_assoc firsts mine lasts))
-        ∙ ap (total_of symbol) (values_both (firsts ++ mine) lasts)
-        ∙ total-append symbol (values_of (firsts ++ mine)) (values_of lasts)
-        ∙ ap (λ (d : Decimal). plus d l) (ap (total_of symbol) (values_both firsts mine) ∙ total-append symbol (values_of firsts) (values_of mine))
-        ∙ plus_swap f o l
-        ∙ ap (λ (d : Decimal). plus d o) (sym (ap (λ (ps : List Posting). total_of symbol (values_of ps)) before_it ∙ ap (total_of symbol) (values_both firsts lasts) ∙ total-append symbol (values_of firsts) (values_of lasts)))
-        ∙ ap (λ (vs : List Value). plus (total_of symbol (values_before book account below (place_at t n 0))) (total_of symbol vs)) (held_values account below (early t xs))

@@ -1,4 +1,3 @@
-pub mod Finest
 pub mod Judging
 pub mod Placed
 pub mod Unmixed

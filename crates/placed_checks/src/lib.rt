@@ -3,13 +3,9 @@
 #![tactic(auto)]
 
 mod alone;
-mod enough;
 pub mod judge;
 mod laws;
-#[cfg(test)]
-mod tests;
 
 pub use alone::{are_unmarked, is_unmixed};
-pub use enough::want_enough;
 pub use judge::{Judged, check_placed};
 pub use laws::a_placed_check;

@@ -1,5 +1,6 @@
+use Rattle.placed_checks.proofs.Answering.{is_this}
 use Rattle.placed_checks.proofs.Passing.{solved_passes}
-use Rattle.placed_checks.proofs.Solved.{enough_exact, placed_is_solved, same_are_right, unassigned_exact}
+use Rattle.placed_checks.proofs.Solved.{placed_is_solved, same_are_right}
 use Rattle.placed_checks.proofs.laws.a_placed_check.Goals as goal
 
 pub returns-clause-solves : goal.returns-clause-solves
@@ -12,8 +13,5 @@ returns-clause-passes c told others book n written solved placed is_solved = sol
 pub returns-clause-told : goal.returns-clause-told
 returns-clause-told c one two place same = same_are_right one two place same
 
-pub returns-clause-unassigned : goal.returns-clause-unassigned
-returns-clause-unassigned c told book place solved none = unassigned_exact told book place solved none
-
-pub returns-clause-decimals : goal.returns-clause-decimals
-returns-clause-decimals c one two place solved few same enough = enough_exact one two place solved few same enough
+pub returns-clause-answers : goal.returns-clause-answers
+returns-clause-answers c one two place n written solved answer placed is_solved fits is = is_this one two place n written solved placed is_solved fits answer is
