@@ -1,0 +1,9 @@
+pub mod Accounts
+pub mod Days
+pub mod Numbers
+pub mod Own
+pub mod Placed
+pub mod Placing
+pub mod Replaced
+pub mod Rows
+pub mod Taken
