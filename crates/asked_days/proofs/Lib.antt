@@ -1,0 +1,4 @@
+pub mod Assigning
+pub mod Counting
+pub mod Keeping
+pub mod Latest
