@@ -1,0 +1,3 @@
+pub mod Days
+pub mod Places
+pub mod Totals
