@@ -8,11 +8,10 @@ use Rattle.std.specs.Cmp.Lexicographic.{slice_cmp}
 use Rattle.std.specs.List.{AllByRecursion}
 use Rattle.std.proofs.lemmas.Bool.{false≢true}
 use Rattle.std.proofs.lemmas.Bool.Decides.{nat_tests}
-use Rattle.std.proofs.lemmas.Cmp.{alike_right, nat_cmp_total, nat_list_cmp_total, tied_itself}
+use Rattle.std.proofs.lemmas.Cmp.{nat_cmp_total, tied_itself}
 use Rattle.shared_set.specs.Sorted.{Rises, find_last, or_other}
-use Rattle.book.specs.declared.style.Style.{Style}
 use Rattle.counted_styles.specs.declared.mark.Mark.{Mark}
-use Rattle.counted_styles.specs.Marks.{edge_cmp, key_cmp, mark_at, mark_cmp, side_of, style_if, style_of}
+use Rattle.counted_styles.specs.Marks.{edge_cmp, key_cmp, mark_at, mark_cmp, style_if, style_of}
 use Rattle.counted_styles.specs.Totals.{mark_total}
 use Rattle.counted_styles.proofs.Keys.{is-equal}
 

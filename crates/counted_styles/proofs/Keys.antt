@@ -1,5 +1,5 @@
 -- What is found at a symbol and a number, after something is put in or taken out.
-use Rattle.std.proofs.Common.{◌≡◌, ℕ, suc, ◌+◌, ◌-◌, ◌<◌, ◌≤◌, ◌==◌, Bool, true, false, ◌&&◌, cond, not, List, [], ◌∷◌, find, Option, Some, None, is_some, refl, sym, ap, subst, ◌∙◌, arith}
+use Rattle.std.proofs.Common.{◌≡◌, ℕ, ◌==◌, Bool, true, false, ◌&&◌, cond, not, List, [], ◌∷◌, Option, Some, None, refl, sym, ap, ◌∙◌, arith}
 use Rattle.std.specs.Prelude.{nat_lt}
 use Rattle.std.specs.declared.cmp.Ordering.{Ordering}
 use Rattle.std.specs.declared.cmp.Ordering.TheVariants.{Less, Equal, Greater}
@@ -13,7 +13,6 @@ use Rattle.std.proofs.lemmas.Bool.Decides.{nat_tests}
 use Rattle.std.proofs.lemmas.Cmp.{alike_right, tied_itself}
 use Rattle.shared_set.specs.Sorted.{without_key}
 use Rattle.book.proofs.Entries.{tie-bytes_eq}
-use Rattle.book.specs.declared.style.Style.{Style}
 use Rattle.counted_styles.specs.declared.mark.Mark.{Mark}
 use Rattle.counted_styles.specs.Marks.{key_cmp, mark_at, mark_cmp}
 use Rattle.counted_styles.specs.Totals.{mark_total}

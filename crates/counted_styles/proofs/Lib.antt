@@ -1,7 +1,11 @@
+pub mod Comparing
 pub mod Ends
 pub mod Folding
 pub mod Keys
+pub mod Naming
 pub mod Noting
+pub mod Placing
 pub mod Reading
 pub mod Standing
+pub mod Telling
 pub mod Whole

@@ -1,9 +1,9 @@
 -- The style of a symbol by what is kept of it.
-use Rattle.std.proofs.Common.{◌≡◌, ℕ, zero, suc, ◌+◌, ◌<◌, ◌≤◌, ◌==◌, max, Bool, true, false, ◌&&◌, cond, List, [], ◌∷◌, ◌++◌, map, filter, find, Option, Some, None, refl, sym, ap, subst, ◌∙◌, arith}
+use Rattle.std.proofs.Common.{◌≡◌, ℕ, ◌+◌, ◌<◌, ◌≤◌, ◌==◌, max, Bool, true, false, ◌&&◌, cond, List, [], ◌∷◌, ◌++◌, map, find, Option, Some, None, refl, sym, ap, subst, ◌∙◌, arith}
 use Rattle.std.specs.Prelude.{nat_lt}
 use Rattle.std.specs.Ordering.{is_gt, is_lt}
 use Rattle.std.specs.Str.{bytes_eq}
-use Rattle.std.proofs.lemmas.Bool.{false≢true, ltb-true, ltb-false}
+use Rattle.std.proofs.lemmas.Bool.{false≢true, ltb-false}
 use Rattle.std.proofs.lemmas.Bool.Decides.{nat_tests}
 use Rattle.shared_set.specs.Sorted.{Rises, find_last, or_other}
 use Rattle.book.specs.declared.directive.Directive.{Directive}
@@ -11,14 +11,13 @@ use Rattle.book.specs.declared.directive.Directive.TheVariants as directive
 use Rattle.book.specs.declared.item.Item.{Item}
 use Rattle.book.specs.declared.item.Item.TheVariants as item
 use Rattle.book.specs.declared.style.Style.{Style}
-use Rattle.book.specs.declared.amount.Amount.{Amount}
 use Rattle.book.specs.Standing.{Numbered, Rise, all_greater}
-use Rattle.book.specs.Style.{commodity_said, commodity_styles, default_said, default_styles, first_class, first_else, last_else, most_places, of_symbol, second_class, style_by, default_style}
+use Rattle.book.specs.Style.{commodity_said, commodity_styles, default_said, default_styles, first_class, first_else, last_else, most_places, of_symbol, second_class, default_style}
 use Rattle.book.specs.Styles.{said_standing, style_standing}
 use Rattle.counted_styles.specs.declared.mark.Mark.{Mark}
 use Rattle.counted_styles.specs.declared.styles.CountedStyles.{CountedStyles}
-use Rattle.counted_styles.specs.Kept.{AreOf, IsKept, at_number, chosen, first_style, how_many}
-use Rattle.counted_styles.specs.Marks.{count_at, count_of, edge_cmp, first_in, first_of, first_with, last_in, mark_at, mark_cmp, style_at, style_of, with_places}
+use Rattle.counted_styles.specs.Kept.{AreOf, IsKept, at_number, chosen, first_style, how_many, most_said}
+use Rattle.counted_styles.specs.Marks.{count_at, count_of, edge_cmp, first_of, first_with, last_in, mark_at, mark_cmp, style_at, style_of, with_places}
 use Rattle.counted_styles.proofs.Ends.{IsLeast, IsMost, least-is, most-is, own, style-own}
 use Rattle.counted_styles.proofs.Keys.{eq-of, eq-self}
 
@@ -62,7 +61,7 @@ no-first [] ys h = refl
 no-first (x ∷ xs) ys h = absurd (some≢none x h)
 
 -- no number up to one that is less than all stands
-at-below : (n k : ℕ) (es : Numbered Item) → n ≤ k → all_greater k es ≡ true → at_number n es ≡ []
+pub at-below : (n k : ℕ) (es : Numbered Item) → n ≤ k → all_greater k es ≡ true → at_number n es ≡ []
 at-below n k [] le h = refl
 at-below n k (e ∷ es) le h =
     ap (λ (b : Bool). cond b (e ∷ at_number n es) (at_number n es)) (differ n k e.0 le (first_part (nat_lt k e.0) (all_greater k es) h))
@@ -76,7 +75,7 @@ module _ (saying : Item → List (List ℕ × Style)) (q : List ℕ) where
   at-first : (e : ℕ × Item) (es : Numbered Item) → at_number e.0 (e ∷ es) ≡ e ∷ at_number e.0 es
   at-first e es = ap (λ (b : Bool). cond b (e ∷ at_number e.0 es) (at_number e.0 es)) (eq-self e.0)
 
-  none-said : (es : Numbered Item) → ((n : ℕ) → first_style (said_standing saying (at_number n es) q) ≡ None) → said_standing saying es q ≡ []
+  pub none-said : (es : Numbered Item) → ((n : ℕ) → first_style (said_standing saying (at_number n es) q) ≡ None) → said_standing saying es q ≡ []
   none-said [] f = refl
   none-said (e ∷ es) f =
       let nothing : of_symbol q (saying e.1) ≡ [] = no-first (of_symbol q (saying e.1)) (said_standing saying (at_number e.0 es) q) (ap (λ (l : Numbered Item). first_style (said_standing saying l q)) (sym (at-first e es)) ∙ f e.0) in
@@ -215,6 +214,10 @@ abbrev pub kept_of : List Style → Option Style
 kept_of [] = None
 kept_of (s ∷ ss) = Some (record { shape = s.shape; places = most_places (s ∷ ss) })
 
+abbrev pub places_of : Option Style → Option ℕ
+places_of None = None
+places_of (Some s) = Some s.places
+
 none-styled : (q : List ℕ) (n : ℕ) (ws : List Mark) → mark_at q n ws ≡ None → style_at q n ws ≡ None
 none-styled q n ws h = ap style_of h
 
@@ -268,6 +271,34 @@ module _ (saying : Item → List (List ℕ × Style)) (es : Numbered Item) (head
       by (Some s) e =
           ap (λ (o : Option Style). first_with o (style_of (own q (find_last (λ m. is_gt (edge_cmp q true m)) counts)))) e
           ∙ most-styled s (own q (find_last (λ m. is_gt (edge_cmp q true m)) counts)) (most-is q counts rc) e
+
+  decimals-styled : (o : Option Mark) → IsMost q counts o → places_of (style_of o) ≡ most_said (said_standing saying es q)
+  decimals-styled o h = by (said_standing saying es q) refl o h
+    where
+      never : (n : ℕ) → 1 + n ≡ 0 → ⊥
+      never n h = omega arith
+
+      nothing : (n : ℕ) → 0 < n → n ≡ 0 → ⊥
+      nothing n lt e = omega arith
+
+      by : (l : List Style) → said_standing saying es q ≡ l → (o : Option Mark) → IsMost q counts o → places_of (style_of o) ≡ most_said l
+      by [] k None h = refl
+      by [] k (Some m) h = absurd (nothing m.count (kept.some q m.at m h.0) (sym (ap count_of h.0) ∙ kept.counts q m.at ∙ ap (how_many m.at) k))
+      by (x ∷ xs) k None h = absurd (never (how_many x.places xs) (ap (λ (b : Bool). cond b 1 0 + how_many x.places xs) (sym (eq-self x.places)) ∙ ap (how_many x.places) (sym k) ∙ none-counted x.places (h x.places)))
+      by (x ∷ xs) k (Some m) h =
+          let there : count_at q m.at counts ≡ m.count = ap count_of h.0 in
+          let count : how_many m.at (said_standing saying es q) ≡ m.count = sym (kept.counts q m.at) ∙ there in
+          let above : 0 < m.count = kept.some q m.at m h.0 in
+          let more : 0 < how_many m.at (said_standing saying es q) = subst (λ (n : ℕ). 0 < n) (sym count) above in
+          let most : most_places (said_standing saying es q) ≡ m.at = most-is-at m.at (said_standing saying es q) more (λ d lt. none-counted d (h.1 d lt)) in
+          let places : m.style.places ≡ most_places (x ∷ xs) = kept.decimals q m.at m h.0 ∙ sym most ∙ ap most_places k in
+          λ i. Some (places i)
+
+  -- the last count has the greatest number of decimals
+  decimals-class : Rises mark_cmp counts → places_of (last_in q counts) ≡ most_said (said_standing saying es q)
+  decimals-class rc =
+      ap places_of (style-own q (find_last (λ m. is_gt (edge_cmp q true m)) counts))
+      ∙ decimals-styled (own q (find_last (λ m. is_gt (edge_cmp q true m)) counts)) (most-is q counts rc)
 
   last-class : Rises mark_cmp heads → ((i : Item) → last_style (of_symbol q (saying i)) ≡ first_style (of_symbol q (saying i))) → last_in q heads ≡ last_style (said_standing saying es q)
   last-class rh one =
@@ -330,3 +361,6 @@ style-is es styles q up are =
     ∙ (λ i. chosen (last_style (said_standing commodity_styles es q)) (chosen (last_style (said_standing default_styles es q)) (chosen-first (said_standing first_class es q) (first_else (said_standing second_class es q) default_style) i)))
     ∙ (λ i. chosen (last_style (said_standing commodity_styles es q)) (chosen-last (said_standing default_styles es q) (first_else (said_standing first_class es q) (first_else (said_standing second_class es q) default_style)) i))
     ∙ chosen-last (said_standing commodity_styles es q) (last_else (said_standing default_styles es q) (first_else (said_standing first_class es q) (first_else (said_standing second_class es q) default_style)))
+
+pub decimals-are : (es : Numbered Item) (styles : CountedStyles) (q : List ℕ) → Rises mark_cmp styles.first.counts → AreOf es styles → places_of (last_in q styles.first.counts) ≡ most_said (said_standing first_class es q)
+decimals-are es styles q up are = decimals-class first_class es styles.first.heads styles.first.counts are.first are.rise q up

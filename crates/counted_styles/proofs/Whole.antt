@@ -57,7 +57,7 @@ are-none styles a b c d e f g h = record {
 -- ---- the items of a text
 
 -- past one that isn't greater
-with-past : (n : ℕ) (x : Item) (m : ℕ × Item) (ms : Numbered Item) → nat_lt n m.0 ≡ false → with_number n x (m ∷ ms) ≡ m ∷ with_number n x ms
+pub with-past : (n : ℕ) (x : Item) (m : ℕ × Item) (ms : Numbered Item) → nat_lt n m.0 ≡ false → with_number n x (m ∷ ms) ≡ m ∷ with_number n x ms
 with-past n x m ms low = ap (λ (b : Bool). cond (b && all_greater n ms) ((n, x) ∷ m ∷ ms) (m ∷ with_number n x ms)) low
 
 places-more : (m i n : ℕ) (items : List Placed) (d : Placed) → n ≡ m + i → i < length items → with_number n (get_or items i d).item (places_from m (take i items)) ≡ places_from m (take (suc i) items)
@@ -70,7 +70,7 @@ places-more m (suc i) n (p ∷ items) d is lt =
     not-greater : (n m : ℕ) → m ≤ n → nat_lt n m ≡ false
     not-greater n m le = grind (arith, nat_tests)
 
-free-places : (m n : ℕ) (items : List Placed) → m + length items ≤ n → is_free n (places_from m items) ≡ true
+pub free-places : (m n : ℕ) (items : List Placed) → m + length items ≤ n → is_free n (places_from m items) ≡ true
 free-places m n [] le = refl
 free-places m n (p ∷ items) le = both (not (m == n)) _ (apart m n (omega arith)) (free-places (suc m) n items (omega arith))
   where

@@ -4,7 +4,7 @@ use Rattle.std.specs.List.{fold}
 use Rattle.book.specs.declared.item.Item.{Item}
 use Rattle.book.specs.declared.style.Style.{Style}
 use Rattle.book.specs.Standing.{Numbered, Rise}
-use Rattle.book.specs.Style.{commodity_styles, default_styles, first_class, second_class}
+use Rattle.book.specs.Style.{commodity_styles, default_styles, first_class, most_places, second_class}
 use Rattle.book.specs.Styles.{said_standing}
 use Rattle.counted_styles.specs.declared.class.Class.{Class}
 use Rattle.counted_styles.specs.declared.mark.Mark.{Mark}
@@ -69,3 +69,8 @@ pub record HasRemoved (n : ℕ) (item : Item) (old new : CountedStyles) : Type 0
 abbrev pub chosen : Option Style → Style → Style
 chosen None other = other
 chosen (Some style) other = style
+
+-- the greatest number of decimals of what is said, if anything is
+abbrev pub most_said : List Style → Option ℕ
+most_said [] = None
+most_said (s ∷ ss) = Some (most_places (s ∷ ss))

@@ -1,9 +1,11 @@
 -- What is kept of symbols at numbers: a style, and a count.
-use Rattle.std.specs.Prelude.{ℕ, ◌+◌, ◌-◌, nat_lt, Bool, true, false, List, [], ◌∷◌, find, Option, Some, None, is_some, if◌then◌else◌}
+use Rattle.std.specs.Prelude.{◌≡◌, ℕ, ◌+◌, ◌-◌, nat_lt, Bool, true, false, ◌||◌, List, [], ◌∷◌, find, Option, Some, None, is_some, if◌then◌else◌}
+use Rattle.std.specs.List.{AllByRecursion}
 use Rattle.std.specs.declared.cmp.Ordering.{Ordering}
 use Rattle.std.specs.declared.cmp.Ordering.TheVariants.{Less, Greater}
 use Rattle.std.specs.Ordering.{nat_cmp, ordering_then, is_eq, is_lt, is_gt}
 use Rattle.std.specs.Cmp.Lexicographic.{slice_cmp}
+use Rattle.std.specs.Str.{bytes_eq}
 use Rattle.std.specs.BTreeSet.{replace_key}
 use Rattle.shared_set.specs.Sorted.{find_last, without_key}
 use Rattle.book.specs.declared.style.Style.{Style}
@@ -90,3 +92,22 @@ first_with (Some style) most = with_places style most
 -- the shape of the first, with the greatest number of decimals
 abbrev pub first_of : List ℕ → List Mark → List Mark → Option Style
 first_of symbol heads counts = first_with (first_in symbol heads) (last_in symbol counts)
+
+-- ---- the symbols of marks
+
+-- a symbol is among some
+abbrev pub is_among : List ℕ → List (List ℕ) → Bool
+is_among symbol [] = false
+is_among symbol (name ∷ names) = bytes_eq name symbol || is_among symbol names
+
+-- a mark stands behind all that is kept of a symbol
+abbrev pub is_past : List ℕ → Mark → Bool
+is_past symbol m = is_lt (edge_cmp symbol true m)
+
+-- each symbol of which something is kept is among some
+abbrev pub AreNamed : List (List ℕ) → List Mark → Type 0
+AreNamed names marks = AllByRecursion (λ m. is_among m.symbol names ≡ true) marks
+
+-- some are among others
+abbrev pub AreAmong : List (List ℕ) → List (List ℕ) → Type 0
+AreAmong some all = (symbol : List ℕ) → is_among symbol some ≡ true → is_among symbol all ≡ true

@@ -47,7 +47,8 @@ impl Class {
         number: u64,
         said: &[(Text, Style)],
     ) -> Result<(), Memory>
-        ensures heads { OnOk result (self.new.heads ≡ fold (headed number) self.old.heads said.now) }
+        ensures heads { OnOk result
+            (self.new.heads ≡ fold (headed number) self.old.heads said.now) }
         ensures counts { OnOk result (self.new.counts ≡ fold counted self.old.counts said.now) }
     {
         for one in said {
@@ -64,7 +65,8 @@ impl Class {
         number: u64,
         said: &[(Text, Style)],
     ) -> Result<(), Memory>
-        ensures heads { OnOk result (self.new.heads ≡ fold (unheaded number) self.old.heads said.now) }
+        ensures heads { OnOk result
+            (self.new.heads ≡ fold (unheaded number) self.old.heads said.now) }
         ensures counts { OnOk result (self.new.counts ≡ fold uncounted self.old.counts said.now) }
     {
         for one in said {
@@ -80,6 +82,14 @@ impl Class {
         ensures rises { Rises mark_cmp self.now.heads }
     {
         last_in(&self.heads, symbol)
+    }
+
+    /// A style with the greatest number of decimals of a symbol.
+    pub(crate) fn most(&self, symbol: &Text) -> Option<Style>
+        ensures value { result ≡ last_in symbol.now self.now.counts }
+        ensures rises { Rises mark_cmp self.now.counts }
+    {
+        last_in(&self.counts, symbol)
     }
 
     /// The shape of the first style of a symbol, with the greatest number of decimals of all.

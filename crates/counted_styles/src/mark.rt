@@ -1,8 +1,10 @@
 //! What is kept of symbols at numbers.
-ghost use Rattle.std.specs.Prelude.{◌≡◌, ◌+◌, ◌-◌, ◌<◌, ◌^◌, IfOk, OnOk, is_some};
+ghost use Rattle.std.specs.Prelude.{◌≡◌, ◌+◌, ◌-◌, ◌<◌, ◌^◌, [], false, find, IfOk, OnOk, is_some};
+ghost use Rattle.std.specs.Option.{option_copied};
+ghost use Rattle.std.specs.Ordering.{is_lt};
 ghost use Rattle.shared_set.specs.Order.{goes_up};
 ghost use Rattle.shared_set.specs.Sorted.{Rises};
-ghost use Rattle.counted_styles.specs.Marks.{count_at, counted, edge_cmp, first_in, headed, key_cmp, last_in, mark_at, mark_cmp, mark_of, side_of, style_of_mark, unheaded, uncounted};
+ghost use Rattle.counted_styles.specs.Marks.{count_at, counted, edge_cmp, first_in, headed, is_past, key_cmp, last_in, mark_at, mark_cmp, mark_of, side_of, style_of_mark, unheaded, uncounted};
 ghost use Rattle.counted_styles.specs.Totals.{edge_up, mark_sought, mark_total};
 
 use book::Style;
@@ -236,4 +238,28 @@ pub(crate) fn last_in(marks: &SharedSet<Mark>, symbol: &Text) -> Option<Style>
         Some(mark) => style_if(mark, symbol.as_bytes()),
         None => None,
     }
+}
+
+/// The first mark of all.
+pub(crate) fn first_mark(marks: &SharedSet<Mark>) -> Option<&Mark>
+    ensures mark { option_copied result ≡ find (λ m. is_lt (edge_cmp [] false m)) marks.now }
+    ensures rises { Rises mark_cmp marks.now }
+{
+    let edge = Edge {
+        symbol: b"",
+        behind: false,
+    };
+    marks.above(&edge)
+}
+
+/// The first mark behind all that is kept of a symbol.
+pub(crate) fn next_mark<'a>(marks: &'a SharedSet<Mark>, symbol: &[u8]) -> Option<&'a Mark>
+    ensures mark { option_copied result ≡ find (is_past symbol.now) marks.now }
+    ensures rises { Rises mark_cmp marks.now }
+{
+    let edge = Edge {
+        symbol,
+        behind: true,
+    };
+    marks.above(&edge)
 }

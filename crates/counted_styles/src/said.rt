@@ -13,7 +13,8 @@ type Said = Vec<(Text, Style)>;
 
 /// Says how an amount is written, as the style of a symbol.
 fn say(alloc: Global, said: &mut Said, symbol: &Text, amount: &Amount) -> Result<(), Memory>
-    ensures { OnOk result (said.new.items ≡ said.old.items ++ (symbol.now, (written_as amount.now).1) ∷ []) }
+    ensures { OnOk result
+        (said.new.items ≡ said.old.items ++ (symbol.now, (written_as amount.now).1) ∷ []) }
 {
     let style = Style {
         shape: amount.shape,
@@ -26,7 +27,8 @@ fn say(alloc: Global, said: &mut Said, symbol: &Text, amount: &Amount) -> Result
 
 /// Says a posting's amount, where it is there.
 fn say_present(alloc: Global, said: &mut Said, amount: &Option<Amount>) -> Result<(), Memory>
-    ensures { OnOk result (said.new.items ≡ said.old.items ++ map written_as (option_to_list amount.now)) }
+    ensures { OnOk result
+        (said.new.items ≡ said.old.items ++ map written_as (option_to_list amount.now)) }
 {
     match amount {
         Some(amount) => say(alloc, said, &amount.symbol, amount),
@@ -114,7 +116,8 @@ fn of_further(alloc: Global, postings: &[Posting]) -> Result<Said, Memory>
 
 /// All amounts of an automated rule's postings.
 fn of_auto(alloc: Global, postings: &[RulePosting]) -> Result<Said, Memory>
-    ensures { IfOk result (λ said. said.items ≡ flat_map (λ p. rule_styles p.posting) postings.now) }
+    ensures { IfOk result
+        (λ said. said.items ≡ flat_map (λ p. rule_styles p.posting) postings.now) }
 {
     let mut said = Vec::new(alloc);
     for posting in postings {

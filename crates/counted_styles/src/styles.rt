@@ -1,14 +1,18 @@
 //! The styles of items that come and go.
-ghost use Rattle.std.specs.Prelude.{◌≡◌, [], IfOk, IsTrue, OnErr, OnOk, unwrap_or};
+ghost use Rattle.std.specs.Prelude.{◌≡◌, [], ℕ, List, IfOk, IsTrue, OnErr, OnOk, unwrap_or};
 ghost use Rattle.book.specs.Standing.{Numbered, is_free, places_from, with_number, without_number};
 ghost use Rattle.book.specs.Style.{default_style};
-ghost use Rattle.book.specs.Styles.{style_standing};
+ghost use Rattle.book.specs.Style.{first_class};
+ghost use Rattle.book.specs.Styles.{said_standing, style_in, style_standing};
 ghost use Rattle.book.specs.declared.item.Item.{Item};
-ghost use Rattle.counted_styles.specs.Kept.{AreOf, HasAdded, HasRemoved, Stands, chosen};
+ghost use Rattle.counted_styles.specs.Kept.{AreOf, HasAdded, HasRemoved, Stands, chosen, most_said};
+ghost use Rattle.counted_styles.specs.Marks.{AreNamed};
 
 use crate::class::Class;
+use crate::declaring::declare_all;
 use crate::said::{commodities, defaults, first, second};
-use book::{Item, Placed, Style};
+use crate::symbols::put_symbols;
+use book::{Item, Placed, Style, Styles};
 use hl_base::{Memory, Text};
 use std::alloc::Global;
 
@@ -65,7 +69,8 @@ impl CountedStyles {
     /// Adds an item under a number under which none stands. After an error the styles are as before.
     pub fn add(&mut self, alloc: Global, number: u64, item: &Item) -> Result<(), Memory>
         ensures ok { OnOk result ((standing : Numbered Item) → AreOf standing self.old
-            → IsTrue (is_free number standing) → AreOf (with_number number item.now standing) self.new) }
+            → IsTrue (is_free number standing)
+            → AreOf (with_number number item.now standing) self.new) }
         ensures err { OnErr result (self.new ≡ self.old) }
     {
         let mut styles = self.copy()?;
@@ -90,7 +95,8 @@ impl CountedStyles {
     /// first amount of a transaction's posting, with their greatest number of decimals; else the same of the amounts
     /// of costs, assertions, prices and rules; else the default one.
     pub fn style(&self, symbol: &Text) -> Style
-        ensures { (standing : Numbered Item) → AreOf standing self.now → result ≡ style_standing standing symbol.now }
+        ensures { (standing : Numbered Item) → AreOf standing self.now
+            → result ≡ style_standing standing symbol.now }
     {
         let commodity = self.commodities.last(symbol);
         let default = self.defaults.last(symbol);
@@ -100,6 +106,46 @@ impl CountedStyles {
             commodity,
             chosen(default, chosen(first, chosen(second, Style::default_one()))),
         )
+    }
+
+    /// The greatest number of decimals of the amounts of a symbol in transactions' postings, if it has any.
+    pub fn decimals(&self, symbol: &Text) -> Option<u8>
+        ensures { (standing : Numbered Item) → AreOf standing self.now
+            → result ≡ most_said (said_standing first_class standing symbol.now) }
+    {
+        match self.first.most(symbol) {
+            Some(style) => Some(style.places),
+            None => None,
+        }
+    }
+
+    /// The same styles for reports: one for each symbol, in time for the symbols and not for the items.
+    pub fn styles(&self, alloc: Global) -> Result<Styles, Memory>
+        ensures { IfOk result (λ styles. (standing : Numbered Item) → AreOf standing self.now
+            → (symbol : List ℕ) → style_in styles symbol ≡ style_standing standing symbol) }
+    {
+        let symbols = self.symbols(alloc)?;
+        let names = symbols.as_slice();
+        let items = declare_all(alloc, self, names)?;
+        let directives = items.as_slice();
+        let styles = Styles::of(alloc, directives)?;
+        Ok(styles)
+    }
+
+    /// The symbols of which the items say something.
+    fn symbols(&self, alloc: Global) -> Result<Vec<Text>, Memory>
+        ensures commodities { IfOk result
+            (λ names. AreNamed names.items self.now.commodities.heads) }
+        ensures defaults { IfOk result (λ names. AreNamed names.items self.now.defaults.heads) }
+        ensures first { IfOk result (λ names. AreNamed names.items self.now.first.heads) }
+        ensures second { IfOk result (λ names. AreNamed names.items self.now.second.heads) }
+    {
+        let mut names = Vec::new(alloc);
+        put_symbols(alloc, &mut names, &self.commodities.heads)?;
+        put_symbols(alloc, &mut names, &self.defaults.heads)?;
+        put_symbols(alloc, &mut names, &self.first.heads)?;
+        put_symbols(alloc, &mut names, &self.second.heads)?;
+        Ok(names)
     }
 }
 

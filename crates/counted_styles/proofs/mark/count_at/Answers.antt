@@ -1,4 +1,4 @@
-use Rattle.std.proofs.Common.{◌≡◌, ℕ, List, ap, ◌∙◌}
+use Rattle.std.proofs.Common.{ℕ, List, ap, ◌∙◌}
 use Rattle.counted_styles.specs.Marks.{count_at, count_of}
 use Rattle.counted_styles.proofs.mark.count_at.Goals as goal
 

@@ -1,4 +1,4 @@
-use Rattle.std.proofs.Common.{◌≡◌, ℕ, List, is_some, ap, ◌∙◌}
+use Rattle.std.proofs.Common.{ℕ, List, is_some, ap, ◌∙◌}
 use Rattle.counted_styles.specs.Marks.{mark_at}
 use Rattle.counted_styles.proofs.mark.has_mark.Goals as goal
 

@@ -1,4 +1,4 @@
-use Rattle.std.proofs.Common.{◌≡◌, ℕ, List, sym, ap, ◌∙◌}
+use Rattle.std.proofs.Common.{ℕ, List, sym, ap, ◌∙◌}
 use Rattle.counted_styles.specs.Marks.{last_in, style_if, style_of_mark}
 use Rattle.counted_styles.proofs.mark.last_in.Goals as goal
 

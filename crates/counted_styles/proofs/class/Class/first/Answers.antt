@@ -1,4 +1,4 @@
-use Rattle.std.proofs.Common.{◌≡◌, Option, Some, None, sym, ap, ◌∙◌}
+use Rattle.std.proofs.Common.{Option, ap, ◌∙◌}
 use Rattle.book.specs.declared.style.Style.{Style}
 use Rattle.counted_styles.specs.Marks.{first_with, last_in, with_places}
 use Rattle.counted_styles.proofs.class.Class.first.Goals as goal

@@ -1,7 +1,5 @@
-use Rattle.std.proofs.Common.{◌≡◌, subst, rules}
-use Rattle.book.specs.Standing.{with_number}
-use Rattle.book.specs.Style.{commodity_styles, default_styles, first_class, second_class}
-use Rattle.counted_styles.specs.Kept.{AreOf, HasAdded}
+use Rattle.std.proofs.Common.{rules}
+use Rattle.counted_styles.specs.Kept.{HasAdded}
 use Rattle.counted_styles.proofs.Whole.{are-with}
 use Rattle.counted_styles.proofs.styles.CountedStyles.add.Goals as goal
 

@@ -1,4 +1,4 @@
-use Rattle.std.proofs.Common.{◌≡◌, ◌+◌, ◌<◌, ◌≤◌, length, arith, rules}
+use Rattle.std.proofs.Common.{◌<◌, ◌≤◌, length, arith, rules}
 use Rattle.counted_styles.specs.Kept.{HasAdded}
 use Rattle.counted_styles.proofs.Whole.{are-all, are-more}
 use Rattle.counted_styles.proofs.styles.CountedStyles.of.Goals as goal

@@ -1,5 +1,5 @@
-use Rattle.std.proofs.Common.{◌≡◌, subst, rules}
-use Rattle.counted_styles.specs.Kept.{AreOf, HasRemoved}
+use Rattle.std.proofs.Common.{rules}
+use Rattle.counted_styles.specs.Kept.{HasRemoved}
 use Rattle.counted_styles.proofs.Whole.{are-without}
 use Rattle.counted_styles.proofs.styles.CountedStyles.remove.Goals as goal
 

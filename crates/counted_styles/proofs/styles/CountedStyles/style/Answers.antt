@@ -1,8 +1,5 @@
-use Rattle.std.proofs.Common.{◌≡◌, ◌∙◌, sym, ap}
-use Rattle.book.specs.Style.{default_style}
-use Rattle.book.specs.declared.style.Style.{Style}
+use Rattle.std.proofs.Common.{◌∙◌}
 use Rattle.counted_styles.specs.Kept.{chosen}
-use Rattle.counted_styles.specs.Marks.{first_of, last_in}
 use Rattle.counted_styles.proofs.Reading.{AllRise, style-is}
 use Rattle.counted_styles.proofs.styles.CountedStyles.style.Goals as goal
 
