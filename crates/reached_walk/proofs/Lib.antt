@@ -1,0 +1,13 @@
+pub mod Awaiting
+pub mod Counting
+pub mod Edits
+pub mod Ending
+pub mod Entries
+pub mod Forms
+pub mod Handing
+pub mod Lists
+pub mod Looking
+pub mod Noting
+pub mod Orders
+pub mod Passing
+pub mod Running
