@@ -1,0 +1,6 @@
+use Rattle.std.proofs.Common.{◌≡◌, ◌++◌, map, take, drop}
+use Rattle.moved_lines.specs.Moving.{moved_posting}
+use Rattle.moved_lines.proofs.txns.move_postings.Given as goal
+
+abbrev pub invariant-loop-posting : goal.invariant-loop-posting
+invariant-loop-posting l = l.postings ≡ map (moved_posting l.by) (take l.posting-index l.fn.postings) ++ drop l.posting-index l.fn.postings
