@@ -1,0 +1,9 @@
+pub mod Causes
+pub mod Counting
+pub mod Forms
+pub mod Keeping
+pub mod Scenes
+pub mod Solving
+pub mod Stepping
+pub mod Symbols
+pub mod Walking
