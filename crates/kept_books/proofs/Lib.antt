@@ -1,0 +1,10 @@
+pub mod Adding
+pub mod Edits
+pub mod Exchanges
+pub mod Gathered
+pub mod Numbering
+pub mod Renewing
+pub mod Sets
+pub mod Spotting
+pub mod Summing
+pub mod Weighing

@@ -1,0 +1,7 @@
+use Rattle.std.proofs.Common.{Option, IfSome, subst}
+use Rattle.index_cells.specs.Books.{KeepsBook}
+use Rattle.index_cells.specs.declared.kept.Kept.{Kept}
+use Rattle.kept_books.proofs.sums.sums_after.Goals as goal
+
+pub sums_behind-requires-clause-sums : goal.sums_behind-requires-clause-sums
+sums_behind-requires-clause-sums c = subst (λ (o : Option Kept). IfSome o (KeepsBook c.args.book.now)) c.in-Some.is c.requires.sums

@@ -1,0 +1,11 @@
+pub mod Beginning
+pub mod Counting
+pub mod Exchanging
+pub mod Gathering
+pub mod Keeping
+pub mod Reaching
+pub mod Renewing
+pub mod Rewriting
+pub mod Summing
+pub mod Walking
+pub mod Writing
