@@ -1,5 +1,0 @@
-use Rattle.std.proofs.Common.{◌≡◌, take}
-use Rattle.plain_edits.proofs.fine.copied_postings.Given as goal
-
-abbrev pub invariant-loop-posting : goal.invariant-loop-posting
-invariant-loop-posting l = l.copies.items ≡ take l.posting-index l.postings

@@ -1,8 +1,0 @@
-use Rattle.std.proofs.Common.{◌++◌, List, length, ap, ◌∙◌, arith}
-use Rattle.plain_edits.proofs.room.put_items.Goals as goal
-
-pub joined-requires : goal.joined-requires
-joined-requires g c = omega (arith, ap length c.replace-kept.ensures.value, c.requires)
-
-pub returns : goal.returns
-returns g c = c.joined.ensures ∙ (λ i. c.replace-kept.ensures.value i ++ c.args.more)
