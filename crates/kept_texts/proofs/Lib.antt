@@ -1,0 +1,4 @@
+pub mod Alikes
+pub mod Ended
+pub mod Gapped
+pub mod Lineless
