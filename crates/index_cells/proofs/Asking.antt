@@ -1,5 +1,5 @@
 -- How many nodes are asked, call by call.
-use Rattle.std.proofs.Common.{◌≡◌, ℕ, ◌+◌, ◌*◌, ◌≤◌, ◌<◌, refl, ◌∙◌, arith}
+use Rattle.std.proofs.Common.{◌≡◌, ℕ, ◌+◌, ◌*◌, ◌≤◌, ◌<◌, refl, ap, ◌∙◌, arith}
 use Rattle.std.proofs.Math.Nat.{mul-le-mul_left}
 use Rattle.hl_base.specs.Counts.{Counts}
 use Rattle.index_cells.specs.Asks.{AsksFor}
@@ -17,6 +17,15 @@ asks_both n m k a b c le h g = record {
 
 pub asks_least : (n k : ℕ) (a b : Counts) → n ≤ k → AsksFor n a b → AsksFor k a b
 asks_least n k a b le h = record { nodes = omega (arith, le, h.nodes); more = h.more; bytes_read = h.bytes_read; checked = h.checked }
+
+-- one node
+pub asks_node : (a b : Counts) → b ≡ record a { nodes = a.nodes + 1 } → AsksFor 1 a b
+asks_node a b is = record {
+  nodes = omega (arith, ap (λ (c : Counts). c.nodes) is);
+  more = omega (arith, ap (λ (c : Counts). c.nodes) is);
+  bytes_read = ap (λ (c : Counts). c.bytes_read) is;
+  checked = ap (λ (c : Counts). c.checked) is;
+}
 
 -- ---- one call for each item of a list
 

@@ -1,5 +1,5 @@
 -- What is kept of takings tells their sums.
-use Rattle.std.proofs.Common.{◌≡◌, ℕ, pos, ◌<◌, ◌^◌, ◌+◌, ◌-◌, ◌*◌, max, unsigned_abs, Bool, true, false, cond, ◌||◌, List, [], ◌∷◌, ◌++◌, map, find, length, Option, Some, None, Result, Ok, Err, IfOk, refl, sym, ap, subst, ◌∙◌}
+use Rattle.std.proofs.Common.{◌≡◌, ℕ, pos, ◌<◌, ◌≤◌, ◌^◌, ◌+◌, ◌-◌, ◌*◌, max, unsigned_abs, Bool, true, false, cond, ◌&&◌, ◌||◌, List, [], ◌∷◌, ◌++◌, map, find, Option, Some, None, Result, Ok, Err, IfOk, refl, sym, ap, subst, ◌∙◌, arith}
 use Rattle.std.specs.Ordering.{nat_cmp}
 use Rattle.std.specs.Cmp.Lexicographic.{slice_cmp}
 use Rattle.std.specs.List.{list_any, flat_map, AllByRecursion}
@@ -7,15 +7,18 @@ use Rattle.std.specs.Str.{bytes_eq}
 use Rattle.std.proofs.lemmas.Bool.{false≢true, or_parts}
 use Rattle.hl_num.specs.Decimal.{units_of}
 use Rattle.book.specs.Order.{each_once}
+use Rattle.book.specs.SumsBefore.{is_of as is_account}
 use Rattle.book.proofs.Accounts.{account_total, account_ties}
 use Rattle.book.proofs.Order.{sorted-each_once}
 use Rattle.hl_time.specs.declared.spans.Span.{Span}
 use Rattle.live_index.specs.declared.row.Row.{Row}
 use Rattle.live_index.specs.Rows.{TurnoverFits, places_of}
+use Rattle.live_index.specs.Net.{net}
 use Rattle.live_index.specs.Standing.{standing}
 use Rattle.live_index.proofs.NetLaws.{fits-by}
+use Rattle.live_index.proofs.StandingLaws.{units-cancel, units-zero}
 use Rattle.report_cells.specs.Bounds as bounds
-use Rattle.report_cells.specs.Bounds.{first_out, is_out, turnover_in}
+use Rattle.report_cells.specs.Bounds.{first_out, is_out, places_in, turnover_in}
 use Rattle.report_cells.specs.Faults.{IsFault}
 use Rattle.report_cells.specs.Report.{Sums, accounts_in, cell, row_seen, rows_in}
 use Rattle.report_cells.specs.Taken.{Shared, Taken, share_in, symbol_of}
@@ -23,14 +26,16 @@ use Rattle.report_cells.specs.declared.cells.CellRow.{CellRow}
 use Rattle.report_cells.specs.declared.fault.ReportFault.{ReportFault}
 use Rattle.report_cells.specs.declared.fault.ReportFault.TheVariants.{Range, TooWide, Memory}
 use Rattle.report_cells.specs.declared.reach.Reach.{Reach}
-use Rattle.index_cells.specs.Keys.{is_in, EachOnce, AreInOrder}
-use Rattle.index_cells.specs.Over.{sum_over}
+use Rattle.index_cells.specs.Days.{holds}
+use Rattle.index_cells.specs.Keeps.{Keeps}
+use Rattle.index_cells.specs.Keys.{is_in, AreInOrder}
 use Rattle.index_cells.specs.Named.{named, by_symbol, by_symbols}
-use Rattle.index_cells.specs.Rowed.{mark_of, rowed_all}
+use Rattle.index_cells.specs.Rowed.{rowed_all}
 use Rattle.index_cells.specs.Tells.{is_of, Tells}
 use Rattle.index_cells.specs.declared.kept.Kept.{Kept}
-use Rattle.index_cells.proofs.Naming.{account_among, accounts_once}
-use Rattle.index_cells.proofs.Taking.{rowed_over, marks_over, rowed_fit, rowed_bound, marks_fit}
+use Rattle.index_cells.proofs.Naming.{account_among, once_in_order}
+use Rattle.index_cells.proofs.Nets.{same_places, same_sums}
+use Rattle.index_cells.proofs.Taking.{rowed_fit, rowed_places, rowed_sum}
 
 -- ---- an index of rows
 
@@ -92,7 +97,7 @@ told_as (Err e) a b same h = tt
 
 -- ---- all that is told
 
-any_named : (a : List ℕ) (ts : List Taken) → list_any (is_of a) (map named ts) ≡ list_any (is_of a) ts
+pub any_named : (a : List ℕ) (ts : List Taken) → list_any (is_of a) (map named ts) ≡ list_any (is_of a) ts
 any_named a [] = refl
 any_named a (t ∷ ts) = ap (λ (b : Bool). is_of a t || b) (any_named a ts)
 
@@ -102,31 +107,48 @@ nothing_in symbol day (Some share) rest h =
     let both = or_parts (bytes_eq share.0 symbol) (list_any (is_of symbol) rest) h in
     (ap (λ (b : Bool). unsigned_abs (cond b (units_of share.1) (pos 0))) both.0, both.1)
 
-no_turnover : (symbol : List ℕ) (ts : List Taken) → list_any (is_of symbol) (by_symbols ts) ≡ false → turnover_in symbol ts ≡ 0
+pub no_turnover : (symbol : List ℕ) (ts : List Taken) → list_any (is_of symbol) (by_symbols ts) ≡ false → turnover_in symbol ts ≡ 0
 no_turnover symbol [] h = refl
 no_turnover symbol (t ∷ ts) h =
     let both = nothing_in symbol t.day t.amount (by_symbols ts) h in
     (λ i. both.0 i + no_turnover symbol ts both.1 i)
 
-in_order : (ts : List Taken) → AreInOrder (accounts_in ts)
+pub in_order : (ts : List Taken) → AreInOrder (accounts_in ts)
 in_order ts = sorted-each_once account_ties (λ (k : List ℕ). k) account_total (map (λ (t : Taken). t.account) ts)
 
-pub kept_tells : (ts : List Taken) (kept : Kept) → bounds.TurnoverFits ts → length ts < 2 ^ 64 → kept.sums ≡ rowed_all ts → kept.counts ≡ map mark_of ts → kept.accounts ≡ accounts_in (map named ts) → kept.symbols ≡ accounts_in (by_symbols ts) → Tells ts kept
-kept_tells ts kept fits few sums counts accounts symbols = record {
+pub kept_keeps : (ts : List Taken) (kept : Kept) → bounds.TurnoverFits ts → kept.sums ≡ rowed_all ts → kept.accounts ≡ accounts_in (map named ts) → kept.symbols ≡ accounts_in (by_symbols ts) → Keeps ts kept
+kept_keeps ts kept fits sums accounts symbols = record {
+  fits = fits;
+  sums = λ q. ap (net q) (sym sums);
+  names = record {
+    accounts_rise = subst AreInOrder (sym accounts) (in_order (map named ts));
+    symbols_rise = subst AreInOrder (sym symbols) (in_order (by_symbols ts));
+    accounts = λ account none.
+        sym (account_among account (map named ts) ∙ any_named account ts) ∙ ap (is_in account) (sym accounts) ∙ none;
+    symbols = λ symbol none.
+        no_turnover symbol ts (sym (account_among symbol (by_symbols ts)) ∙ ap (is_in symbol) (sym symbols) ∙ none);
+  };
+}
+
+-- ---- what is kept row by row tells sums
+
+bound_by : (symbol : List ℕ) (ts : List Taken) (most : ℕ) → bounds.TurnoverFits ts → most ≤ places_in symbol ts → turnover_in symbol ts < 2 ^ 127 * 10 ^ (36 - max (places_in symbol ts) most)
+bound_by symbol ts most fits within =
+    let same : max (places_in symbol ts) most ≡ places_in symbol ts = omega (arith, within) in
+    subst (λ n. turnover_in symbol ts < 2 ^ 127 * 10 ^ (36 - n)) (sym same) (fits symbol)
+
+pub keeps_tell : (ts : List Taken) (kept : Kept) → Keeps ts kept → Tells ts kept
+keeps_tell ts kept keeps = record {
   ready = record {
-    sums_fit = subst (λ (rows : List Row). TurnoverFits (standing rows)) (sym sums) (put_fits [] (rowed_all ts) refl (rowed_fit ts fits));
-    counts_fit = subst (λ (rows : List Row). TurnoverFits (standing rows)) (sym counts) (put_fits [] (map mark_of ts) refl (marks_fit ts few));
-    ordered = subst AreInOrder (sym accounts) (in_order (map named ts));
-    once = subst EachOnce (sym symbols) (accounts_once (by_symbols ts));
+    sums_fit = fits-by (rowed_all ts) kept.sums keeps.sums (rowed_fit ts keeps.fits);
+    ordered = keeps.names.accounts_rise;
+    once = once_in_order kept.symbols keeps.names.symbols_rise;
   };
   sums = λ account symbol days.
-      ap (λ (rows : List Row). sum_over (standing rows) account symbol days) sums ∙ rowed_over account symbol days ts;
-  counts = λ account days.
-      ap (λ (rows : List Row). sum_over (standing rows) account [] days) counts ∙ marks_over ts account days;
-  accounts = λ account none.
-      sym (account_among account (map named ts) ∙ any_named account ts) ∙ ap (is_in account) (sym accounts) ∙ none;
-  symbols = λ symbol none.
-      no_turnover symbol ts (sym (account_among symbol (by_symbols ts)) ∙ ap (is_in symbol) (sym symbols) ∙ none);
+      same_sums (λ row. units_of row.value) units-cancel units-zero (λ own its day places. bytes_eq its symbol && is_account account false own && holds days day) (rowed_all ts) kept.sums keeps.sums
+      ∙ rowed_sum account symbol days ts;
+  accounts = keeps.names.accounts;
+  symbols = keeps.names.symbols;
   fits = λ symbol.
-      subst (λ (rows : List Row). turnover_in symbol ts < 2 ^ 127 * 10 ^ (36 - max (bounds.places_in symbol ts) (places_of symbol (standing rows)))) (sym sums) (rowed_bound ts fits symbol);
+      bound_by symbol ts (places_of symbol (standing kept.sums)) keeps.fits (subst (λ n. places_of symbol (standing kept.sums) ≤ n) (rowed_places symbol ts) (same_places (rowed_all ts) kept.sums keeps.sums symbol));
 }

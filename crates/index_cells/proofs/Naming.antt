@@ -1,13 +1,12 @@
 -- The accounts that have a taking on some days are those of the takings, in their order.
-use Rattle.std.proofs.Common.{◌≡◌, ℕ, suc, pos, Bool, true, false, not, cond, ◌&&◌, ◌||◌, T, List, [], ◌∷◌, map, filter, length, Option, Some, None, refl, sym, ap, ◌∙◌, arith}
+use Rattle.std.proofs.Common.{◌≡◌, ℕ, Bool, true, false, cond, ◌||◌, T, List, [], ◌∷◌, map, filter, Some, None, refl, sym, ap, ◌∙◌}
 use Rattle.std.specs.Ordering.{is_eq, eq_by_cmp}
 use Rattle.std.specs.List.{list_any}
 use Rattle.std.specs.Str.{bytes_eq}
 use Rattle.std.specs.FinMap.Entries.{below_all, same_entries}
-use Rattle.std.proofs.lemmas.Bool.{false≢true, ne_eqb, or_parts}
+use Rattle.std.proofs.lemmas.Bool.{false≢true, or_parts}
 use Rattle.hl_time.specs.declared.spans.Span.{Span}
 use Rattle.book.specs.Accounts.{account_cmp}
-use Rattle.book.specs.Sums.{is_nonzero}
 use Rattle.book.proofs.Accounts.{account_total, account_ties}
 use Rattle.book.proofs.Order.{contains-each_once, sorted-each_once, sorted-filter, find-made, find-passing}
 use Rattle.book.proofs.Places.{first, second, less}
@@ -15,9 +14,8 @@ use Rattle.report_cells.specs.Taken.{Taken}
 use Rattle.report_cells.specs.Report.{accounts_in}
 use Rattle.report_cells.proofs.Gathering.{tie-account}
 use Rattle.index_cells.specs.Days.{holds}
-use Rattle.index_cells.specs.Held.{stands}
 use Rattle.index_cells.specs.Keys.{is_in, EachOnce, AreInOrder}
-use Rattle.index_cells.specs.Tells.{is_of, is_on, taken_on, Tells}
+use Rattle.index_cells.specs.Tells.{is_of, taken_on, Tells}
 use Rattle.index_cells.specs.declared.kept.Kept.{Kept}
 use Rattle.index_cells.proofs.Celling.{sym_text}
 
@@ -42,8 +40,8 @@ any_along p r same [] = refl
 any_along p r same (k ∷ ks) = (λ i. same k i || any_along p r same ks i)
 
 -- as the order sees them, and by their bytes
-in_order : (q : List ℕ) (accounts : List (List ℕ)) → list_any (eq_by_cmp account_cmp q) accounts ≡ is_in q accounts
-in_order q accounts = any_along (eq_by_cmp account_cmp q) (λ other. bytes_eq q other) (λ k. tie-account q k ∙ sym_text k q) accounts
+pub among_in_order : (q : List ℕ) (accounts : List (List ℕ)) → list_any (eq_by_cmp account_cmp q) accounts ≡ is_in q accounts
+among_in_order q accounts = any_along (eq_by_cmp account_cmp q) (λ other. bytes_eq q other) (λ k. tie-account q k ∙ sym_text k q) accounts
 
 any_account : (q : List ℕ) (ts : List Taken) → list_any (eq_by_cmp account_cmp q) (map (λ (t : Taken). t.account) ts) ≡ list_any (is_of q) ts
 any_account q [] = refl
@@ -51,26 +49,11 @@ any_account q (t ∷ ts) = (λ i. tie-account q t.account i || any_account q ts 
 
 pub account_among : (q : List ℕ) (ts : List Taken) → is_in q (accounts_in ts) ≡ list_any (is_of q) ts
 account_among q ts =
-    sym (in_order q (accounts_in ts)) ∙ contains-each_once account_ties (map (λ (t : Taken). t.account) ts) q ∙ any_account q ts
+    sym (among_in_order q (accounts_in ts)) ∙ contains-each_once account_ties (map (λ (t : Taken). t.account) ts) q ∙ any_account q ts
 
-pub accounts_once : (ts : List Taken) → EachOnce (accounts_in ts)
-accounts_once ts = once_in_order (accounts_in ts) (sorted-each_once account_ties (λ (k : List ℕ). k) account_total (map (λ (t : Taken). t.account) ts))
+-- ---- which accounts have takings on some days
 
--- ---- which accounts stand
-
--- one more taking
-counted_next : (m b : Bool) (t : Taken) (own kept : List Taken) (mine : Taken → Bool) → mine t ≡ m → is_nonzero (pos (length own)) ≡ list_any mine kept → is_nonzero (pos (length (cond (m && b) (t ∷ own) own))) ≡ list_any mine (cond b (t ∷ kept) kept)
-counted_next true true t own kept mine e rest = ap not (ne_eqb (suc (length own)) 0 (omega arith)) ∙ sym (ap (λ (x : Bool). x || list_any mine kept) e)
-counted_next false true t own kept mine e rest = rest ∙ sym (ap (λ (x : Bool). x || list_any mine kept) e)
-counted_next true false t own kept mine e rest = rest
-counted_next false false t own kept mine e rest = rest
-
-counted_any : (q : List ℕ) (days : Span) (ts : List Taken) → is_nonzero (pos (length (filter (is_on q days) ts))) ≡ list_any (is_of q) (taken_on days ts)
-counted_any q days [] = refl
-counted_any q days (t ∷ ts) =
-    counted_next (is_of q t) (holds days t.day) t (filter (is_on q days) ts) (taken_on days ts) (is_of q) refl (counted_any q days ts)
-
-none_kept : (p r : Taken → Bool) (ts : List Taken) → list_any p ts ≡ false → list_any p (filter r ts) ≡ false
+pub none_kept : (p r : Taken → Bool) (ts : List Taken) → list_any p ts ≡ false → list_any p (filter r ts) ≡ false
 none_kept p r [] h = refl
 none_kept p r (t ∷ ts) h =
     let parts = or_parts (p t) (list_any p ts) h in
@@ -88,29 +71,22 @@ firsts-filter p (k ∷ ks) =
       | false ↦ firsts-filter p ks
     ]
 
-firsts : (ks : List (List ℕ)) → map (λ (e : List ℕ × List ℕ). e.0) (map (λ (k : List ℕ). (k, k)) ks) ≡ ks
+pub firsts : (ks : List (List ℕ)) → map (λ (e : List ℕ × List ℕ). e.0) (map (λ (k : List ℕ). (k, k)) ks) ≡ ks
 firsts [] = refl
 firsts (k ∷ ks) = ap (λ (t : List (List ℕ)). k ∷ t) (firsts ks)
-
-neither : (b : Bool) → cond {A = Option (List ℕ)} b None None ≡ None
-neither true = refl
-neither false = refl
 
 module _ (kept : Kept) (ts : List Taken) (h : Tells ts kept) (days : Span) where
   abbrev window : List Taken
   window = taken_on days ts
-
-  pub stands_is : (q : List ℕ) → stands kept days q ≡ list_any (is_of q) window
-  stands_is q = ap is_nonzero (h.counts q days) ∙ counted_any q days ts
 
   found : (q : List ℕ) (named has : Bool) → is_in q kept.accounts ≡ named → list_any (is_of q) window ≡ has → cond named (cond has (Some q) None) None ≡ cond has (Some q) None
   found q true has e g = refl
   found q false true e g = absurd (false≢true (sym (none_kept (is_of q) (λ t. holds days t.day) ts (h.accounts q e)) ∙ g))
   found q false false e g = refl
 
-  pub names_are : filter (stands kept days) kept.accounts ≡ accounts_in window
+  pub names_are : filter (λ q. list_any (is_of q) window) kept.accounts ≡ accounts_in window
   names_are =
-      let p = stands kept days in
+      let p : List ℕ → Bool = λ q. list_any (is_of q) window in
       let twice : List (List ℕ) → List (List ℕ × List ℕ) = map (λ (k : List ℕ). (k, k)) in
       let names = map (λ (t : Taken). t.account) window in
       let same = same_entries account_cmp account_total account_ties (filter (λ (e : List ℕ × List ℕ). p e.1) (twice kept.accounts)) (twice (accounts_in window))
@@ -118,7 +94,7 @@ module _ (kept : Kept) (ts : List Taken) (h : Tells ts kept) (days : Span) where
       (sorted-each_once account_ties (λ (k : List ℕ). k) account_total names)
       (λ q.
       find-passing account_ties (λ (k : List ℕ). k) p kept.accounts q
-      ∙ (λ i. cond (in_order q kept.accounts i) (cond (stands_is q i) (Some q) None) None)
+      ∙ (λ i. cond (among_in_order q kept.accounts i) (cond (list_any (is_of q) window) (Some q) None) None)
       ∙ found q (is_in q kept.accounts) (list_any (is_of q) window) refl refl
       ∙ sym (find-made account_ties (λ (k : List ℕ). k) (accounts_in window) q
       ∙ ap (λ (b : Bool). cond b (Some q) None) (contains-each_once account_ties names q ∙ any_account q window))) in

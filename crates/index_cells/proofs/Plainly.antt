@@ -1,6 +1,7 @@
 -- What a plain report takes is what is posted on the days that count.
-use Rattle.std.proofs.Common.{◌≡◌, ℕ, ◌^◌, ◌<◌, min, Bool, true, false, cond, ◌&&◌, nat_le, nat_lt, List, [], ◌∷◌, ◌++◌, map, filter, None, refl, ap, ◌∙◌, append-nil, arith}
+use Rattle.std.proofs.Common.{◌≡◌, ◌↔◌, ℕ, ◌^◌, ◌<◌, min, Bool, true, false, cond, not, ◌&&◌, nat_le, nat_lt, List, [], ◌∷◌, ◌++◌, map, filter, None, refl, sym, ap, ◌∙◌, append-nil, arith}
 use Rattle.std.specs.List.{AllByRecursion}
+use Rattle.std.proofs.lemmas.Bool.{false≢true}
 use Rattle.std.proofs.lemmas.Bool.Decides.{nat_tests}
 use Rattle.hl_time.specs.Calendar.{day_end}
 use Rattle.hl_time.specs.declared.spans.Span.{Span}
@@ -12,10 +13,10 @@ use Rattle.report_cells.specs.Taken.{Taken}
 use Rattle.report_options.specs.declared.options.Start.{Start}
 use Rattle.report_options.specs.declared.options.Start.TheVariants as starts
 use Rattle.report_takings.specs.Asking.{Question, entries, question_of}
-use Rattle.report_takings.specs.Costs.{moved}
+use Rattle.report_takings.specs.Costs.{is_at_cost, moved}
 use Rattle.report_takings.specs.Cuts.{cut_to}
 use Rattle.report_takings.specs.Entries.{Entry, day_in}
-use Rattle.report_takings.specs.Takings.{before, is_chosen, is_historical, is_kept, shown_in, taken, taken_as, takings_of}
+use Rattle.report_takings.specs.Takings.{before, is_chosen, is_historical, is_kept, names_earlier, shown_in, taken, taken_as, takings_of}
 use Rattle.report_takings.specs.declared.entries.Part.TheVariants.{Counted, Named}
 use Rattle.report_takings.specs.declared.scope.Scope.{Scope}
 use Rattle.index_cells.specs.Days.{holds}
@@ -95,3 +96,18 @@ module _ (scope : Scope) (plain : IsPlain scope (question_of scope)) (dated : Ar
 -- the days that count end by the end of the calendar
 pub days_early : (start : Start) (columns : List Span) (days : Span) → days ≡ days_in start columns → days.end < 2 ^ 22
 days_early start columns days is = omega (arith, ap (λ (s : Span). s.end) is)
+
+-- ---- whether a report is plain
+
+module _ (scope : Scope) where
+  pub some_terms : (empty : Bool) → ((empty ≡ true) ↔ (scope.query.now.terms.items ≡ [])) → empty ≡ false → ((false ≡ true) ↔ IsPlain scope (question_of scope))
+  some_terms empty says none = (λ h. absurd (false≢true h), λ plain. absurd (false≢true (sym none ∙ says.1 plain.terms)))
+
+  pub at_cost : (costs : Bool) → costs ≡ is_at_cost scope.options.now → costs ≡ true → ((false ≡ true) ↔ IsPlain scope (question_of scope))
+  at_cost costs says is = (λ h. absurd (false≢true h), λ plain. absurd (false≢true (sym plain.written ∙ sym says ∙ is)))
+
+  pub plain_where : (empty costs earlier : Bool) → ((empty ≡ true) ↔ (scope.query.now.terms.items ≡ [])) → costs ≡ is_at_cost scope.options.now → earlier ≡ names_earlier (question_of scope) → empty ≡ true → costs ≡ false → ((not earlier ≡ true) ↔ IsPlain scope (question_of scope))
+  plain_where empty costs true none cost named is written =
+      (λ h. absurd (false≢true h), λ plain. absurd (false≢true (sym plain.later ∙ sym named)))
+  plain_where empty costs false none cost named is written =
+      (λ h. record { terms = none.0 is; written = sym cost ∙ written; later = sym named }, λ plain. refl)

@@ -2,17 +2,17 @@
 use Rattle.std.proofs.Common.{◌≡◌, ℕ, ℤ, zero, suc, pos, ◌+◌, ◌-◌, ◌*◌, ◌^◌, ◌<◌, ◌≤◌, max, min, ◌+ℤ◌, unsigned_abs, Bool, true, false, cond, ◌&&◌, ◌||◌, nat_le, nat_lt, List, [], ◌∷◌, ◌++◌, length, map, filter, find, Some, None, inl, inr, refl, sym, ap, subst, ◌∙◌, lit<, add-one, length-append, arith}
 use Rattle.std.specs.List.{list_any, AllByRecursion}
 use Rattle.std.specs.Str.{bytes_eq}
-use Rattle.std.proofs.lemmas.Bool.{false≢true}
+use Rattle.std.proofs.lemmas.Bool.{false≢true, or_parts}
 use Rattle.std.proofs.lemmas.Bool.Decides.{nat_tests}
 use Rattle.std.proofs.lemmas.Int.{ints}
 use Rattle.std.proofs.Math.Nat.{pow-le-pow_right, mul-le-mul_left}
 use Rattle.hl_time.specs.Split.{part_at}
 use Rattle.hl_time.specs.declared.spans.Span.{Span}
 use Rattle.live_index.specs.Standing.{standing}
+use Rattle.balance_rows.specs.Rows.{Row, has_sums, is_shown, shown_rows}
 use Rattle.report_cells.specs.Bounds.{turnover_in, places_in, is_out, first_out}
 use Rattle.report_cells.specs.Kept.{Cell, cell_at, column_of, merged, merged_each, column_totals, EachFits}
-use Rattle.report_cells.specs.Made.{AreSumsOf}
-use Rattle.report_cells.specs.Report.{accounts_in, cell, counts, row_seen, seen, totals_in}
+use Rattle.report_cells.specs.Report.{cell, counts, row_seen, rows_in, seen, totals_in}
 use Rattle.report_cells.specs.Taken.{Taken, mixed_in, sum_in, symbols_in}
 use Rattle.report_cells.specs.declared.cells.CellRow.{CellRow}
 use Rattle.report_cells.specs.declared.cells.Cells.{Cells}
@@ -23,12 +23,13 @@ use Rattle.report_cells.proofs.Ending.{mapped_alike, seen_is}
 use Rattle.report_cells.proofs.Holding.{Holds, alike, bytes_eq-itself, holds_none, told}
 use Rattle.report_cells.proofs.Joining.{merge_both}
 use Rattle.index_cells.specs.Days.{counted, holds}
-use Rattle.index_cells.specs.Held.{HoldsSums, HoldsRow, HoldsRows, most_of, stands, summed_in}
+use Rattle.index_cells.specs.Held.{HoldsSums, HoldsRow, HoldsRows, most_of, summed_in}
 use Rattle.index_cells.specs.Keys.{is_in, EachOnce}
 use Rattle.index_cells.specs.Over.{sum_over}
+use Rattle.index_cells.specs.Shown.{ShowSumsOf}
 use Rattle.index_cells.specs.Tells.{is_of, is_on, taken_on, Tells}
 use Rattle.index_cells.specs.declared.kept.Kept.{Kept}
-use Rattle.index_cells.proofs.Naming.{names_are, account_among, accounts_once}
+use Rattle.index_cells.proofs.Naming.{names_are, none_kept, once_in_order}
 use Rattle.index_cells.proofs.Summing.{holds_of}
 
 -- ---- takings that pass a test
@@ -102,8 +103,22 @@ among : (found : List ℕ → Bool) (us : List Taken) → ((a : List ℕ) → li
 among found [] h = tt
 among found (u ∷ us) h = (h u.account (own_first u us), among found us (λ a e. h a (any_later (is_of a) u us e)))
 
-all_named : (ts : List Taken) → AllByRecursion (λ (t : Taken). is_in t.account (accounts_in ts) ≡ true) ts
-all_named ts = among (λ a. is_in a (accounts_in ts)) ts (λ a e. account_among a ts ∙ e)
+-- ---- rows that are left out
+
+none_filtered : (p r : Taken → Bool) (us : List Taken) → list_any p us ≡ false → filter (λ t. p t && r t) us ≡ []
+none_filtered p r [] none = refl
+none_filtered p r (u ∷ us) none =
+    let parts = or_parts (p u) (list_any p us) none in
+    ap (λ (b : Bool). cond (b && r u) (u ∷ filter (λ t. p t && r t) us) (filter (λ t. p t && r t) us)) parts.0 ∙ none_filtered p r us parts.1
+
+-- what fails the first test makes what fails the second
+skipped : (f : List ℕ → Row) (p : Row → Bool) (q : List ℕ → Bool) → ((x : List ℕ) → q x ≡ false → p (f x) ≡ false) → (xs : List (List ℕ)) → filter p (map f xs) ≡ filter p (map f (filter q xs))
+skipped f p q none [] = refl
+skipped f p q none (x ∷ xs) =
+    elim (q x) as (λ b. q x ≡ b → cond (p (f x)) (f x ∷ filter p (map f xs)) (filter p (map f xs)) ≡ filter p (map f (cond b (x ∷ filter q xs) (filter q xs)))) [
+      | true ↦ λ e. ap (λ (rest : List Row). cond (p (f x)) (f x ∷ rest) rest) (skipped f p q none xs)
+      | false ↦ λ e. ap (λ (b : Bool). cond b (f x ∷ filter p (map f xs)) (filter p (map f xs))) (none x e) ∙ skipped f p q none xs
+    ] refl
 
 -- ---- rows
 
@@ -250,31 +265,26 @@ module _ (kept : Kept) (ts : List Taken) (h : Tells ts kept) (columns : List Spa
               (λ t. ap (λ (b : Bool). b && in_column t) (or_nested (mine t) (own_one t) (is_in t.account accounts))) window));
         }
 
-    module _ (rows : List CellRow) (g : Rows rows (accounts_in window)) where
-      totalled : Totalled [] (column_of k rows) (λ t. false || is_in t.account (accounts_in window))
+    module _ (accounts : List (List ℕ)) (once_each : EachOnce accounts) (every : AllByRecursion (λ (t : Taken). is_in t.account accounts ≡ true) window) (rows : List CellRow) (g : Rows rows accounts) where
+      totalled : Totalled [] (column_of k rows) (λ t. false || is_in t.account accounts)
       totalled =
-          total_each rows (accounts_in window) (λ t. false) []
+          total_each rows accounts (λ t. false) []
           (told [] (λ q. pos 0) (λ q. chosen (λ t. false && in_column t) q window) most (holds_none most) (λ q. chosen-none q (λ t. false && in_column t) (λ t. refl) window))
-          (accounts_once window) (λ t. refl) g
+          once_each (λ t. refl) g
 
-      all_in : (us : List Taken) → AllByRecursion (λ (t : Taken). is_in t.account (accounts_in window) ≡ true) us → filter (λ t. is_in t.account (accounts_in window) && in_column t) us ≡ filter in_column us
+      all_in : (us : List Taken) → AllByRecursion (λ (t : Taken). is_in t.account accounts ≡ true) us → filter (λ t. is_in t.account accounts && in_column t) us ≡ filter in_column us
       all_in [] all = refl
       all_in (u ∷ us) all =
-          ap (λ (b : Bool). cond (b && in_column u) (u ∷ filter (λ t. is_in t.account (accounts_in window) && in_column t) us) (filter (λ t. is_in t.account (accounts_in window) && in_column t) us)) all.0
+          ap (λ (b : Bool). cond (b && in_column u) (u ∷ filter (λ t. is_in t.account accounts && in_column t) us) (filter (λ t. is_in t.account accounts && in_column t) us)) all.0
           ∙ ap (λ (rest : List Taken). cond (in_column u) (u ∷ rest) rest) (all_in us all.1)
 
       column_holds : Holds (merged_each [] (column_of k rows)) (λ q. chosen in_column q window) most
       column_holds =
-          told (merged_each [] (column_of k rows)) (λ q. chosen (λ t. (false || is_in t.account (accounts_in window)) && in_column t) q window) (λ q. chosen in_column q window) most totalled.holds
-          (λ q. ap (sum_in q) (sym (all_in window (all_named window))))
+          told (merged_each [] (column_of k rows)) (λ q. chosen (λ t. (false || is_in t.account accounts) && in_column t) q window) (λ q. chosen in_column q window) most totalled.holds
+          (λ q. ap (sum_in q) (sym (all_in window every)))
 
       total_shows : seen (merged_each [] (column_of k rows)) ≡ mixed_in (filter in_column window)
       total_shows = seen_is (merged_each [] (column_of k rows)) (filter in_column window) most column_holds
-
-  -- each column can be summed
-  pub columns_fit : (rows : List CellRow) → Rows rows (filter (stands kept days) kept.accounts) → (k : ℕ) → k < length columns → EachFits [] (column_of k rows)
-  columns_fit rows g k lt =
-      (totalled k lt rows (subst (λ (names : List (List ℕ)). Rows rows names) (names_are kept ts h days) g)).fits
 
   totals_count : (n : ℕ) (rows : List CellRow) → length (column_totals n rows) ≡ n
   totals_count zero rows = refl
@@ -312,17 +322,43 @@ module _ (kept : Kept) (ts : List Taken) (h : Tells ts kept) (columns : List Spa
             ∙ ap (λ (j : ℕ). merged_each [] (column_of j rows)) (sym is)
       ] refl
 
-  totals_show : (rows : List CellRow) → Rows rows (accounts_in window) → map seen (column_totals (length columns) rows) ≡ totals_in reach columns window
-  totals_show rows g =
+  totals_show : (accounts : List (List ℕ)) → EachOnce accounts → AllByRecursion (λ (t : Taken). is_in t.account accounts ≡ true) window → (rows : List CellRow) → Rows rows accounts
+      → map seen (column_totals (length columns) rows) ≡ totals_in reach columns window
+  totals_show accounts once_each every rows g =
       mapped_alike seen (λ column. mixed_in (filter (counts reach column) window)) [] (record { from = 0; end = 0 }) (column_totals (length columns) rows) columns (totals_count (length columns) rows)
-      (λ k lt. ap seen (total_at (length columns) k rows lt) ∙ total_shows k lt rows g)
+      (λ k lt. ap seen (total_at (length columns) k rows lt) ∙ total_shows k lt accounts once_each every rows g)
 
-  pub sums_are : (rows : List CellRow) (cells : Cells) → Rows rows (filter (stands kept days) kept.accounts) → cells.columns ≡ columns → cells.rows ≡ rows → cells.totals ≡ column_totals (length columns) rows → AreSumsOf columns reach window cells
-  sums_are rows cells g by_columns by_rows by_totals =
-      let named : Rows rows (accounts_in window) = subst (λ (names : List (List ℕ)). Rows rows names) (names_are kept ts h days) g in
-      record {
-        by_columns = by_columns;
-        rows = ap (map row_seen) by_rows ∙ rows_show rows (accounts_in window) named;
-        totals = ap (map seen) by_totals ∙ totals_show rows named;
-        within = none_out;
-      }
+  -- ---- rows of all accounts that are named
+
+  every_named : AllByRecursion (λ (t : Taken). is_in t.account kept.accounts ≡ true) window
+  every_named = among (λ a. is_in a kept.accounts) window (λ a e. named_if a (is_in a kept.accounts) refl e)
+    where
+      named_if : (a : List ℕ) (b : Bool) → is_in a kept.accounts ≡ b → list_any (is_of a) window ≡ true → is_in a kept.accounts ≡ true
+      named_if a true is e = is
+      named_if a false is e = absurd (false≢true (sym (none_kept (is_of a) (λ t. holds days t.day) ts (h.accounts a is)) ∙ e))
+
+  abbrev row_in : List ℕ → Row
+  row_in account = (account, map (λ column. cell reach window column account) columns)
+
+  no_cell : (account : List ℕ) (column : Span) → list_any (is_of account) window ≡ false → cell reach window column account ≡ []
+  no_cell account column none = ap mixed_in (none_filtered (is_of account) (counts reach column) window none)
+
+  no_cells : (account : List ℕ) → list_any (is_of account) window ≡ false → (cs : List Span) → list_any has_sums (map (λ column. cell reach window column account) cs) ≡ false
+  no_cells account none [] = refl
+  no_cells account none (column ∷ cs) = (λ i. has_sums (no_cell account column none i) || no_cells account none cs i)
+
+  shown_same : shown_rows false (map row_in kept.accounts) ≡ shown_rows false (rows_in reach columns window)
+  shown_same =
+      skipped row_in (λ row. false || is_shown row) (λ x. list_any (is_of x) window) (λ x e. no_cells x e columns) kept.accounts
+      ∙ ap (λ (names : List (List ℕ)). shown_rows false (map row_in names)) (names_are kept ts h days)
+
+  pub named_fit : (rows : List CellRow) → Rows rows kept.accounts → (k : ℕ) → k < length columns → EachFits [] (column_of k rows)
+  named_fit rows g k lt = (totalled k lt kept.accounts (once_in_order kept.accounts h.ready.ordered) every_named rows g).fits
+
+  pub shown_are : (rows : List CellRow) (cells : Cells) → Rows rows kept.accounts → cells.columns ≡ columns → cells.rows ≡ rows → cells.totals ≡ column_totals (length columns) rows → ShowSumsOf columns reach window cells
+  shown_are rows cells g by_columns by_rows by_totals = record {
+    by_columns = by_columns;
+    rows = ap (λ (rs : List CellRow). shown_rows false (map row_seen rs)) by_rows ∙ ap (shown_rows false) (rows_show rows kept.accounts g) ∙ shown_same;
+    totals = ap (map seen) by_totals ∙ totals_show kept.accounts (once_in_order kept.accounts h.ready.ordered) every_named rows g;
+    within = none_out;
+  }

@@ -15,9 +15,6 @@ pub record AsksFor (most : ℕ) (before after : Counts) : Type 0 where
 abbrev pub nodes_of_cell : Kept → ℕ
 nodes_of_cell kept = 44 * length kept.symbols
 
--- and for each column, and two that tell whether the account has a row
-abbrev pub nodes_of_row : Kept → List Span → ℕ
-nodes_of_row kept columns = 44 + nodes_of_cell kept * length columns
-
-abbrev pub nodes_of : Kept → List Span → ℕ
-nodes_of kept columns = nodes_of_row kept columns * length kept.accounts
+-- for each account that is named, symbol and column two sums up to a day
+abbrev pub nodes_shown : Kept → List Span → ℕ
+nodes_shown kept columns = nodes_of_cell kept * length columns * length kept.accounts

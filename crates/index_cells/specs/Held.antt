@@ -1,9 +1,8 @@
 -- What the cells of rows hold.
-use Rattle.std.specs.Prelude.{◌≡◌, ℕ, ℤ, pos, ◌≤◌, Bool, List, [], ◌∷◌, Option, Some, None, if◌then◌else◌}
+use Rattle.std.specs.Prelude.{◌≡◌, ℕ, ℤ, pos, ◌≤◌, List, [], ◌∷◌, Option, Some, None, if◌then◌else◌}
 use Rattle.hl_num.specs.Decimal.{Decimal, units_of}
 use Rattle.hl_time.specs.declared.spans.Span.{Span}
 use Rattle.book.specs.Entries.{AreSums, held}
-use Rattle.book.specs.Sums.{is_nonzero}
 use Rattle.live_index.specs.Rows.{places_of}
 use Rattle.live_index.specs.Standing.{standing}
 use Rattle.report_cells.specs.Kept.{Cell}
@@ -60,7 +59,3 @@ summed kept account days symbol =
 -- over those days that a column counts
 abbrev pub summed_in : Kept → Reach → Span → List ℕ → Span → List ℕ → ℤ
 summed_in kept reach days account column = summed kept account (counted reach days column)
-
--- the account has a posting on one of the days
-abbrev pub stands : Kept → Span → List ℕ → Bool
-stands kept days account = is_nonzero (sum_over (standing kept.counts) account [] days)

@@ -1,5 +1,5 @@
 -- Lists of texts.
-use Rattle.std.specs.Prelude.{◌≡◌, ℕ, Bool, false, List, [], ◌∷◌, map, T}
+use Rattle.std.specs.Prelude.{◌≡◌, ℕ, Bool, false, ◌||◌, List, [], ◌∷◌, map, T}
 use Rattle.std.specs.List.{list_any}
 use Rattle.std.specs.Str.{bytes_eq}
 use Rattle.std.specs.FinMap.Entries.{is_sorted}
@@ -17,3 +17,8 @@ EachOnce (text ∷ texts) = (is_in text texts ≡ false) × EachOnce texts
 -- they rise, in the order of accounts
 abbrev pub AreInOrder : List (List ℕ) → Type 0
 AreInOrder accounts = T (is_sorted account_cmp (map (λ account. (account, account)) accounts))
+
+-- the names of two lists, in order
+pub record AreOfBoth (names more all : List (List ℕ)) : Type 0 where
+  pub rise : AreInOrder all
+  pub each : (name : List ℕ) → is_in name all ≡ (is_in name names || is_in name more)

@@ -14,3 +14,7 @@ by_symbol day (Some share) = record { account = share.0; day = day; amount = Non
 
 abbrev pub by_symbols : List Taken → List Taken
 by_symbols ts = flat_map (λ t. by_symbol t.day t.amount) ts
+
+-- a taking of an account alone
+abbrev pub only : List ℕ → Taken
+only name = record { account = name; day = 0; amount = None }

@@ -1,7 +1,8 @@
 -- Takings as rows.
-use Rattle.std.specs.Prelude.{ℕ, pos, List, [], ◌∷◌, Option, Some, None}
+use Rattle.std.specs.Prelude.{ℕ, List, [], ◌∷◌, Option, Some, None, map}
 use Rattle.std.specs.List.{flat_map}
 use Rattle.live_index.specs.declared.row.Row.{Row}
+use Rattle.live_index.specs.Net.{negated_row}
 use Rattle.report_cells.specs.Taken.{Shared, Taken}
 
 abbrev pub rowed : List ℕ → ℕ → Option Shared → List Row
@@ -13,11 +14,6 @@ rowed account day (Some share) =
 abbrev pub rowed_all : List Taken → List Row
 rowed_all ts = flat_map (λ t. rowed t.account t.day t.amount) ts
 
--- a row that stands for one taking
-abbrev pub mark_of : Taken → Row
-mark_of t = record {
-  account = t.account;
-  symbol = [];
-  day = record { 0 = t.day };
-  value = record { mantissa = pos 1; places = 36 };
-}
+-- the rows that take off those of some takings
+abbrev pub rowed_off : List Taken → List Row
+rowed_off ts = flat_map (λ t. map negated_row (rowed t.account t.day t.amount)) ts

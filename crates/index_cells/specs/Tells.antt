@@ -1,5 +1,5 @@
 -- What is kept tells the sums of some takings.
-use Rattle.std.specs.Prelude.{◌≡◌, ℕ, pos, ◌-◌, ◌*◌, ◌^◌, ◌<◌, max, Bool, false, ◌&&◌, List, [], filter, length}
+use Rattle.std.specs.Prelude.{◌≡◌, ℕ, ◌-◌, ◌*◌, ◌^◌, ◌<◌, max, Bool, false, ◌&&◌, List, filter}
 use Rattle.std.specs.List.{list_any}
 use Rattle.std.specs.Str.{bytes_eq}
 use Rattle.hl_time.specs.declared.spans.Span.{Span}
@@ -27,19 +27,16 @@ taken_on days ts = filter (λ t. holds days t.day) ts
 -- the rows that stand keep the bound on turnovers, and no account or symbol stands twice
 pub record IsReady (kept : Kept) : Type 0 where
   pub sums_fit : TurnoverFits (standing kept.sums)
-  pub counts_fit : TurnoverFits (standing kept.counts)
   pub ordered : AreInOrder kept.accounts
   pub once : EachOnce kept.symbols
 
--- The rows have the sums of the takings, over any days, and count them. All accounts are named, and all symbols in which
+-- The rows have the sums of the takings, over any days. All accounts are named, and all symbols in which
 -- an amount isn't zero. In each symbol the absolute amounts, in units of the greatest number of decimals of the takings
 -- and the rows, sum to less than 2^127.
 pub record Tells (ts : List Taken) (kept : Kept) : Type 0 where
   pub ready : IsReady kept
   pub sums : (account symbol : List ℕ) (days : Span)
       → sum_over (standing kept.sums) account symbol days ≡ sum_in symbol (filter (is_on account days) ts)
-  pub counts : (account : List ℕ) (days : Span)
-      → sum_over (standing kept.counts) account [] days ≡ pos (length (filter (is_on account days) ts))
   pub accounts : (account : List ℕ) → is_in account kept.accounts ≡ false → list_any (is_of account) ts ≡ false
   pub symbols : (symbol : List ℕ) → is_in symbol kept.symbols ≡ false → turnover_in symbol ts ≡ 0
   pub fits : (symbol : List ℕ)

@@ -2,9 +2,10 @@
 ghost use Rattle.std.specs.Prelude.{◌≡◌, IfOk};
 ghost use Rattle.live_index.specs.Rows.{TurnoverFits};
 ghost use Rattle.report_cells.specs.Bounds as bounds;
-ghost use Rattle.index_cells.specs.Tells.{Tells};
+ghost use Rattle.index_cells.specs.Keeps.{Keeps};
+ghost use Rattle.index_cells.specs.Names.{NamesOf};
 
-use crate::amounts::{amounts_of, marks_of};
+use crate::amounts::amounts_of;
 use crate::kept::Kept;
 use crate::names::{accounts_of, symbols_of};
 use hl_base::Memory;
@@ -13,19 +14,17 @@ use report_cells::Taking;
 use std::alloc::Global;
 
 /// What is kept of takings, no symbol of which is out of range.
-pub fn keep(alloc: Global, takings: &[Taking]) -> Result<Kept, Memory>
+pub(crate) fn keep(alloc: Global, takings: &[Taking]) -> Result<Kept, Memory>
     requires { bounds.TurnoverFits takings.now }
-    ensures { IfOk result (λ kept. Tells takings.now kept) }
+    ensures keeps { IfOk result (λ kept. Keeps takings.now kept) }
+    ensures names { IfOk result (λ kept. NamesOf takings.now kept) }
 {
     let accounts = accounts_of(alloc, takings)?;
     let symbols = symbols_of(alloc, takings)?;
     let amounts = amounts_of(alloc, takings)?;
     let sums = index_of(alloc, &amounts)?;
-    let marks = marks_of(alloc, takings)?;
-    let counts = index_of(alloc, &marks)?;
     Ok(Kept {
         sums,
-        counts,
         accounts,
         symbols,
     })

@@ -1,23 +1,26 @@
-//! The cells of a plain balance from sums that are kept.
+//! The cells of a plain balance from sums that are kept, under edits too.
 #![tactic(auto)]
 
 mod amounts;
-pub mod balance;
-pub mod building;
+mod balance;
+mod building;
 mod cell;
+pub mod changes;
 mod counted;
+pub mod dated;
 pub mod kept;
 mod names;
 mod over;
 pub mod plain;
 pub mod posted;
 mod rows;
+mod staying;
 #[cfg(test)]
 mod tests;
 mod totals;
 
-pub use balance::index_cells;
-pub use building::keep;
+pub use changes::ChangedKept;
+pub use dated::are_dated;
 pub use kept::Kept;
-pub use plain::plain_cells;
+pub use plain::{is_plain, plain_cells};
 pub use posted::keep_book;

@@ -4,8 +4,9 @@ ghost use Rattle.hl_num.specs.Decimal.{units_of};
 ghost use Rattle.entry_balance.specs.Values.{trimmed, value_of};
 ghost use Rattle.report_cells.specs.Bounds as bounds;
 ghost use Rattle.report_takings.specs.Costs as costs;
+ghost use Rattle.index_cells.specs.Keeps.{Keeps};
+ghost use Rattle.index_cells.specs.Names.{NamesOf};
 ghost use Rattle.index_cells.specs.Posted.{posted, posted_in};
-ghost use Rattle.index_cells.specs.Tells.{Tells};
 
 use crate::building::keep;
 use crate::kept::Kept;
@@ -18,7 +19,8 @@ use std::alloc::Global;
 /// What is kept of the postings of some transactions, no symbol of which is out of range.
 pub fn keep_book(alloc: Global, txns: &[Txn]) -> Result<Kept, Memory>
     requires { bounds.TurnoverFits (posted_in txns.now) }
-    ensures { IfOk result (λ kept. Tells (posted_in txns.now) kept) }
+    ensures keeps { IfOk result (λ kept. Keeps (posted_in txns.now) kept) }
+    ensures names { IfOk result (λ kept. NamesOf (posted_in txns.now) kept) }
 {
     let takings = posted_in(alloc, txns)?;
     keep(alloc, &takings)

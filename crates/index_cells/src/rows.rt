@@ -1,15 +1,13 @@
-//! The rows of the accounts that have postings.
-ghost use Rattle.std.specs.Prelude.{◌≡◌, ◌*◌, ◌^◌, ◌<◌, length, IfOk, OnOk};
-ghost use Rattle.index_cells.specs.Asks.{AsksFor, nodes_of, nodes_of_cell, nodes_of_row};
-ghost use Rattle.index_cells.specs.Held.{HoldsSums, most_of, stands, summed_in};
+//! The rows of the accounts that are named.
+ghost use Rattle.std.specs.Prelude.{◌≡◌, ◌*◌, ◌^◌, ◌<◌, length, IfOk};
+ghost use Rattle.index_cells.specs.Asks.{AsksFor, nodes_of_cell, nodes_shown};
+ghost use Rattle.index_cells.specs.Held.{HoldsSums, most_of, summed_in};
 ghost use Rattle.index_cells.specs.Planned.{HoldsCellsOf, HoldsRowsOf};
-ghost use Rattle.index_cells.specs.Pushed.{HasPushed};
 ghost use Rattle.index_cells.specs.Tells.{IsReady};
 
 use crate::cell::cell_of;
 use crate::counted::counted;
 use crate::kept::Kept;
-use crate::over::sum_over;
 use book::Mixed;
 use hl_base::{List, Memory, Steps, Text};
 use hl_time::Span;
@@ -25,8 +23,8 @@ pub(crate) struct Plan<'a> {
     pub(crate) days: Span,
 }
 
-/// A row for each account with a posting on one of the days.
-pub(crate) fn rows_of<L: Ledger>(
+/// A row for each account that is named, also where its sums are all zero.
+pub(crate) fn named_rows<L: Ledger>(
     alloc: Global,
     kept: &Kept,
     plan: &Plan,
@@ -35,55 +33,14 @@ pub(crate) fn rows_of<L: Ledger>(
     requires ready { IsReady kept.now }
     requires early { plan.now.days.end < 2 ^ 22 }
     ensures rows { IfOk result (HoldsRowsOf kept.now plan.now) }
-    ensures asked { AsksFor (nodes_of kept.now plan.now.columns.now) steps.old steps.new }
+    ensures asked { AsksFor (nodes_shown kept.now plan.now.columns.now) steps.old steps.new }
 {
     let mut rows = Vec::new(alloc);
     for account in kept.accounts.as_slice() {
-        push_row(alloc, kept, plan, account, &mut rows, steps)?;
+        let row = row_of(alloc, kept, plan, account, steps)?;
+        rows.push(row)?;
     }
     Ok(List::from_vec(rows))
-}
-
-/// Adds the row of an account, if it has a posting on one of the days.
-fn push_row<L: Ledger>(
-    alloc: Global,
-    kept: &Kept,
-    plan: &Plan,
-    account: &Text,
-    rows: &mut Vec<CellRow>,
-    steps: &mut Steps<L>,
-) -> Result<(), Memory>
-    requires ready { IsReady kept.now }
-    requires early { plan.now.days.end < 2 ^ 22 }
-    ensures pushed { OnOk result
-        (HasPushed kept.now plan.now account.now rows.old.items rows.new.items) }
-    ensures asked { AsksFor (nodes_of_row kept.now plan.now.columns.now) steps.old steps.new }
-{
-    let has_posting = stands(alloc, kept, account, plan.days, steps);
-    if !has_posting {
-        return Ok(());
-    }
-    let row = row_of(alloc, kept, plan, account, steps)?;
-    rows.push(row)?;
-    Ok(())
-}
-
-/// Whether an account has a posting on one of the days.
-fn stands<L: Ledger>(
-    alloc: Global,
-    kept: &Kept,
-    account: &Text,
-    days: Span,
-    steps: &mut Steps<L>,
-) -> bool
-    requires ready { IsReady kept.now }
-    requires early { days.end < 2 ^ 22 }
-    ensures value { result ≡ stands kept.now days account.now }
-    ensures asked { AsksFor 44 steps.old steps.new }
-{
-    let none = Text::new(alloc);
-    let count = sum_over(&kept.counts, account, &none, days, steps);
-    !count.is_zero()
 }
 
 /// The row of an account.
@@ -142,7 +99,8 @@ fn column_cell<L: Ledger>(
     requires ready { IsReady kept.now }
     requires early { plan.now.days.end < 2 ^ 22 }
     ensures sums { IfOk result (λ cell. HoldsSums cell
-        (summed_in kept.now plan.now.reach plan.now.days account.now column.now) (most_of kept.now)) }
+        (summed_in kept.now plan.now.reach plan.now.days account.now column.now)
+        (most_of kept.now)) }
     ensures asked { AsksFor (nodes_of_cell kept.now) steps.old steps.new }
 {
     let days = counted(plan.reach, plan.days, *column);

@@ -1,22 +1,22 @@
 //! The cells of a small book, worked out by hand.
-ghost use Rattle.std.specs.Prelude.{◌≡◌, ◌^◌, ◌<◌, nat_lt, IfOk, OnOk};
-ghost use Rattle.std.specs.List.{list_all};
-ghost use Rattle.hl_time.specs.Calendar.{day_end};
+ghost use Rattle.std.specs.Prelude.{◌≡◌, List, ◌++◌, IfOk, OnOk};
+ghost use Rattle.book.specs.declared.transaction.Txn.{Txn as Entry};
 ghost use Rattle.report_cells.specs.Bounds as bounds;
 ghost use Rattle.report_takings.specs.Asking.{question_of};
+ghost use Rattle.index_cells.specs.Books.{KeepsBook};
+ghost use Rattle.index_cells.specs.Exchange.{IsExchange};
 ghost use Rattle.index_cells.specs.Posted.{AreDated, IsPlain, posted_in};
-ghost use Rattle.index_cells.specs.Tells.{Tells};
 
 use crate::posted::posted_in;
-use crate::{Kept, index_cells, keep, keep_book, plain_cells};
+use crate::{Kept, are_dated, is_plain, keep_book, plain_cells};
 use book::{Amount, Book, Mark, Mixed, Posting, Side, Txn, Written};
 use hl_base::{List, Memory, Steps, Text};
 use hl_num::Dec;
-use hl_time::{DAY_END, Day, Period, Span};
+use hl_time::{Day, Period, Span};
 use query::{RegexMaker, Types, make_query};
-use report_cells::{CellRow, Cells, Reach, ReportFault, Taking, check_range};
+use report_cells::{CellRow, Cells, Reach, ReportFault, check_range};
 use report_options::{Command, Options, Start};
-use report_takings::{Scope, is_at_cost};
+use report_takings::Scope;
 use std::alloc::Global;
 use std::marker::Brand;
 use std::sync::ledger::{Blank, Ledger};
@@ -56,10 +56,16 @@ fn posting(
     Ok(posting)
 }
 
-fn txn(alloc: Global, day: u32, first: Posting, second: Posting) -> Result<Txn, Memory> {
+/// A transaction of two postings.
+fn txn(
+    alloc: Global,
+    day: u32,
+    first: (&str, &str, i128),
+    second: (&str, &str, i128),
+) -> Result<Txn, Memory> {
     let mut postings = Vec::new(alloc);
-    postings.push(first)?;
-    postings.push(second)?;
+    postings.push(posting(alloc, first.0, first.1, first.2)?)?;
+    postings.push(posting(alloc, second.0, second.1, second.2)?)?;
     Ok(Txn {
         line: 1,
         day: Day(day),
@@ -72,43 +78,22 @@ fn txn(alloc: Global, day: u32, first: Posting, second: Posting) -> Result<Txn, 
     })
 }
 
-/// `bank  5.00 EUR` and `purse  3.00 EUR` on day 10.
-fn first_day(alloc: Global) -> Result<Txn, Memory> {
-    let bank = posting(alloc, "bank", "EUR", 500)?;
-    let purse = posting(alloc, "purse", "EUR", 300)?;
-    txn(alloc, 10, bank, purse)
-}
-
-/// `bank  2.50 USD` and `purse  -3.00 EUR` on day 11.
-fn second_day(alloc: Global) -> Result<Txn, Memory> {
-    let bank = posting(alloc, "bank", "USD", 250)?;
-    let purse = posting(alloc, "purse", "EUR", -300)?;
-    txn(alloc, 11, bank, purse)
-}
-
-/// `bank  4.00 EUR` and `bank  -1.00 USD` on day 12.
-fn third_day(alloc: Global) -> Result<Txn, Memory> {
-    let euros = posting(alloc, "bank", "EUR", 400)?;
-    let dollars = posting(alloc, "bank", "USD", -100)?;
-    txn(alloc, 12, euros, dollars)
-}
-
 /// Three days of two accounts. What `purse` takes in on day 10 goes out on day 11.
 fn three_days(alloc: Global) -> Result<Book, Memory> {
     let mut txns = Vec::new(alloc);
-    txns.push(first_day(alloc)?)?;
-    txns.push(second_day(alloc)?)?;
-    txns.push(third_day(alloc)?)?;
+    txns.push(txn(alloc, 10, ("bank", "EUR", 500), ("purse", "EUR", 300))?)?;
+    txns.push(txn(alloc, 11, ("bank", "USD", 250), ("purse", "EUR", -300))?)?;
+    txns.push(txn(alloc, 12, ("bank", "EUR", 400), ("bank", "USD", -100))?)?;
     Ok(Book {
         txns: List::from_vec(txns),
     })
 }
 
-/// Two columns that follow each other.
-fn two_columns(alloc: Global, from: u32, cut: u32, end: u32) -> Result<List<Span>, Memory> {
+/// The columns of day 11 and of day 12.
+fn two_columns(alloc: Global) -> Result<List<Span>, Memory> {
     let mut columns = Vec::new(alloc);
-    columns.push(Span { from, end: cut })?;
-    columns.push(Span { from: cut, end })?;
+    columns.push(Span { from: 11, end: 12 })?;
+    columns.push(Span { from: 12, end: 13 })?;
     Ok(List::from_vec(columns))
 }
 
@@ -145,11 +130,6 @@ fn are_cells(cells: &[Mixed], first: &[(&str, i128)], second: &[(&str, i128)]) -
     holds(&cells[0], first) && holds(&cells[1], second)
 }
 
-/// Whether a row is of an account and has these cells.
-fn is_row(row: &CellRow, account: &str, first: &[(&str, i128)], second: &[(&str, i128)]) -> bool {
-    row.account.as_str() == account && are_cells(row.cells.as_slice(), first, second)
-}
-
 /// Whether there is a row of `bank` with two cells and one of `purse` with a cell and an empty one.
 fn are_rows(
     rows: &[CellRow],
@@ -160,42 +140,13 @@ fn are_rows(
     if rows.len() != 2 {
         return false;
     }
-    is_row(&rows[0], "bank", first, second) && is_row(&rows[1], "purse", purse, &[])
+    rows[0].account.as_str() == "bank"
+        && are_cells(rows[0].cells.as_slice(), first, second)
+        && rows[1].account.as_str() == "purse"
+        && are_cells(rows[1].cells.as_slice(), purse, &[])
 }
 
 // ---- what is asked
-
-/// What is kept of takings, none of which is out of range.
-fn kept_of(alloc: Global, takings: &[Taking]) -> Result<Kept, ReportFault>
-    ensures { IfOk result (λ kept. Tells takings.now kept) }
-{
-    check_range(alloc, takings)?;
-    let kept = keep(alloc, takings)?;
-    Ok(kept)
-}
-
-/// The sums of the book on some days, by the columns from 10 to 11 and of 12.
-fn sums_on<L: Ledger>(alloc: Global, blank: Blank, days: Span) -> Result<Cells, ReportFault>
-    requires name { blank.name ≡ L.name }
-    requires parts { blank.parts ≡ L.parts }
-    requires three { blank.parts ≡ 3 }
-    requires early { days.end < 2 ^ 22 }
-{
-    let book = three_days(alloc)?;
-    let takings = posted_in(alloc, book.txns.as_slice())?;
-    let kept = kept_of(alloc, takings.as_slice())?;
-    let columns = two_columns(alloc, 10, 12, 13)?;
-    let mut steps = Steps::<L>::start(blank);
-    let cells = index_cells(alloc, &kept, columns, Reach::Within, days, &mut steps)?;
-    Ok(cells)
-}
-
-/// Whether the takings have days of the calendar.
-fn are_dated(takings: &[Taking]) -> bool
-    ensures { result ≡ list_all (λ t. nat_lt t.day day_end) takings.now }
-{
-    takings.iter().all(|taking| taking.day.0 < DAY_END)
-}
 
 /// Refuses transactions that are out of range, or have a day behind the calendar.
 fn check_book(alloc: Global, txns: &[Txn]) -> Result<(), ReportFault>
@@ -203,7 +154,7 @@ fn check_book(alloc: Global, txns: &[Txn]) -> Result<(), ReportFault>
     ensures dated { OnOk result (AreDated txns.now) }
 {
     let takings = posted_in(alloc, txns)?;
-    let dated = are_dated(takings.as_slice());
+    let dated = are_dated(txns);
     if !dated {
         return Err(ReportFault::Memory);
     }
@@ -211,45 +162,59 @@ fn check_book(alloc: Global, txns: &[Txn]) -> Result<(), ReportFault>
     Ok(())
 }
 
+/// What is kept of some transactions after others were put behind them.
+fn kept_behind(alloc: Global, front: &[Txn], more: &[Txn], all: &[Txn]) -> Result<Kept, ReportFault>
+    requires { all.now ≡ front.now ++ more.now }
+    ensures { IfOk result (KeepsBook all.now) }
+{
+    check_book(alloc, front)?;
+    check_book(alloc, all)?;
+    let mut kept = keep_book(alloc, front)?;
+    let changed = kept.prepare(alloc, &[], more)?;
+    kept.put(changed);
+    Ok(kept)
+}
+
+/// What is kept of a book after its second half was put behind the first.
+fn kept_of(alloc: Global, book: &Book) -> Result<Kept, ReportFault>
+    ensures { IfOk result (KeepsBook book.now.txns) }
+{
+    let all = book.txns.as_slice();
+    let (front, more) = all.split_at(all.len() / 2);
+    kept_behind(alloc, front, more, all)
+}
+
 /// Refuses what isn't plain.
 fn check_plain(scope: &Scope) -> Result<(), ReportFault>
     ensures { OnOk result (IsPlain scope.now (question_of scope.now)) }
 {
-    let plain = scope.query.is_empty();
-    let costs = is_at_cost(scope.options);
-    let named = scope.options.empty;
+    let plain = is_plain(scope);
     if !plain {
-        return Err(ReportFault::Memory);
-    }
-    if costs {
-        return Err(ReportFault::Memory);
-    }
-    if named {
         return Err(ReportFault::Memory);
     }
     Ok(())
 }
 
-/// The sums of a plain report.
+/// The sums of a plain report on days 11 and 12.
 fn report_sums<L: Ledger>(
     alloc: Global,
     blank: Blank,
     scope: &Scope,
-    columns: List<Span>,
+    reach: Reach,
 ) -> Result<Cells, ReportFault>
     requires name { blank.name ≡ L.name }
     requires parts { blank.parts ≡ L.parts }
     requires three { blank.parts ≡ 3 }
 {
     check_plain(scope)?;
-    check_book(alloc, scope.book.txns.as_slice())?;
-    let kept = keep_book(alloc, scope.book.txns.as_slice())?;
+    let kept = kept_of(alloc, scope.book)?;
+    let columns = two_columns(alloc)?;
     let mut steps = Steps::<L>::start(blank);
-    plain_cells(alloc, scope, &kept, columns, Reach::UpTo, &mut steps)
+    plain_cells(alloc, scope, &kept, columns, reach, &mut steps)
 }
 
-/// The options of a balance of historical sums.
-fn options() -> Options {
+/// The options of a balance.
+fn options(start: Start) -> Options {
     Options {
         command: Command::Balance,
         bounds: Period {
@@ -267,7 +232,7 @@ fn options() -> Options {
         value: None,
         auto: false,
         forecast: None,
-        start: Start::Historical,
+        start,
         tree: false,
         average: false,
         row_total: false,
@@ -278,8 +243,13 @@ fn options() -> Options {
     }
 }
 
-/// The historical sums of the book at the ends of days 11 and 12.
-fn sums_up_to<L: Ledger>(alloc: Global, blank: Blank) -> Result<Cells, Fail>
+/// The sums of the book on days 11 and 12.
+fn sums_of<L: Ledger>(
+    alloc: Global,
+    blank: Blank,
+    start: Start,
+    reach: Reach,
+) -> Result<Cells, Fail>
     requires name { blank.name ≡ L.name }
     requires parts { blank.parts ≡ L.parts }
     requires three { blank.parts ≡ 3 }
@@ -287,7 +257,7 @@ fn sums_up_to<L: Ledger>(alloc: Global, blank: Blank) -> Result<Cells, Fail>
     let book = three_days(alloc)?;
     let query = make_query(alloc, &[], TODAY, &mut RegexMaker::new())?;
     let types = Types::new(alloc, &List::new(alloc))?;
-    let options = options();
+    let options = options(start);
     let scope = Scope {
         book: &book,
         query: &query,
@@ -295,16 +265,39 @@ fn sums_up_to<L: Ledger>(alloc: Global, blank: Blank) -> Result<Cells, Fail>
         options: &options,
         day: TODAY,
     };
-    let columns = two_columns(alloc, 11, 12, 13)?;
-    Ok(report_sums::<L>(alloc, blank, &scope, columns)?)
+    Ok(report_sums::<L>(alloc, blank, &scope, reach)?)
+}
+
+/// Whether no name goes with some transactions, in whose place others stand.
+fn names_stay(alloc: Global, all: &[Txn], gone: &[Txn], more: &[Txn]) -> Result<bool, ReportFault>
+    requires { (after : List Entry)
+        × (IsExchange (posted_in all.now) (posted_in gone.now) (posted_in more.now)
+        (posted_in after)
+        × bounds.TurnoverFits (posted_in after)) }
+{
+    check_book(alloc, all)?;
+    let mut kept = keep_book(alloc, all)?;
+    let changed = kept.prepare(alloc, gone, more)?;
+    Ok(changed.names_stay)
+}
+
+/// Whether no name goes with the second half of the book: where it stands again in its own place, and where nothing does.
+fn names_of_halves(alloc: Global) -> Result<(bool, bool), ReportFault> {
+    let book = three_days(alloc)?;
+    let all = book.txns.as_slice();
+    let (front, half) = all.split_at(all.len() / 2);
+    check_book(alloc, front)?;
+    check_book(alloc, all)?;
+    let replaced = names_stay(alloc, all, half, half)?;
+    let gone = names_stay(alloc, all, half, &[])?;
+    Ok((replaced, gone))
 }
 
 #[test]
-fn sums_of_all_days(rt: HostRuntime) -> Result<(), Fail> {
-    let days = Span { from: 10, end: 13 };
-    let cells = sums_on::<Brand>(rt.alloc(), Blank::new(3), days)?;
+fn historical_sums(rt: HostRuntime) -> Result<(), Fail> {
+    let cells = sums_of::<Brand>(rt.alloc(), Blank::new(3), Start::Historical, Reach::UpTo)?;
     let first = [("EUR", 500), ("USD", 250)];
-    let second = [("EUR", 400), ("USD", -100)];
+    let second = [("EUR", 900), ("USD", 150)];
     assert!(rt;
         are_rows(cells.rows.as_slice(), &first, &second, &[]),
         "rows"
@@ -317,9 +310,8 @@ fn sums_of_all_days(rt: HostRuntime) -> Result<(), Fail> {
 }
 
 #[test]
-fn sums_of_some_days(rt: HostRuntime) -> Result<(), Fail> {
-    let days = Span { from: 11, end: 13 };
-    let cells = sums_on::<Brand>(rt.alloc(), Blank::new(3), days)?;
+fn sums_of_each_day(rt: HostRuntime) -> Result<(), Fail> {
+    let cells = sums_of::<Brand>(rt.alloc(), Blank::new(3), Start::Change, Reach::Within)?;
     let second = [("EUR", 400), ("USD", -100)];
     let bank = [("USD", 250)];
     let purse = [("EUR", -300)];
@@ -336,27 +328,9 @@ fn sums_of_some_days(rt: HostRuntime) -> Result<(), Fail> {
 }
 
 #[test]
-fn sums_of_a_day_without_purse(rt: HostRuntime) -> Result<(), Fail> {
-    let days = Span { from: 12, end: 13 };
-    let cells = sums_on::<Brand>(rt.alloc(), Blank::new(3), days)?;
-    assert_eq!(rt; cells.rows.len(), 1);
-    let second = [("EUR", 400), ("USD", -100)];
-    assert!(rt; are_cells(cells.totals.as_slice(), &[], &second), "totals");
-    Ok(())
-}
-
-#[test]
-fn sums_of_a_plain_report(rt: HostRuntime) -> Result<(), Fail> {
-    let cells = sums_up_to::<Brand>(rt.alloc(), Blank::new(3))?;
-    let first = [("EUR", 500), ("USD", 250)];
-    let second = [("EUR", 900), ("USD", 150)];
-    assert!(rt;
-        are_rows(cells.rows.as_slice(), &first, &second, &[]),
-        "rows"
-    );
-    assert!(rt;
-        are_cells(cells.totals.as_slice(), &first, &second),
-        "totals"
-    );
+fn names_that_stay(rt: HostRuntime) -> Result<(), Fail> {
+    let (replaced, gone) = names_of_halves(rt.alloc())?;
+    assert!(rt; replaced, "in its place");
+    assert!(rt; !gone, "gone");
     Ok(())
 }

@@ -51,9 +51,10 @@ fn alone(alloc: Global, span: Span) -> Result<List<Span>, Memory>
     Ok(List::from_vec(columns))
 }
 
-/// The parts of a span.
+/// The parts of a span: whole intervals where it has a day and its days are days of the calendar, else the span alone. An
+/// interval has at least one unit.
 #[tactic(auto, using(crate::proofs::Following::split_follows, crate::proofs::Following::alone_follows, crate::proofs::Intervals::split_is, crate::proofs::Intervals::cut_whole, crate::proofs::Intervals::cut_alone))]
-fn cut(alloc: Global, span: Span, interval: Option<Interval>) -> Result<List<Span>, Memory>
+pub fn cut(alloc: Global, span: Span, interval: Option<Interval>) -> Result<List<Span>, Memory>
     requires { IfSome interval (λ some. 1 ≤ some.n) }
     ensures parts { IfOk result (λ parts. parts ≡ spec.cut_into interval span) }
     ensures follow { IfOk result Follow }

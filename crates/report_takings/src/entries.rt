@@ -127,7 +127,8 @@ fn keep<'a>(
 ) -> Result<(), Memory>
     requires { Serves search.old scope.now.query.now }
     ensures kept { OnOk result
-        (kept.new.items ≡ kept.old.items ++ chosen_of start (question_of scope.now) shown entry.entry) }
+        (kept.new.items ≡ kept.old.items
+        ++ chosen_of start (question_of scope.now) shown entry.entry) }
     ensures serves { Serves search.new scope.now.query.now }
 {
     if is_chosen(search, scope, start, shown, entry.posting, entry.txn) {
@@ -166,7 +167,8 @@ pub fn chosen_entries<'a>(
     shown: Span,
 ) -> Result<Vec<Entry<'a>>, Memory>
     ensures { IfOk result (λ kept. kept.items
-        ≡ filter (is_chosen start (question_of scope.now) shown) (entries (question_of scope.now))) }
+        ≡ filter (is_chosen start (question_of scope.now) shown)
+        (entries (question_of scope.now))) }
 {
     let mut search = scope.query.search(alloc)?;
     let mut kept = Vec::new(alloc);

@@ -46,7 +46,8 @@ fn gather_kept<'a>(
 ) -> Result<(), Memory>
     requires written { is_at_cost scope.now.options.now ≡ false }
     requires begun { IsBegun gatherer.old }
-    ensures { OnOk result (Adds gatherer.old (taken_by (question_of scope.now) shown) gatherer.new) }
+    ensures { OnOk result (Adds gatherer.old (taken_by (question_of scope.now) shown)
+        gatherer.new) }
 {
     gather_written(alloc, scope, shown, gatherer)?;
     let others = kept_entries(alloc, scope, Part::Named, shown)?;
@@ -62,7 +63,8 @@ fn gather_written<'a>(
 ) -> Result<(), Memory>
     requires written { is_at_cost scope.now.options.now ≡ false }
     requires begun { IsBegun gatherer.old }
-    ensures { OnOk result (Adds gatherer.old (kept_as Counted (question_of scope.now) shown) gatherer.new) }
+    ensures { OnOk result (Adds gatherer.old (kept_as Counted (question_of scope.now) shown)
+        gatherer.new) }
 {
     let mut search = scope.query.search(alloc)?;
     for txn in scope.book.txns.as_slice() {
@@ -83,7 +85,8 @@ fn gather_all<'a>(
     requires serves { Serves search.old scope.now.query.now }
     requires written { is_at_cost scope.now.options.now ≡ false }
     requires begun { IsBegun gatherer.old }
-    ensures added { OnOk result (Adds gatherer.old (taken_in (question_of scope.now) shown txn.now) gatherer.new) }
+    ensures added { OnOk result (Adds gatherer.old (taken_in (question_of scope.now) shown txn.now)
+        gatherer.new) }
     ensures serves { Serves search.new scope.now.query.now }
 {
     for posting in txn.postings.as_slice() {
@@ -105,7 +108,8 @@ fn gather_one<'a>(
     requires serves { Serves search.old scope.now.query.now }
     requires written { is_at_cost scope.now.options.now ≡ false }
     requires begun { IsBegun gatherer.old }
-    ensures added { OnOk result (Adds gatherer.old (taken_of (question_of scope.now) shown entry.now) gatherer.new) }
+    ensures added { OnOk result (Adds gatherer.old
+        (taken_of (question_of scope.now) shown entry.now) gatherer.new) }
     ensures serves { Serves search.new scope.now.query.now }
 {
     let start = scope.options.start;
@@ -124,7 +128,8 @@ fn gather_named<'a>(
     gatherer: &mut Gatherer<'a>,
 ) -> Result<(), Memory>
     requires { IsBegun gatherer.old }
-    ensures { OnOk result (Adds gatherer.old (map (spec.taken Named (question_of scope.now)) entries.now) gatherer.new) }
+    ensures { OnOk result (Adds gatherer.old
+        (map (spec.taken Named (question_of scope.now)) entries.now) gatherer.new) }
 {
     for entry in entries {
         gatherer.add(alloc, &named(scope, entry))?;

@@ -29,7 +29,8 @@ pub fn take<'a>(
     scope: &Scope<'a>,
     columns: &[Span],
 ) -> Result<Vec<Taking<'a>>, ReportFault>
-    ensures taken { IfOk result (λ takings. takings.items ≡ spec.takings_of (question_of scope.now) columns.now) }
+    ensures taken { IfOk result (λ takings.
+        takings.items ≡ spec.takings_of (question_of scope.now) columns.now) }
     ensures within { OnOk result (spec.out_of (question_of scope.now) columns.now ≡ None) }
     ensures fault { IfErr result (spec.IsOut (question_of scope.now) columns.now) }
 {
@@ -47,12 +48,16 @@ fn take_counted<'a>(
     scope: &Scope<'a>,
     shown: Span,
 ) -> Result<Vec<Taking<'a>>, ReportFault>
-    ensures taken { IfOk result (λ takings. takings.items ≡ map (spec.taken Counted (question_of scope.now))
-        (filter (spec.is_kept Counted (question_of scope.now) shown) (entries (question_of scope.now)))) }
+    ensures taken { IfOk result (λ takings.
+        takings.items ≡ map (spec.taken Counted (question_of scope.now))
+        (filter (spec.is_kept Counted (question_of scope.now) shown)
+        (entries (question_of scope.now)))) }
     ensures within { OnOk result (spec.out_among scope.now.options.now
-        (filter (spec.is_kept Counted (question_of scope.now) shown) (entries (question_of scope.now))) ≡ None) }
+        (filter (spec.is_kept Counted (question_of scope.now) shown)
+        (entries (question_of scope.now))) ≡ None) }
     ensures fault { IfErr result (spec.IsOutAmong scope.now.options.now
-        (filter (spec.is_kept Counted (question_of scope.now) shown) (entries (question_of scope.now)))) }
+        (filter (spec.is_kept Counted (question_of scope.now) shown)
+        (entries (question_of scope.now)))) }
 {
     if is_at_cost(scope.options) {
         return take_kept(alloc, scope, shown);
@@ -66,12 +71,16 @@ fn take_kept<'a>(
     scope: &Scope<'a>,
     shown: Span,
 ) -> Result<Vec<Taking<'a>>, ReportFault>
-    ensures taken { IfOk result (λ takings. takings.items ≡ map (spec.taken Counted (question_of scope.now))
-        (filter (spec.is_kept Counted (question_of scope.now) shown) (entries (question_of scope.now)))) }
+    ensures taken { IfOk result (λ takings.
+        takings.items ≡ map (spec.taken Counted (question_of scope.now))
+        (filter (spec.is_kept Counted (question_of scope.now) shown)
+        (entries (question_of scope.now)))) }
     ensures within { OnOk result (spec.out_among scope.now.options.now
-        (filter (spec.is_kept Counted (question_of scope.now) shown) (entries (question_of scope.now))) ≡ None) }
+        (filter (spec.is_kept Counted (question_of scope.now) shown)
+        (entries (question_of scope.now))) ≡ None) }
     ensures fault { IfErr result (spec.IsOutAmong scope.now.options.now
-        (filter (spec.is_kept Counted (question_of scope.now) shown) (entries (question_of scope.now)))) }
+        (filter (spec.is_kept Counted (question_of scope.now) shown)
+        (entries (question_of scope.now)))) }
 {
     let entries = kept_entries(alloc, scope, Part::Counted, shown)?;
     take_entries(alloc, scope, &entries)
@@ -87,8 +96,10 @@ fn take_written<'a>(
     shown: Span,
 ) -> Result<Vec<Taking<'a>>, Memory>
     requires { is_at_cost scope.now.options.now ≡ false }
-    ensures { IfOk result (λ takings. takings.items ≡ map (spec.taken Counted (question_of scope.now))
-        (filter (spec.is_kept Counted (question_of scope.now) shown) (entries (question_of scope.now)))) }
+    ensures { IfOk result (λ takings.
+        takings.items ≡ map (spec.taken Counted (question_of scope.now))
+        (filter (spec.is_kept Counted (question_of scope.now) shown)
+        (entries (question_of scope.now)))) }
 {
     let mut search = scope.query.search(alloc)?;
     let count = scope.book.txns.len().saturating_mul(USUAL_POSTINGS);
@@ -109,7 +120,8 @@ fn take_all<'a>(
 ) -> Result<(), Memory>
     requires serves { Serves search.old scope.now.query.now }
     requires written { is_at_cost scope.now.options.now ≡ false }
-    ensures taken { OnOk result (takings.new.items ≡ takings.old.items ++ taken_in (question_of scope.now) shown txn.now) }
+    ensures taken { OnOk result (takings.new.items ≡ takings.old.items
+        ++ taken_in (question_of scope.now) shown txn.now) }
     ensures serves { Serves search.new scope.now.query.now }
 {
     for posting in txn.postings.as_slice() {
@@ -129,7 +141,8 @@ fn take_one<'a>(
 ) -> Result<(), Memory>
     requires serves { Serves search.old scope.now.query.now }
     requires written { is_at_cost scope.now.options.now ≡ false }
-    ensures taken { OnOk result (takings.new.items ≡ takings.old.items ++ taken_of (question_of scope.now) shown entry.now) }
+    ensures taken { OnOk result (takings.new.items ≡ takings.old.items
+        ++ taken_of (question_of scope.now) shown entry.now) }
     ensures serves { Serves search.new scope.now.query.now }
 {
     let start = scope.options.start;
