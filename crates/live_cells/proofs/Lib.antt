@@ -1,0 +1,3 @@
+mod Indexed
+mod Parts
+mod Places
