@@ -1,0 +1,6 @@
+//! The bytes of a text's items.
+#![tactic(auto)]
+
+mod pieces;
+
+pub use pieces::Pieces;
