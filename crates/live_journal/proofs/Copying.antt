@@ -9,8 +9,7 @@ use Rattle.book.specs.declared.item.Item.{Item}
 use Rattle.book.specs.declared.item.Item.TheVariants as item
 use Rattle.book.specs.declared.item.Placed.{Placed}
 use Rattle.book.specs.declared.transaction.Txn.{Txn}
-use Rattle.balancing.specs.Assigned.{assigned}
-use Rattle.balancing.specs.Load.{book_of, load}
+use Rattle.balancing.specs.Load.{load, load_txns}
 
 pub copy_pushed : (old new : List Placed) (piece : Piece) (t copy : Txn) → new ≡ old ++ record { piece = piece; item = item.Txn copy } ∷ [] → copy ≡ t → txns_of new ≡ txns_of old ++ t ∷ []
 copy_pushed old new piece t copy e is =
@@ -25,7 +24,7 @@ nothing_pushed old i seen is none = sym (ap (λ (x : Item). txns_of old ++ txn_i
 
 -- the book is one of the transactions alone
 pub same_load : (xs ys : List Placed) → txns_of xs ≡ txns_of ys → load xs ≡ load ys
-same_load xs ys e = ap (λ (ts : List Txn). book_of (assigned ts)) e
+same_load xs ys e = ap load_txns e
 
 -- one more item
 pub entry_more : (items : List Placed) (i : ℕ) (placed : Placed) (old new : List Placed) → i < length items → placed ≡ get_or items i placed → txns_of old ≡ txns_of (take i items)

@@ -1,9 +1,9 @@
-mod Blocks
-mod Copying
-mod Counting
-mod Limits
-mod Putting
-mod Steps
-mod Telling
 pub mod Changes
-mod Verdicts
+pub mod Checking
+pub mod Coming
+pub mod Copying
+pub mod Limits
+pub mod Placing
+pub mod Telling
+pub mod Trying
+pub mod Verdicts

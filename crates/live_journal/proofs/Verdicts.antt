@@ -2,23 +2,18 @@
 use Rattle.std.proofs.Common.{◌≡◌, ℕ, List, [], ◌∷◌, Option, Some, None, IfSome, Bool, Result, Ok, Err, IsOk, arith, refl, ap, sym, ◌∙◌}
 use Rattle.book.specs.declared.item.Book.{Book}
 use Rattle.book.specs.declared.fault.Fault.{Fault}
-use Rattle.plain_edits.specs.Facts.{Facts}
 use Rattle.live_journal.specs.declared.fault.EditFault.{EditFault}
 use Rattle.live_journal.specs.declared.fault.OpenFault.{OpenFault}
 use Rattle.live_journal.specs.declared.fault.OpenFault.TheVariants as unopened
 use Rattle.live_journal.specs.Faults.{as_refusal}
-use Rattle.std.proofs.lemmas.Bool.{false≢true}
-use Rattle.std.proofs.lemmas.Bool.Decides.{nat_tests}
 use Rattle.std.specs.Str.{bytes_eq}
 use Rattle.hl_base.specs.declared.change.Splice.{Splice}
 use Rattle.hl_base.specs.declared.items.Piece.{Piece}
-use Rattle.book.specs.declared.item.Placed.{Placed}
-use Rattle.book.specs.declared.style.Styles.{Styles}
 use Rattle.hl_base.specs.Items.{items_of}
 use Rattle.live_journal.specs.declared.edit.Edit.{Edit}
 use Rattle.live_journal.specs.Edits.{applied, splice_of}
 use Rattle.live_journal.specs.Journals.{Journal, Planned}
-use Rattle.live_journal.specs.Loading.{IsLoaded, book_of, fault_of, first_of, limit_fault, past_limit, text_fault, Tells}
+use Rattle.live_journal.specs.Loading.{book_of, fault_of, first_of, limit_fault, past_limit, text_fault, Tells}
 use Rattle.live_journal.specs.Refusals.{TellsRefusal, refusal_in, bad_base, base_of, cause_in, no_book, no_such_item, not_transactions, or_refused, planned, prepared, refusal_of, stale, too_large}
 
 -- where neither of two is there, the rest decides
@@ -119,20 +114,3 @@ planned_as j edit from text splice same f t s e =
     ∙ ap (λ (x : List ℕ). plan_from j x splice same) t
     ∙ ap (λ (x : Splice). plan_from j (applied j.text edit) x same) s
     ∙ ap (plan_from j (applied j.text edit) (splice_of j.text edit)) (e ∙ ap (λ (x : List ℕ). bytes_eq x j.text) t))
-
--- a text that was loaded is within its limits, and has a book
-within_limits : (year : Option ℕ) (text : List ℕ) (pieces : List Piece) (items : List Placed) (book : Book) (styles : Styles) (facts : Facts) → IsLoaded year text pieces items book styles facts → past_limit text ≡ None
-within_limits year text pieces items book styles facts h =
-    let few = h.few_bytes in
-    let many = h.few_items in
-    grind (arith, nat_tests)
-
-no_fault : (past : Option (ℕ × ℕ)) (book : Result Book Fault) → past ≡ None → IsOk book → first_of (limit_fault past ∷ text_fault book ∷ []) ≡ None
-no_fault None (Ok b) p h = refl
-no_fault None (Err f) p h = absurd (false≢true h)
-no_fault (Some x) book p h = cc
-
--- a text that was loaded has no fault
-pub sound : (year : Option ℕ) (text : List ℕ) (pieces : List Piece) (items : List Placed) (book : Book) (styles : Styles) (facts : Facts) → IsLoaded year text pieces items book styles facts → fault_of year text ≡ None
-sound year text pieces items book styles facts h =
-    no_fault (past_limit text) (book_of year text) (within_limits year text pieces items book styles facts h) (rw (h.read, h.loaded) refl)

@@ -1,7 +1,10 @@
 pub mod Edits
 pub mod Faults
 pub mod Journals
-pub mod Keeping
 pub mod Loading
+pub mod Placing
 pub mod Reading
 pub mod Refusals
+pub mod Trying
+pub mod Walking
+pub mod Checking

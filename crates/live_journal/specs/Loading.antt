@@ -7,16 +7,11 @@ use Rattle.hl_base.specs.declared.items.Piece.{Piece}
 use Rattle.hl_base.specs.Limits.{item_limit, text_limit}
 use Rattle.book.specs.declared.item.Placed.{Placed}
 use Rattle.book.specs.declared.item.Book.{Book}
-use Rattle.book.specs.declared.style.Styles.{Styles}
 use Rattle.book.specs.declared.fault.Fault.{Fault}
-use Rattle.book.specs.Bounds.{TurnoverFits}
-use Rattle.book.specs.Postings.{postings_of}
-use Rattle.book.specs.Style.{style_of}
-use Rattle.book.specs.Styles.{style_in}
+use Rattle.book.specs.declared.transaction.Txn.{Txn}
 use Rattle.journal_reader.specs.Items.{items_in}
 use Rattle.journal_reader.specs.Whole.{AreWithin}
 use Rattle.balancing.specs.Load.{load}
-use Rattle.plain_edits.specs.Facts.{Facts, facts_in}
 use Rattle.live_journal.specs.declared.fault.OpenFault.{OpenFault}
 use Rattle.live_journal.specs.declared.fault.OpenFault.TheVariants as unopened
 use Rattle.live_journal.specs.Journals.{Journal}
@@ -39,6 +34,14 @@ book_from (Err fault) = Err fault
 -- the book of a text, or the fault that it has
 abbrev pub book_of : Option ℕ → List ℕ → Result Book Fault
 book_of year text = book_from (reading_in year text)
+
+-- the transactions of a text's book; none where it makes none
+abbrev pub txns_from : Result Book Fault → List Txn
+txns_from (Ok book) = book.txns
+txns_from (Err fault) = []
+
+abbrev pub txns_in : Option ℕ → List ℕ → List Txn
+txns_in year text = txns_from (book_of year text)
 
 -- the first that there is
 abbrev pub first_of : {A : Type 0} → List (Option A) → Option A
@@ -84,15 +87,3 @@ pub record IsCut (text : List ℕ) (pieces : List Piece) : Type 0 where
   pub within : AllByRecursion (IsWithin (length text)) pieces
   pub readable : AreWithin text pieces
   pub whole : bytes_in pieces ≡ length text
-
--- what is made of a text: its pieces, items, book and styles, and what is known of it for entries behind it
-pub record IsLoaded (year : Option ℕ) (text : List ℕ) (pieces : List Piece) (items : List Placed) (book : Book) (styles : Styles) (facts : Facts) : Type 0 where
-  pub few_bytes : length text ≤ text_limit
-  pub few_items : length (items_of text) ≤ item_limit
-  pub cut : pieces ≡ items_of text
-  pub within : AllByRecursion (IsWithin (length text)) pieces
-  pub read : reading_in year text ≡ Ok items
-  pub loaded : load items ≡ Ok book
-  pub styled : (symbol : List ℕ) → style_in styles symbol ≡ style_of items symbol
-  pub fits : TurnoverFits (postings_of book.txns)
-  pub known : facts ≡ facts_in year text items book.txns

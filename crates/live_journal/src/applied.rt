@@ -1,14 +1,12 @@
 //! The text that an edit makes.
-ghost use Rattle.std.specs.Prelude.{◌≡◌, ◌+◌, ◌≤◌, ◌++◌, ℕ, IfOk, IfSome, OnOk, length};
-ghost use Rattle.std.specs.List.{AllByRecursion, list_any};
-ghost use Rattle.hl_base.specs.Items as cut;
-ghost use Rattle.hl_base.specs.Lines.{lines_of};
-ghost use Rattle.hl_base.specs.Pieces.{IsWithin};
+ghost use Rattle.std.specs.Prelude.{◌≡◌, ◌+◌, ◌≤◌, ◌++◌, IfOk, OnOk, length, slice_get};
+ghost use Rattle.hl_base.specs.Items.{items_of};
 ghost use Rattle.live_journal.specs.Edits as spec;
+ghost use Rattle.loaded_texts.specs.Keeping.{pieces_at};
 
 use crate::edit::Edit;
-use hl_base::line::{closes_block, line_at};
-use hl_base::{Bytes, Kind, Memory, Piece, Splice};
+use book::Placed;
+use hl_base::{Bytes, Memory, Piece, Splice};
 use std::alloc::Global;
 
 /// Whether the text ends with LF.
@@ -39,50 +37,14 @@ fn push_entry(bytes: &mut Vec<u8>, entry: &[u8]) -> Result<(), Memory>
     push_line_end(bytes, entry)
 }
 
-/// Whether a line of the text ends a comment block.
-fn has_block_end(text: &[u8]) -> bool
-    ensures { result ≡ list_any cut.closes_block (lines_of text.now) }
-{
-    let mut at = 0;
-    while at < text.len() {
-        let (line, next) = line_at(text, at);
-        if closes_block(line) {
-            return true;
-        }
-        at = next;
-    }
-    false
-}
-
-/// Whether a piece at the end of a text is a block that no line ends.
-fn is_open(text: &[u8], piece: &Piece) -> bool
-    requires { piece.now.at ≤ length text.now }
-    ensures { result ≡ spec.is_open text.now (Some piece.now) }
-{
-    let (_, rest) = text.split_at(piece.at as usize);
-    piece.kind == Kind::Block && !has_block_end(rest)
-}
-
-/// Whether a text's last piece is a block that no line ends.
-fn has_open_block(text: &[u8], pieces: &[Piece]) -> bool
-    requires { AllByRecursion (IsWithin (length text.now)) pieces.now }
-    ensures { result ≡ spec.is_open text.now (spec.last_piece pieces.now) }
-{
-    match pieces {
-        [] => false,
-        [.., last] => is_open(text, last),
-    }
-}
-
-/// What is put behind a text where an entry is added to it.
-fn added(alloc: Global, text: &[u8], pieces: &[Piece], entry: &[u8]) -> Result<Bytes, Memory>
-    requires cut { pieces.now ≡ cut.items_of text.now }
-    requires within { AllByRecursion (IsWithin (length text.now)) pieces.now }
+/// What is put behind a text where an entry is added to it. The text may leave a block of comments without its end.
+fn added(alloc: Global, text: &[u8], unclosed: bool, entry: &[u8]) -> Result<Bytes, Memory>
+    requires { unclosed ≡ spec.has_open_block text.now }
     ensures { IfOk result (λ bytes. bytes ≡ spec.added text.now entry.now) }
 {
     let mut bytes = Vec::new(alloc);
     push_line_end(&mut bytes, text)?;
-    if has_open_block(text, pieces) {
+    if unclosed {
         bytes.extend_from_slice(b"end comment\n")?;
     }
     if !text.is_empty() {
@@ -101,15 +63,25 @@ fn ended(alloc: Global, entry: &[u8]) -> Result<Bytes, Memory>
     Ok(Bytes::from_vec(bytes))
 }
 
-/// The piece of a number, counted from 1.
-pub(crate) fn numbered(pieces: &[Piece], number: u64) -> Option<Piece>
-    ensures value { result ≡ spec.numbered pieces.now number }
-    ensures within { (size : ℕ) → AllByRecursion (IsWithin size) pieces.now → IfSome result (IsWithin size) }
+/// The piece of an item.
+fn piece_at(items: &[Placed], at: usize) -> Option<Piece>
+    ensures { result ≡ slice_get (pieces_at items.now) at }
+{
+    if at < items.len() {
+        Some(items[at].piece)
+    } else {
+        None
+    }
+}
+
+/// The piece of the item of a number, counted from 1.
+pub(crate) fn numbered(items: &[Placed], number: u64) -> Option<Piece>
+    ensures { result ≡ spec.numbered (pieces_at items.now) number }
 {
     if number == 0 {
         return None;
     }
-    pieces.get((number - 1) as usize).copied()
+    piece_at(items, (number - 1) as usize)
 }
 
 /// The change that puts bytes in the place of a piece.
@@ -130,15 +102,16 @@ fn replacing(alloc: Global, piece: Option<Piece>, bytes: Bytes) -> Splice
     }
 }
 
-/// The change of a text that an edit is.
+/// The change of a text that an edit is, by the text's items. The text may leave a block of comments without its end.
 pub(crate) fn splice_of(
     alloc: Global,
     text: &[u8],
-    pieces: &[Piece],
+    items: &[Placed],
+    unclosed: bool,
     edit: &Edit,
 ) -> Result<Splice, Memory>
-    requires cut { pieces.now ≡ cut.items_of text.now }
-    requires within { AllByRecursion (IsWithin (length text.now)) pieces.now }
+    requires cut { pieces_at items.now ≡ items_of text.now }
+    requires unclosed { unclosed ≡ spec.has_open_block text.now }
     ensures value { IfOk result (λ splice. splice ≡ spec.splice_of text.now edit.now) }
     ensures inside { IfOk result (λ splice. splice.at + splice.removed ≤ length text.now) }
 {
@@ -146,7 +119,7 @@ pub(crate) fn splice_of(
         Edit::Add { entry } => Ok(Splice {
             at: text.len() as u64,
             removed: 0,
-            inserted: added(alloc, text, pieces, entry.as_slice())?,
+            inserted: added(alloc, text, unclosed, entry.as_slice())?,
         }),
         Edit::Change {
             base: _,
@@ -154,7 +127,7 @@ pub(crate) fn splice_of(
             entry,
         } => {
             let bytes = ended(alloc, entry.as_slice())?;
-            Ok(replacing(alloc, numbered(pieces, *item), bytes))
+            Ok(replacing(alloc, numbered(items, *item), bytes))
         }
         Edit::Replace { base: _, text: new } => Ok(Splice {
             at: 0,

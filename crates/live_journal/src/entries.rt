@@ -2,16 +2,15 @@
 ghost use Rattle.std.specs.Prelude.{◌≡◌, ◌++◌, ◌∷◌, [], IfOk, OnOk};
 ghost use Rattle.book.specs.Postings.{txn_in, txns_of};
 
-use book::{Item, Items, Placed, Txn};
+use book::{Item, Items, Placed, Txn, copied_txn};
 use hl_base::{List, Memory, Piece};
-use plain_edits::copied_entry;
 use std::alloc::Global;
 
 /// Puts a copy of a transaction behind other items.
 fn push_copy(alloc: Global, piece: Piece, txn: &Txn, copies: &mut Vec<Placed>) -> Result<(), Memory>
     ensures { OnOk result (txns_of copies.new.items ≡ txns_of copies.old.items ++ txn.now ∷ []) }
 {
-    let copy = copied_entry(alloc, txn)?;
+    let copy = copied_txn(alloc, txn)?;
     let item = Item::Txn(copy);
     copies.push(Placed { piece, item })?;
     Ok(())
@@ -19,7 +18,8 @@ fn push_copy(alloc: Global, piece: Piece, txn: &Txn, copies: &mut Vec<Placed>) -
 
 /// Puts a copy of an item that is a transaction behind other items.
 fn push_entry(alloc: Global, placed: &Placed, copies: &mut Vec<Placed>) -> Result<(), Memory>
-    ensures { OnOk result (txns_of copies.new.items ≡ txns_of copies.old.items ++ txn_in placed.now.item) }
+    ensures { OnOk result (txns_of copies.new.items ≡ txns_of copies.old.items
+        ++ txn_in placed.now.item) }
 {
     match &placed.item {
         Item::Txn(txn) => push_copy(alloc, placed.piece, txn, copies),

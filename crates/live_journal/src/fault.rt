@@ -2,11 +2,12 @@
 ghost use Rattle.std.specs.Prelude.{◌≡◌};
 ghost use Rattle.live_journal.specs.declared.fault.EditFault.TheVariants as refused;
 ghost use Rattle.live_journal.specs.declared.fault.OpenFault.TheVariants as unopened;
-ghost use Rattle.live_journal.specs.Faults.{as_refusal, misread_refusal};
+ghost use Rattle.live_journal.specs.Faults.{added_refusal, as_refusal, unread_refusal};
 
+use additions::AddFault;
 use book::Fault;
+use entry_reader::ReadFault;
 use hl_base::Memory;
-use plain_edits::BehindFault;
 use std::alloc::AllocError;
 
 /// Why a text makes no journal.
@@ -75,13 +76,24 @@ impl From<OpenFault> for EditFault {
     }
 }
 
-impl From<BehindFault> for EditFault {
-    ghost from_gives = { λ fault e. e ≡ misread_refusal fault };
+impl From<AddFault> for EditFault {
+    ghost from_gives = { λ fault e. e ≡ added_refusal fault };
 
-    fn from(fault: BehindFault) -> EditFault {
+    fn from(fault: AddFault) -> EditFault {
         match fault {
-            BehindFault::Load(fault) => EditFault::Load(fault),
-            BehindFault::Memory => EditFault::Memory,
+            AddFault::Load(fault) => EditFault::Load(fault),
+            AddFault::Memory => EditFault::Memory,
+        }
+    }
+}
+
+impl From<ReadFault> for EditFault {
+    ghost from_gives = { λ fault e. e ≡ unread_refusal fault };
+
+    fn from(fault: ReadFault) -> EditFault {
+        match fault {
+            ReadFault::Read(fault) => EditFault::Load(fault),
+            ReadFault::Memory => EditFault::Memory,
         }
     }
 }

@@ -4,10 +4,12 @@ ghost use Rattle.std.specs.List.{list_any, find};
 ghost use Rattle.hl_base.specs.Items.{items_of};
 ghost use Rattle.live_journal.specs.Loading.{first_of};
 ghost use Rattle.live_journal.specs.Refusals as spec;
+ghost use Rattle.loaded_texts.specs.Keeping.{pieces_at};
 
 use crate::applied::numbered;
 use crate::edit::Edit;
 use crate::fault::EditFault;
+use book::Placed;
 use hl_base::{Kind, Piece, cut_items};
 use std::alloc::Global;
 
@@ -24,7 +26,8 @@ fn base_of(edit: &Edit) -> Option<u64>
 
 /// Refuses an edit whose base isn't the revision.
 pub(crate) fn judge_base(current: u64, edit: &Edit) -> Result<(), EditFault>
-    ensures { spec.Judges result (first_of (spec.bad_base current (spec.base_of edit.now) ∷ spec.stale current (spec.base_of edit.now) ∷ [])) }
+    ensures { spec.Judges result (first_of (spec.bad_base current (spec.base_of edit.now)
+        ∷ spec.stale current (spec.base_of edit.now) ∷ [])) }
 {
     match base_of(edit) {
         None => Ok(()),
@@ -41,17 +44,17 @@ pub(crate) fn judge_base(current: u64, edit: &Edit) -> Result<(), EditFault>
 }
 
 /// Refuses an edit of an item that isn't there.
-pub(crate) fn judge_item(pieces: &[Piece], edit: &Edit) -> Result<(), EditFault>
-    ensures { spec.Judges result (spec.no_such_item pieces.now edit.now) }
+pub(crate) fn judge_item(items: &[Placed], edit: &Edit) -> Result<(), EditFault>
+    ensures { spec.Judges result (spec.no_such_item (pieces_at items.now) edit.now) }
 {
     let Edit::Change { item, .. } = edit else {
         return Ok(());
     };
-    match numbered(pieces, *item) {
+    match numbered(items, *item) {
         Some(_) => Ok(()),
         None => Err(EditFault::NoSuchItem {
             n: *item,
-            count: pieces.len() as u64,
+            count: items.len() as u64,
         }),
     }
 }
@@ -128,8 +131,8 @@ fn judge_named(piece: Option<Piece>) -> Result<(), EditFault>
 }
 
 /// Refuses an edit that isn't one of transactions.
-pub(crate) fn judge_entry(alloc: Global, pieces: &[Piece], edit: &Edit) -> Result<(), EditFault>
-    ensures { spec.Judges result (spec.not_transactions pieces.now edit.now) }
+pub(crate) fn judge_entry(alloc: Global, items: &[Placed], edit: &Edit) -> Result<(), EditFault>
+    ensures { spec.Judges result (spec.not_transactions (pieces_at items.now) edit.now) }
 {
     match edit {
         Edit::Add { entry } => {
@@ -142,7 +145,7 @@ pub(crate) fn judge_entry(alloc: Global, pieces: &[Piece], edit: &Edit) -> Resul
             item,
             entry,
         } => {
-            judge_named(numbered(pieces, *item))?;
+            judge_named(numbered(items, *item))?;
             let put = cut_items(alloc, entry.as_slice())?;
             judge_pieces(put.as_slice())
         }

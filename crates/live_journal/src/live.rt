@@ -1,27 +1,34 @@
 //! A journal that is kept open.
-ghost use Rattle.std.specs.Prelude.{◌≡◌, ◌+◌, ◌-◌, ◌*◌, ◌^◌, ◌<◌, ◌≤◌, ℕ, List, false, if◌then◌else◌, IfErr, IfOk, None, Ok, OnErr, OnOk, length};
+ghost use Rattle.std.specs.Prelude.{◌≡◌, ◌+◌, ◌-◌, ◌^◌, ◌<◌, ◌≤◌, ℕ, List, false, if◌then◌else◌, IfOk, IfSome, None, Ok, OnErr, OnOk, length};
+ghost use Rattle.std.specs.Option.{option_copied};
 ghost use Rattle.std.specs.Str.{bytes_eq};
 ghost use Rattle.hl_base.specs.Gives.{Gives};
+ghost use Rattle.hl_base.specs.Items.{items_of};
 ghost use Rattle.hl_base.specs.Limits.{text_limit};
 ghost use Rattle.book.specs.Bounds.{TurnoverFits};
 ghost use Rattle.book.specs.Postings.{postings_of};
 ghost use Rattle.book.specs.Style.{style_of};
 ghost use Rattle.book.specs.Styles.{style_in};
+ghost use Rattle.index_cells.specs.Books.{KeepsBook};
+ghost use Rattle.live_journal.specs.Checking.{CountsEdit, CountsRefused};
 ghost use Rattle.live_journal.specs.Edits as edits;
-ghost use Rattle.live_journal.specs.Keeping.{IsMadeFrom};
-ghost use Rattle.live_journal.specs.Loading.{book_of, fault_of, open_cause, opened, reading_in};
-ghost use Rattle.live_journal.specs.Reading.{most_read, refused_read};
-ghost use Rattle.live_journal.specs.Refusals.{TellsRefusal, cause_in, prepared, put_into};
+ghost use Rattle.live_journal.specs.Loading.{book_of, open_cause, opened, reading_in};
+ghost use Rattle.live_journal.specs.Refusals.{cause_in, no_such_item, not_transactions, prepared, put_into};
+ghost use Rattle.live_journal.specs.Trying.{ComesOf};
 
+use crate::adding::add;
 use crate::applied::{splice_of, spliced};
-use crate::behind::{Made, loaded_anew, put_at_end, put_made};
+use crate::changing::change;
 use crate::edit::Edit;
+use crate::editing::{Editing, unwalked};
 use crate::fault::{EditFault, OpenFault};
 use crate::judge::{judge_base, judge_entry, judge_item};
-use crate::loading::{Loaded, load_text};
+use crate::loading::load_text;
 use crate::plan::Plan;
 use book::{Book, Items, Styles};
 use hl_base::{Bytes, Splice, Steps};
+use index_cells::Kept;
+use loaded_texts::{Loaded, Made, keep_sums, put_made};
 use std::alloc::Global;
 use std::marker::Model;
 use std::snapshot::Snapshot;
@@ -32,22 +39,21 @@ use std::sync::ledger::Ledger;
 #[derive(Drop)]
 pub struct Live {
     alloc: Global,
-    text: Bytes,
+    pub(crate) text: Bytes,
     year: Option<u16>,
     revision: u64,
-    loaded: Loaded,
+    pub(crate) loaded: Loaded,
 }
 
 impl Model for Live {
     ghost use Rattle.live_journal.specs.Journals.{Journal};
-    ghost use Rattle.live_journal.specs.Loading.{IsLoaded};
-    ghost use Rattle.plain_edits.specs.Words.{facts_of};
+    ghost use Rattle.loaded_texts.specs.Keeping.{IsLoaded};
 
     ghost Value = { Journal };
 
     ghost view = { λ l. record { text = l.text; year = l.year; revision = l.revision } };
 
-    ghost invariant = { λ l. IsLoaded l.year l.text l.loaded.pieces l.loaded.items l.loaded.book l.loaded.styles (facts_of l.loaded.end) };
+    ghost invariant = { λ l. IsLoaded l.year l.text l.loaded };
 }
 
 /// Whether two texts are the same.
@@ -75,7 +81,9 @@ impl Live {
         revision: u64,
         steps: &mut Steps<L>,
     ) -> Result<Live, OpenFault>
-        ensures { Gives (λ live. live) open_cause result (opened (record { text = text.now; year = year; revision = revision })) }
+        ensures { Gives (λ live.
+            live) open_cause result
+            (opened (record { text = text.now; year = year; revision = revision })) }
     {
         let loaded = load_text(alloc, text, year, steps)?;
         Ok(Live {
@@ -115,7 +123,26 @@ impl Live {
         ensures { IfOk (reading_in self.now.year self.now.text)
             (λ items. (symbol : List ℕ) → style_in result.now symbol ≡ style_of items symbol) }
     {
-        &self.loaded.styles
+        self.loaded.text.styles.styles()
+    }
+
+    /// The sums of the text's book for plain reports, if they are kept.
+    pub fn sums(&self) -> Option<&Kept>
+        ensures { IfSome (option_copied result) (λ kept.
+            IfOk (book_of self.now.year self.now.text) (λ book. KeepsBook book.txns kept)) }
+    {
+        match &self.loaded.kept.sums {
+            Some(kept) => Some(kept),
+            None => None,
+        }
+    }
+
+    /// Keeps the sums of the text's book for plain reports, if none are kept yet and there is memory for them. An edit keeps
+    /// them where it puts bytes behind the text that change nothing else; after any other they are made anew.
+    pub fn keep_sums(&mut self)
+        ensures { self.new ≡ self.old }
+    {
+        keep_sums(self.alloc, &mut self.loaded);
     }
 
     /// How many edits the text has had.
@@ -125,29 +152,38 @@ impl Live {
         self.revision
     }
 
-    /// What a change of the text makes: what it adds, where it puts bytes behind the text that change nothing else; or
-    /// all that is made of the new text, loaded anew. Bytes behind the text that don't read are
-    /// refused without a load, where only gaps and plain entries stand before them.
+    /// What an edit comes to that no test refuses: what it makes of all that is made of the text, or why the new text is
+    /// refused. The journal stays as it is.
     fn made<L: Ledger>(
-        &self,
+        &mut self,
+        edit: &Edit,
         splice: &Splice,
         new: &[u8],
         steps: &mut Steps<L>,
     ) -> Result<Made, EditFault>
-        requires { new.now ≡ edits.spliced self.now.text splice.now }
-        ensures made { IfOk result (IsMadeFrom self.now.year self.now.text new.now) }
-        ensures loads { OnOk result (fault_of self.now.year new.now ≡ None) }
-        ensures few { OnOk result (length new.now ≤ text_limit) }
-        ensures fault { IfErr result (λ e. TellsRefusal e (fault_of self.now.year new.now)) }
-        ensures read { OnOk result (steps.new.bytes_read ≤ steps.old.bytes_read + most_read self.now splice.now new.now) }
-        ensures refused { OnErr result (steps.new.bytes_read ≤ steps.old.bytes_read + refused_read self.now splice.now new.now) }
-        ensures others { steps.new ≡ record steps.old { bytes_read = steps.new.bytes_read } }
+        requires splice { splice.now ≡ edits.splice_of self.old.text edit.now }
+        requires new { new.now ≡ edits.applied self.old.text edit.now }
+        requires item { no_such_item (items_of self.old.text) edit.now ≡ None }
+        requires entries { not_transactions (items_of self.old.text) edit.now ≡ None }
+        ensures comes { ComesOf self.old edit.now splice.now.inserted new.now result steps.old
+            steps.new }
+        ensures stays { self.new ≡ self.old }
     {
-        let text = self.text.as_slice();
-        let put = put_at_end(self.alloc, self.year, &self.loaded, text, splice, steps)?;
-        match put {
-            Some(behind) => Ok(Made::Behind(behind)),
-            None => loaded_anew(self.alloc, self.year, new, steps),
+        let editing = Editing {
+            year: self.year,
+            text: self.text.as_slice(),
+            edit,
+            bytes: splice.inserted.as_slice(),
+            new,
+        };
+        match edit {
+            Edit::Add { entry: _ } => add(self.alloc, &editing, &mut self.loaded, steps),
+            Edit::Change {
+                base: _,
+                item,
+                entry: _,
+            } => change(self.alloc, &editing, &mut self.loaded, *item, steps),
+            Edit::Replace { base: _, text: _ } => unwalked(self.alloc, &editing, steps),
         }
     }
 
@@ -160,28 +196,27 @@ impl Live {
         steps: &mut Steps<L>,
     ) -> Result<Plan, EditFault>
         ensures value { Gives (λ plan. plan) cause_in result (prepared self.old edit.now) }
-        // The change makes the new text of the old one.
         ensures change { IfOk result (λ plan. edits.spliced self.old.text plan.splice ≡ plan.text) }
-        ensures inside { IfOk result (λ plan. plan.splice.at + plan.splice.removed ≤ length self.old.text) }
+        ensures inside { IfOk result (λ plan.
+            plan.splice.at + plan.splice.removed ≤ length self.old.text) }
         ensures from { IfOk result (λ plan. plan.from ≡ self.old) }
         ensures few { IfOk result (λ plan. length plan.text ≤ text_limit) }
         ensures stays { self.new ≡ self.old }
-        // An edit that puts bytes behind the text which change nothing else reads these bytes alone.
-        ensures read { IfOk result (λ plan. steps.new.bytes_read ≤ steps.old.bytes_read + most_read self.old plan.splice plan.text) }
-        // So does one that is refused since its bytes don't read there, behind gaps and plain entries alone.
-        ensures refused { OnErr result (steps.new.bytes_read ≤ steps.old.bytes_read
-            + refused_read self.old (edits.splice_of self.old.text edit.now) (edits.applied self.old.text edit.now)) }
-        ensures others { steps.new ≡ record steps.old { bytes_read = steps.new.bytes_read } }
+        // A plain edit reads what it puts in alone, and so does one with a fault of its own. It checks no more transactions than it
+        // reaches, and asks few nodes of an index, where none of them is mixed and no dated one is replaced.
+        ensures counts { OnOk result (CountsEdit self.old edit.now steps.old steps.new) }
+        ensures refused { OnErr result (CountsRefused self.old edit.now steps.old steps.new) }
     {
         let text = self.text.as_slice();
-        let pieces = self.loaded.pieces.as_slice();
+        let items = self.loaded.items.as_slice();
         judge_base(self.revision, edit)?;
-        judge_item(pieces, edit)?;
-        judge_entry(self.alloc, pieces, edit)?;
-        let splice = splice_of(self.alloc, text, pieces, edit)?;
+        judge_item(items, edit)?;
+        judge_entry(self.alloc, items, edit)?;
+        let unclosed = self.loaded.text.end.unclosed;
+        let splice = splice_of(self.alloc, text, items, unclosed, edit)?;
         let new = spliced(self.alloc, text, &splice)?;
         let same = are_same(new.as_slice(), text);
-        let made = self.made(&splice, new.as_slice(), steps)?;
+        let made = self.made(edit, &splice, new.as_slice(), steps)?;
         Ok(Plan {
             from: Snapshot::of(self),
             text: new,
@@ -195,17 +230,23 @@ impl Live {
     pub fn put(&mut self, plan: Plan)
         requires from { plan.from ≡ self.old }
         requires counts { plan.same ≡ false → self.old.revision < 2 ^ 64 - 1 }
-        ensures { self.new ≡ put_into plan (if plan.same then self.old.revision else self.old.revision + 1) }
+        ensures { self.new ≡ put_into plan
+            (if plan.same then self.old.revision else self.old.revision + 1) }
     {
         let Plan {
             from: _,
             text,
-            splice: _,
+            splice,
             same,
             made,
         } = plan;
         self.revision = raised(self.revision, same);
         self.text = text;
-        put_made(self.alloc, &mut self.loaded, made);
+        put_made(
+            self.alloc,
+            &mut self.loaded,
+            splice.inserted.as_slice(),
+            made,
+        );
     }
 }

@@ -6,29 +6,22 @@ ghost use Rattle.book.specs.Bounds.{TurnoverFits};
 ghost use Rattle.book.specs.Postings.{postings_of};
 ghost use Rattle.balancing.specs.Load.{load};
 ghost use Rattle.journal_reader.specs.Whole.{AreWithin};
-ghost use Rattle.plain_edits.specs.Words.{facts_of};
-ghost use Rattle.live_journal.specs.Loading.{IsCut, IsLoaded, Tells, book_of, fault_of, limit_fault, past_limit, reading_in, text_fault};
+ghost use Rattle.live_journal.specs.Loading.{IsCut, Tells, book_of, fault_of, limit_fault, past_limit, reading_in, text_fault};
+ghost use Rattle.loaded_texts.specs.Keeping.{IsLoaded};
 
 use crate::entries::entries_of;
 use crate::fault::OpenFault;
+use additions::BookEnd;
 use balancing::{CheckFault, check};
-use book::{Book, Items, Placed, Styles};
-use hl_base::{ITEM_LIMIT, List, Piece, Steps, TEXT_LIMIT, cut_items};
+use book::{Book, Items, Placed};
+use hl_base::{ITEM_LIMIT, List, Memory, Piece, Steps, TEXT_LIMIT, cut_items};
 use journal_reader::{ReadFault, read_items};
-use plain_edits::TextEnd;
+use kept_books::KeptBook;
+use kept_texts::KeptText;
+use loaded_texts::Loaded;
 use std::alloc::Global;
 use std::sync::ledger::Ledger;
 use std::thread::Threads;
-
-/// What is made of a text, and what is kept of its end.
-#[derive(Drop)]
-pub(crate) struct Loaded {
-    pub pieces: List<Piece>,
-    pub items: Items,
-    pub book: Book,
-    pub styles: Styles,
-    pub end: TextEnd,
-}
 
 /// The pieces of a text that is within the limits: its bytes are judged before its items.
 #[tactic(auto, using(journal_reader::proofs::Whole::within))]
@@ -159,6 +152,41 @@ pub fn load_book_by<R: Threads + Sync, L: Ledger>(
     Ok(book)
 }
 
+/// All that is made of a text with these pieces, items and book. What walks ask is made with it, so that the first edit costs what
+/// any other one does; the sums of plain reports are made when they are asked for.
+fn with_kept(
+    alloc: Global,
+    year: Option<u16>,
+    text: &[u8],
+    pieces: &[Piece],
+    items: Items,
+    book: Book,
+) -> Result<Loaded, Memory>
+    requires cut { IsCut text.now pieces.now }
+    requires read { reading_in year text.now ≡ Ok items }
+    requires loads { load items ≡ Ok book }
+    requires fits { TurnoverFits (postings_of book.txns) }
+    ensures { IfOk result (IsLoaded year text.now) }
+{
+    let of_text = KeptText::of(
+        alloc,
+        year,
+        text,
+        pieces,
+        items.as_slice(),
+        book.txns.as_slice(),
+    )?;
+    let end = BookEnd::of(alloc, book.txns.as_slice())?;
+    let kept = KeptBook::of(alloc, items.as_slice(), book.txns.as_slice())?;
+    Ok(Loaded {
+        items,
+        book,
+        text: of_text,
+        end,
+        kept,
+    })
+}
+
 /// Loads a text within the limits. It is read once: the book is made of copies of its transactions.
 pub(crate) fn load_text<L: Ledger>(
     alloc: Global,
@@ -166,7 +194,7 @@ pub(crate) fn load_text<L: Ledger>(
     year: Option<u16>,
     steps: &mut Steps<L>,
 ) -> Result<Loaded, OpenFault>
-    ensures loaded { IfOk result (λ l. IsLoaded year text.now l.pieces l.items l.book l.styles (facts_of l.end)) }
+    ensures loaded { IfOk result (IsLoaded year text.now) }
     ensures fault { IfErr result (λ e. Tells e (fault_of year text.now)) }
     ensures bound { steps.new.bytes_read ≤ steps.old.bytes_read + length text.now }
     ensures others { steps.new ≡ record steps.old { bytes_read = steps.new.bytes_read } }
@@ -174,13 +202,6 @@ pub(crate) fn load_text<L: Ledger>(
     let pieces = cut_within(alloc, text)?;
     let items = read(alloc, text, pieces.as_slice(), year, steps)?;
     let book = book_of_items(alloc, items.as_slice())?;
-    let styles = Styles::of(alloc, items.as_slice())?;
-    let end = TextEnd::of(alloc, year, text, items.as_slice(), book.txns.as_slice())?;
-    Ok(Loaded {
-        pieces,
-        items,
-        book,
-        styles,
-        end,
-    })
+    let loaded = with_kept(alloc, year, text, pieces.as_slice(), items, book)?;
+    Ok(loaded)
 }

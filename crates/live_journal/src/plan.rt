@@ -1,9 +1,9 @@
 //! A planned edit of a journal.
 ghost use Rattle.std.specs.Prelude.{◌≡◌};
 
-use crate::behind::Made;
 use crate::live::Live;
 use hl_base::{Bytes, Splice};
+use loaded_texts::Made;
 use std::marker::Model;
 use std::snapshot::Snapshot;
 
@@ -19,13 +19,15 @@ pub struct Plan {
 
 impl Model for Plan {
     ghost use Rattle.live_journal.specs.Journals.{Planned};
-    ghost use Rattle.live_journal.specs.Keeping.{IsMadeFrom};
+    ghost use Rattle.loaded_texts.specs.Ways.{IsMadeFrom};
 
     ghost Value = { Planned };
 
-    ghost view = { λ p. record { from = p.from.value; text = p.text; splice = p.splice; same = p.same } };
+    ghost view = { λ p.
+        record { from = p.from.value; text = p.text; splice = p.splice; same = p.same } };
 
-    ghost invariant = { λ p. IsMadeFrom p.from.value.year p.from.value.text p.text p.made };
+    ghost invariant = { λ p.
+        IsMadeFrom p.from.value.year p.from.value.text p.splice.inserted p.text p.made };
 }
 
 impl Plan {

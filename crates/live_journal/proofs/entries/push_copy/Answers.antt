@@ -1,4 +1,3 @@
-use Rattle.std.proofs.Common.{sym, ◌∙◌}
 use Rattle.live_journal.proofs.Copying.{copy_pushed}
 use Rattle.live_journal.proofs.entries.push_copy.Goals as goal
 

@@ -1,12 +1,9 @@
-use Rattle.std.proofs.Common.{◌≡◌, ℕ, List, sym, ap, subst, ◌∙◌}
+use Rattle.std.proofs.Common.{◌≡◌, sym, ap, subst, ◌∙◌}
 use Rattle.std.proofs.lemmas.Result.{err_from_is_err_and}
 use Rattle.hl_base.specs.Pieces.{bytes_in}
-use Rattle.book.specs.declared.item.Placed.{Placed}
-use Rattle.book.specs.Style.{style_of}
-use Rattle.book.specs.Styles.{style_in}
 use Rattle.journal_reader.specs.Whole.{AreWithin}
 use Rattle.balancing.specs.Load.{load}
-use Rattle.plain_edits.specs.Facts.{facts_in}
+use Rattle.live_journal.specs.Loading.{IsCut}
 use Rattle.live_journal.proofs.Telling.{unbooked_tells, uncut_tells, unread_tells}
 use Rattle.live_journal.proofs.loading.load_text.Goals as goal
 
@@ -36,17 +33,17 @@ returns-in_err-book-clause-fault g c =
     rw (p.1, p.2)
     (unbooked_tells c.args.year c.args.text.now c.in_ok-pieces.pieces c.in_ok-items.items c.as_slice-2.result.now c.in_err-book.field-0.0 c.in_ok-pieces.ensures.cut c.in_ok-items.ensures.read c.as_slice-2.ensures c.in_err-book.ensures.fault)
 
+pub with_kept-requires-clause-cut : goal.with_kept-requires-clause-cut
+with_kept-requires-clause-cut g c = subst (IsCut c.args.text.now) (sym c.as_slice-3.ensures) c.in_ok-pieces.ensures.cut
+
+pub with_kept-requires-clause-read : goal.with_kept-requires-clause-read
+with_kept-requires-clause-read g c = c.in_ok-items.ensures.read
+
+pub with_kept-requires-clause-loads : goal.with_kept-requires-clause-loads
+with_kept-requires-clause-loads g c = ap load (sym c.as_slice-2.ensures) ∙ c.in_ok-book.ensures.book
+
+pub with_kept-requires-clause-fits : goal.with_kept-requires-clause-fits
+with_kept-requires-clause-fits g c = c.in_ok-book.ensures.fits
+
 pub returns-clause-loaded : goal.returns-clause-loaded
-returns-clause-loaded g c =
-    let cut = c.in_ok-pieces.ensures.cut in
-    record {
-      few_bytes = cut.few_bytes;
-      few_items = cut.few_items;
-      cut = cut.cut;
-      within = cut.within;
-      read = c.in_ok-items.ensures.read;
-      loaded = ap load (sym c.as_slice-2.ensures) ∙ c.in_ok-book.ensures.book;
-      styled = subst (λ (ps : List Placed). (symbol : List ℕ) → style_in c.in_ok-styles.styles symbol ≡ style_of ps symbol) c.as_slice-3.ensures c.in_ok-styles.ensures.styles;
-      fits = c.in_ok-book.ensures.fits;
-      known = c.in_ok-end.ensures ∙ (λ i. facts_in c.args.year c.args.text.now (c.as_slice-4.ensures i) (c.as_slice-5.ensures i));
-    }
+returns-clause-loaded g c = c.in_ok-loaded.ensures

@@ -1,85 +1,95 @@
-use Rattle.std.proofs.Common.{◌≡◌, ℕ, List, Option, None, OnOk, IfErr, sym, ap, subst, ◌∙◌}
-use Rattle.std.proofs.lemmas.Result.{err_from_is_err_and}
+use Rattle.std.proofs.Common.{◌≡◌, ℕ, List, Option, None, refl, sym, ap, subst, ◌∙◌}
+use Rattle.hl_base.specs.Items.{items_of}
+use Rattle.hl_base.specs.declared.change.Splice.{Splice}
+use Rattle.loaded_texts.specs.Keeping.{IsLoaded}
+use Rattle.loaded_texts.specs.declared.loaded.Loaded.{Loaded}
+use Rattle.live_journal.specs.declared.edit.Edit.{Edit}
+use Rattle.live_journal.specs.Edits.{applied, splice_of}
 use Rattle.live_journal.specs.Journals.{Journal}
-use Rattle.live_journal.specs.Keeping.{IsKept}
-use Rattle.live_journal.specs.Loading.{fault_of}
-use Rattle.live_journal.specs.Refusals.{TellsRefusal}
-use Rattle.live_journal.specs.Edits.{spliced}
-use Rattle.live_journal.proofs.Counting.{read_anew, read_behind, refused_anew, refused_behind}
-use Rattle.live_journal.proofs.Steps.{others_twice}
-use Rattle.live_journal.proofs.Putting.{made_anew, made_behind, made_few, made_sound}
+use Rattle.live_journal.specs.Placing.{IsChange}
+use Rattle.live_journal.specs.Refusals.{no_such_item, not_transactions}
+use Rattle.live_journal.specs.Trying.{ComesOf, IsAdd}
+use Rattle.live_journal.specs.Walking.{is_plain_edit}
+use Rattle.live_journal.proofs.Trying.{comes_of}
 use Rattle.live_journal.proofs.live.Live.made.Goals as goal
 
-pub put_at_end-requires : goal.put_at_end-requires
-put_at_end-requires g c = subst (λ (t : List ℕ). IsKept c.self.inside.year t c.self.inside.loaded) (sym c.as_slice-text.ensures) c.self.invariant
+pub add-requires-clause-editing : goal.add-requires-clause-editing
+add-requires-clause-editing g c =
+    let text = c.as_slice.ensures ∙ ap (λ (x : Journal). x.text) c.self.view_is in
+    record {
+      put = c.as_slice-2.ensures ∙ ap (λ (s : Splice). s.inserted) c.requires.splice ∙ ap (λ (t : List ℕ). (splice_of t c.args.edit.now).inserted) (sym text);
+      makes = c.requires.new ∙ ap (λ (t : List ℕ). applied t c.args.edit.now) (sym text);
+    }
 
-pub returns-in-Some-clause-made : goal.returns-in-Some-clause-made
-returns-in-Some-clause-made g c =
-    let j = c.args.self.now in
-    made_behind j c.self.inside.year c.as_slice-text.result.now c.args.new.now c.args.splice.now c.in_ok-put.put c.in-Some.behind c.in-Some.is
-    (ap (λ (x : Journal). x.year) c.self.view_is) (c.as_slice-text.ensures ∙ ap (λ (x : Journal). x.text) c.self.view_is) c.requires c.in_ok-put.ensures.puts
+pub add-requires-clause-loaded : goal.add-requires-clause-loaded
+add-requires-clause-loaded g c = subst (λ (t : List ℕ). IsLoaded c.self.inside.year t c.self.inside.loaded) (sym c.as_slice.ensures) c.self.invariant
 
-pub returns-in-Some-clause-loads : goal.returns-in-Some-clause-loads
-returns-in-Some-clause-loads g c =
-    let j = c.args.self.now in
-    let kept : IsKept j.year j.text c.self.inside.loaded = subst (λ (x : Journal). IsKept x.year x.text c.self.inside.loaded) c.self.view_is c.self.invariant in
-    made_sound j c.args.new.now c.self.inside.loaded c.in-Some.behind kept
-    (made_behind j c.self.inside.year c.as_slice-text.result.now c.args.new.now c.args.splice.now c.in_ok-put.put c.in-Some.behind c.in-Some.is
-    (ap (λ (x : Journal). x.year) c.self.view_is) (c.as_slice-text.ensures ∙ ap (λ (x : Journal). x.text) c.self.view_is) c.requires c.in_ok-put.ensures.puts)
+pub add-requires-clause-add : goal.add-requires-clause-add
+add-requires-clause-add g c = subst IsAdd (sym c.in-Add.is) tt
 
-pub returns-in-Some-clause-few : goal.returns-in-Some-clause-few
-returns-in-Some-clause-few g c =
-    let j = c.args.self.now in
-    let kept : IsKept j.year j.text c.self.inside.loaded = subst (λ (x : Journal). IsKept x.year x.text c.self.inside.loaded) c.self.view_is c.self.invariant in
-    made_few j c.args.new.now c.self.inside.loaded c.in-Some.behind kept
-    (made_behind j c.self.inside.year c.as_slice-text.result.now c.args.new.now c.args.splice.now c.in_ok-put.put c.in-Some.behind c.in-Some.is
-    (ap (λ (x : Journal). x.year) c.self.view_is) (c.as_slice-text.ensures ∙ ap (λ (x : Journal). x.text) c.self.view_is) c.requires c.in_ok-put.ensures.puts)
+pub add-requires-clause-entries : goal.add-requires-clause-entries
+add-requires-clause-entries g c =
+    ap (λ (t : List ℕ). not_transactions (items_of t) c.args.edit.now) (c.as_slice.ensures ∙ ap (λ (x : Journal). x.text) c.self.view_is) ∙ c.requires.entries
 
-pub returns-in-None-clause-made : goal.returns-in-None-clause-made
-returns-in-None-clause-made g c = made_anew c.loaded_anew.result c.args.self.now c.self.inside.year c.args.new.now (ap (λ (x : Journal). x.year) c.self.view_is) c.loaded_anew.ensures.made
+pub change-requires-clause-editing : goal.change-requires-clause-editing
+change-requires-clause-editing g c =
+    let text = c.as_slice.ensures ∙ ap (λ (x : Journal). x.text) c.self.view_is in
+    record {
+      put = c.as_slice-2.ensures ∙ ap (λ (s : Splice). s.inserted) c.requires.splice ∙ ap (λ (t : List ℕ). (splice_of t c.args.edit.now).inserted) (sym text);
+      makes = c.requires.new ∙ ap (λ (t : List ℕ). applied t c.args.edit.now) (sym text);
+    }
 
-pub returns-in-None-clause-loads : goal.returns-in-None-clause-loads
-returns-in-None-clause-loads g c =
-    subst (λ (year : Option ℕ). OnOk c.loaded_anew.result (fault_of year c.args.new.now ≡ None)) (ap (λ (x : Journal). x.year) c.self.view_is) c.loaded_anew.ensures.loads
+pub change-requires-clause-loaded : goal.change-requires-clause-loaded
+change-requires-clause-loaded g c = subst (λ (t : List ℕ). IsLoaded c.self.inside.year t c.self.inside.loaded) (sym c.as_slice.ensures) c.self.invariant
 
-pub returns-in-None-clause-fault : goal.returns-in-None-clause-fault
-returns-in-None-clause-fault g c =
-    subst (λ (year : Option ℕ). IfErr c.loaded_anew.result (λ e. TellsRefusal e (fault_of year c.args.new.now))) (ap (λ (x : Journal). x.year) c.self.view_is) c.loaded_anew.ensures.fault
+pub change-requires-clause-change : goal.change-requires-clause-change
+change-requires-clause-change g c = subst (λ (d : Edit). IsChange d c.in-Change.item) (sym c.in-Change.is) refl
 
-pub returns-in-Some-clause-read : goal.returns-in-Some-clause-read
-returns-in-Some-clause-read g c =
-    read_behind c.args.self.now c.args.splice.now c.as_slice-text.result.now c.args.new.now _ _ (c.as_slice-text.ensures ∙ ap (λ (x : Journal). x.text) c.self.view_is) c.requires c.in_ok-put.ensures.read
+pub change-requires-clause-there : goal.change-requires-clause-there
+change-requires-clause-there g c =
+    ap (λ (t : List ℕ). no_such_item (items_of t) c.args.edit.now) (c.as_slice.ensures ∙ ap (λ (x : Journal). x.text) c.self.view_is) ∙ c.requires.item
 
-pub returns-in-None-clause-read : goal.returns-in-None-clause-read
-returns-in-None-clause-read g c =
-    let j = c.args.self.now in
-    let kept : IsKept j.year j.text c.self.inside.loaded = subst (λ (x : Journal). IsKept x.year x.text c.self.inside.loaded) c.self.view_is c.self.invariant in
-    let loads = subst (λ (year : Option ℕ). OnOk c.loaded_anew.result (fault_of year c.args.new.now ≡ None)) (ap (λ (x : Journal). x.year) c.self.view_is) c.loaded_anew.ensures.loads in
-    read_anew j c.args.splice.now c.as_slice-text.result.now c.args.new.now c.self.inside.loaded _ _ _ (c.as_slice-text.ensures ∙ ap (λ (x : Journal). x.text) c.self.view_is) kept
-    c.in_ok-put.ensures.read c.loaded_anew.ensures.read c.requires (c.in_ok-put.ensures.missed c.in-None.is) c.loaded_anew.result loads
+pub change-requires-clause-entries : goal.change-requires-clause-entries
+change-requires-clause-entries g c =
+    ap (λ (t : List ℕ). not_transactions (items_of t) c.args.edit.now) (c.as_slice.ensures ∙ ap (λ (x : Journal). x.text) c.self.view_is) ∙ c.requires.entries
 
-pub returns-in-None-clause-refused : goal.returns-in-None-clause-refused
-returns-in-None-clause-refused g c =
-    let j = c.args.self.now in
-    let kept : IsKept j.year j.text c.self.inside.loaded = subst (λ (x : Journal). IsKept x.year x.text c.self.inside.loaded) c.self.view_is c.self.invariant in
-    refused_anew j c.args.splice.now c.as_slice-text.result.now c.args.new.now c.self.inside.loaded _ _ _ (c.as_slice-text.ensures ∙ ap (λ (x : Journal). x.text) c.self.view_is) kept
-    c.in_ok-put.ensures.read c.loaded_anew.ensures.read c.requires (c.in_ok-put.ensures.missed c.in-None.is) c.loaded_anew.result
+pub unwalked-requires-clause-editing : goal.unwalked-requires-clause-editing
+unwalked-requires-clause-editing g c =
+    let text = c.as_slice.ensures ∙ ap (λ (x : Journal). x.text) c.self.view_is in
+    record {
+      put = c.as_slice-2.ensures ∙ ap (λ (s : Splice). s.inserted) c.requires.splice ∙ ap (λ (t : List ℕ). (splice_of t c.args.edit.now).inserted) (sym text);
+      makes = c.requires.new ∙ ap (λ (t : List ℕ). applied t c.args.edit.now) (sym text);
+    }
 
-pub returns-in_err-put-clause-refused : goal.returns-in_err-put-clause-refused
-returns-in_err-put-clause-refused g c =
-    let p = err_from_is_err_and c.from_residual.result c.from_residual.ensures.1 in
-    rw (p.1)
-    (refused_behind c.args.self.now c.args.splice.now c.as_slice-text.result.now c.args.new.now _ _ (c.as_slice-text.ensures ∙ ap (λ (x : Journal). x.text) c.self.view_is) c.requires c.in_err-put.ensures.read)
+pub unwalked-requires-clause-other : goal.unwalked-requires-clause-other
+unwalked-requires-clause-other g c = ap is_plain_edit c.in-Replace.is
 
-pub returns-in_err-put-clause-fault : goal.returns-in_err-put-clause-fault
-returns-in_err-put-clause-fault g c =
-    let p = err_from_is_err_and c.from_residual.result c.from_residual.ensures.1 in
-    let e = c.in_err-put.field-0.0 in
-    let text : spliced c.as_slice-text.result.now c.args.splice.now ≡ c.args.new.now =
-    ap (λ (t : List ℕ). spliced t c.args.splice.now) (c.as_slice-text.ensures ∙ ap (λ (x : Journal). x.text) c.self.view_is) ∙ sym c.requires in
-    let year : c.self.inside.year ≡ c.args.self.now.year = ap (λ (x : Journal). x.year) c.self.view_is in
-    let fails = subst (λ (t : List ℕ). TellsRefusal e (fault_of c.self.inside.year t)) text c.in_err-put.ensures.fault in
-    rw (p.1, p.2) (subst (λ (y : Option ℕ). TellsRefusal e (fault_of y c.args.new.now)) year fails)
+pub invariant_of-self : goal.invariant_of-self
+invariant_of-self g c = subst (λ (l : Loaded). IsLoaded c.self.inside.year c.self.inside.text l) (sym c.add.ensures.stays) c.self.invariant
 
-pub returns-in-None-clause-others : goal.returns-in-None-clause-others
-returns-in-None-clause-others g c = others_twice c.args.steps.now c.put_at_end.new.steps c.loaded_anew.new.steps c.in_ok-put.ensures.others c.loaded_anew.ensures.others
+pub invariant_of-self-in-Change : goal.invariant_of-self-in-Change
+invariant_of-self-in-Change g c = subst (λ (l : Loaded). IsLoaded c.self.inside.year c.self.inside.text l) (sym c.change.ensures.stays) c.self.invariant
+
+pub returns-in-Add-clause-comes : goal.returns-in-Add-clause-comes
+returns-in-Add-clause-comes g c =
+    subst (λ (b : List ℕ). ComesOf c.args.self.now c.args.edit.now b c.args.new.now c.add.result c.args.steps.now c.add.new.steps) c.as_slice-2.ensures
+    (comes_of c.args.self.now _ c.add.result c.args.steps.now c.add.new.steps (ap (λ (x : Journal). x.year) c.self.view_is) (c.as_slice.ensures ∙ ap (λ (x : Journal). x.text) c.self.view_is) c.add.ensures.comes)
+
+pub returns-in-Change-clause-comes : goal.returns-in-Change-clause-comes
+returns-in-Change-clause-comes g c =
+    subst (λ (b : List ℕ). ComesOf c.args.self.now c.args.edit.now b c.args.new.now c.change.result c.args.steps.now c.change.new.steps) c.as_slice-2.ensures
+    (comes_of c.args.self.now _ c.change.result c.args.steps.now c.change.new.steps (ap (λ (x : Journal). x.year) c.self.view_is) (c.as_slice.ensures ∙ ap (λ (x : Journal). x.text) c.self.view_is) c.change.ensures.comes)
+
+pub returns-in-Replace-clause-comes : goal.returns-in-Replace-clause-comes
+returns-in-Replace-clause-comes g c =
+    subst (λ (b : List ℕ). ComesOf c.args.self.now c.args.edit.now b c.args.new.now c.unwalked.result c.args.steps.now c.unwalked.new.steps) c.as_slice-2.ensures
+    (comes_of c.args.self.now _ c.unwalked.result c.args.steps.now c.unwalked.new.steps (ap (λ (x : Journal). x.year) c.self.view_is) (c.as_slice.ensures ∙ ap (λ (x : Journal). x.text) c.self.view_is) c.unwalked.ensures)
+
+pub returns-in-Add-clause-stays : goal.returns-in-Add-clause-stays
+returns-in-Add-clause-stays g c = c.self.view_is
+
+pub returns-in-Change-clause-stays : goal.returns-in-Change-clause-stays
+returns-in-Change-clause-stays g c = c.self.view_is
+
+pub returns-in-Replace-clause-stays : goal.returns-in-Replace-clause-stays
+returns-in-Replace-clause-stays g c = refl

@@ -1,7 +1,7 @@
 use Rattle.std.proofs.Common.{◌≡◌, ℕ, ◌+◌, ◌-◌, ◌^◌, ◌<◌, cond, ap, sym, subst, ◌∙◌}
 use Rattle.live_journal.specs.Journals.{Journal, Planned}
-use Rattle.live_journal.specs.Keeping.{IsMadeFrom}
-use Rattle.live_journal.proofs.Putting.{room_of}
+use Rattle.loaded_texts.specs.Ways.{IsMadeFrom}
+use Rattle.loaded_texts.proofs.Putting.{can_take}
 use Rattle.live_journal.proofs.live.Live.put.Goals as goal
 
 pub raised-self-inside-requires : goal.raised-self-inside-requires
@@ -11,14 +11,15 @@ raised-self-inside-requires c = λ e.
 pub put_made-requires : goal.put_made-requires
 put_made-requires c =
     let from = ap (λ (p : Planned). p.from) c.plan.view_is ∙ c.requires.from ∙ sym c.self.view_is in
-    room_of c.self.inside.year c.self.inside.text c.plan.inside.text c.self.inside.loaded c.plan.inside.made c.self.invariant
-    (subst (λ (j : Journal). IsMadeFrom j.year j.text c.plan.inside.text c.plan.inside.made) from c.plan.invariant)
+    rw c.as_slice.ensures
+    (can_take c.self.inside.year c.self.inside.text c.plan.inside.splice.inserted c.plan.inside.text c.self.inside.loaded c.plan.inside.made c.self.invariant
+    (subst (λ (j : Journal). IsMadeFrom j.year j.text c.plan.inside.splice.inserted c.plan.inside.text c.plan.inside.made) from c.plan.invariant))
 
 pub invariant_of-self : goal.invariant_of-self
 invariant_of-self c =
     let from = ap (λ (p : Planned). p.from) c.plan.view_is ∙ c.requires.from ∙ sym c.self.view_is in
     c.put_made.ensures c.self.inside.year c.self.inside.text c.plan.inside.text c.self.invariant
-    (subst (λ (j : Journal). IsMadeFrom j.year j.text c.plan.inside.text c.plan.inside.made) from c.plan.invariant)
+    (rw c.as_slice.ensures (subst (λ (j : Journal). IsMadeFrom j.year j.text c.plan.inside.splice.inserted c.plan.inside.text c.plan.inside.made) from c.plan.invariant))
 
 pub returns : goal.returns
 returns c =
