@@ -1,3 +1,4 @@
+pub mod AskingLaws
 mod Again
 mod Complete
 mod Converted

@@ -1,41 +1,35 @@
 -- What is counted for a request, by what it is.
-use Rattle.std.proofs.Common.{◌≡◌, ℕ, ◌+◌, ◌-◌, ◌^◌, ◌≤◌, Bool, true, false, if◌then◌else◌, nat_lt, List, [], ◌∷◌, length, Option, Some, None, refl, sym, ap, subst, ◌∙◌, arith}
+use Rattle.std.proofs.Common.{◌≡◌, inl, inr, ℕ, ◌-◌, ◌^◌, Bool, true, false, if◌then◌else◌, nat_lt, List, [], ◌∷◌, length, Option, Some, None, refl, sym, ap, subst, ◌∙◌}
 use Rattle.std.proofs.lemmas.Bool.{false≢true}
 use Rattle.hl_base.specs.Counts.{Counts}
 use Rattle.hl_base.specs.declared.change.Latest.{Latest}
-use Rattle.live_journal.specs.Edits.{applied, splice_of}
-use Rattle.live_journal.specs.Journals.{Journal, Planned}
+use Rattle.live_journal.specs.Checking.{CountsEdit, CountsRefused}
+use Rattle.live_journal.specs.Journals.{Journal}
 use Rattle.live_journal.specs.Loading.{first_of}
-use Rattle.live_journal.specs.Reading.{most_read}
-use Rattle.live_journal.specs.Refusals.{planned}
+use Rattle.live_journal.specs.declared.edit.Edit.{Edit}
 use Rattle.live_journal.specs.declared.fault.EditFault.{EditFault}
 use Rattle.live_journal.specs.declared.fault.EditFault.TheVariants as refused
+use Rattle.live_journal.proofs.Checking.{none_counted, none_refused}
 use Rattle.desk.specs.declared.deed.Deed.{Deed}
 use Rattle.desk.specs.declared.reply.Reply.{Reply}
 use Rattle.desk.specs.declared.reply.Reply.TheVariants as reply
 use Rattle.desk.specs.declared.request.Request.{Request}
-use Rattle.desk.specs.Reading.{CountsSteps, ReadsFor, is_accepted, is_unasked}
-use Rattle.desk.specs.States.{State, as_reply, deed_in, full_cases, is_due, last_revision, long_name, many_states, no_room}
+use Rattle.desk.specs.Reading.{CountsFault, CountsFor, CountsRequest, CountsSteps, CountsTried, is_accepted, is_planned, is_refused, is_unasked}
+use Rattle.desk.specs.States.{State, as_reply, full_cases, is_due, last_revision, long_name, many_states, no_room}
 
--- where nothing is read, no bound is passed
-nothing_read : (j : Journal) (d : Option Deed) (r : Reply) (n : ℕ) → ReadsFor j d r n n
-nothing_read j None r n = tt
-nothing_read j (Some d) r n = λ accepted.
-    let most = most_read j (splice_of j.text d.edit) (applied j.text d.edit) in
-    let within : n ≤ n + most = omega arith in
-    within
+nothing_counted : (j : Journal) (d : Option Deed) (r : Reply) (c : Counts) → CountsFor j d r c c
+nothing_counted j None r c = tt
+nothing_counted j (Some d) r c =
+    let none = none_counted j d.edit c in
+    record { accepted = λ accepted. none; refusal = λ refused. none_refused j d.edit c; replied = inl none }
 
 -- where nothing is counted, all is well
 pub idle : (j : Journal) (d : Option Deed) (r : Reply) (c : Counts) → CountsSteps j d r c c
 idle j d r c = record {
-  others = refl;
-  accepted = nothing_read j d r c.bytes_read;
+  edit = nothing_counted j d r c;
   no_edit = λ none. refl;
   unasked = λ unasked. refl;
 }
-
-pub idle_as : (j : Journal) (d : Option Deed) (r : Reply) (old new : Counts) → new ≡ old → CountsSteps j d r old new
-idle_as j d r old new is = subst (λ (c : Counts). CountsSteps j d r old c) (sym is) (idle j d r old)
 
 -- a refusal of the journal isn't given where the edit is accepted, nor where the journal isn't asked
 fault_unaccepted : (fault : EditFault) → is_accepted (as_reply fault) ≡ false
@@ -56,22 +50,90 @@ fault_asked (refused.TooLarge limit size) = refl
 fault_asked (refused.Load fault) = refl
 fault_asked refused.Memory = refl
 
--- what is read to plan an edit is read for it, whatever it is replied then
-pub planned_steps : (j : Journal) (d : Deed) (plan : Planned) (r : Reply) (old new : Counts) → plan ≡ planned j d.edit → is_unasked r ≡ false
-    → new.bytes_read ≤ old.bytes_read + most_read j plan.splice plan.text → new ≡ record old { bytes_read = new.bytes_read } → CountsSteps j (Some d) r old new
-planned_steps j d plan r old new is asked within others = record {
-  others = others;
-  accepted = λ accepted. subst (λ (p : Planned). new.bytes_read ≤ old.bytes_read + most_read j p.splice p.text) is within;
+-- a reply to an edit that was planned is no refusal of the journal, which was asked
+planned_unrefused : (r : Reply) → is_planned r ≡ true → is_refused r ≡ false
+planned_unrefused (reply.Done revision) h = refl
+planned_unrefused (reply.Same revision) h = refl
+planned_unrefused (reply.Text revision bytes) h = refl
+planned_unrefused (reply.Forbidden need have) h = refl
+planned_unrefused (reply.Stale base current) h = absurd (false≢true h)
+planned_unrefused (reply.BadBase base current) h = absurd (false≢true h)
+planned_unrefused (reply.NoSuchItem n count) h = absurd (false≢true h)
+planned_unrefused (reply.NotTransactions line) h = absurd (false≢true h)
+planned_unrefused (reply.Load fault) h = absurd (false≢true h)
+planned_unrefused (reply.TooLarge limit size) h = absurd (false≢true h)
+planned_unrefused (reply.DiskFault before after) h = refl
+planned_unrefused (reply.Words fault) h = refl
+planned_unrefused (reply.Csv fault) h = refl
+planned_unrefused (reply.Full size limit) h = refl
+planned_unrefused reply.Memory h = refl
+
+planned_asked : (r : Reply) → is_planned r ≡ true → is_unasked r ≡ false
+planned_asked (reply.Done revision) h = refl
+planned_asked (reply.Same revision) h = refl
+planned_asked (reply.Text revision bytes) h = absurd (false≢true h)
+planned_asked (reply.Forbidden need have) h = absurd (false≢true h)
+planned_asked (reply.Stale base current) h = refl
+planned_asked (reply.BadBase base current) h = refl
+planned_asked (reply.NoSuchItem n count) h = refl
+planned_asked (reply.NotTransactions line) h = refl
+planned_asked (reply.Load fault) h = refl
+planned_asked (reply.TooLarge limit size) h = refl
+planned_asked (reply.DiskFault before after) h = refl
+planned_asked (reply.Words fault) h = absurd (false≢true h)
+planned_asked (reply.Csv fault) h = absurd (false≢true h)
+planned_asked (reply.Full size limit) h = refl
+planned_asked reply.Memory h = refl
+
+-- what is counted to plan an edit is counted for it, whatever it is replied then
+pub planned_steps : (j : Journal) (d : Deed) (r : Reply) (old new : Counts) → is_planned r ≡ true → CountsEdit j d.edit old new → CountsSteps j (Some d) r old new
+planned_steps j d r old new planned counts = record {
+  edit = record {
+    accepted = λ accepted. counts;
+    refusal = λ refusal. absurd (false≢true (sym (planned_unrefused r planned) ∙ refusal));
+    replied = inl counts;
+  };
   no_edit = λ none. absurd (cc none);
-  unasked = λ unasked. absurd (false≢true (sym asked ∙ unasked));
+  unasked = λ unasked. absurd (false≢true (sym (planned_asked r planned) ∙ unasked));
 }
 
--- nothing is said of the bytes that are read for an edit that the journal refuses
+-- what a refusal counts is counted whichever it is
+pub fault_counts : (j : Journal) (edit : Edit) (fault : EditFault) (old new : Counts) → CountsRefused j edit old new → CountsFault j edit fault old new
+fault_counts j edit (refused.BadBase base current) old new h = h
+fault_counts j edit (refused.Stale base current) old new h = h
+fault_counts j edit (refused.NoSuchItem n count) old new h = h
+fault_counts j edit (refused.NotTransactions line) old new h = h
+fault_counts j edit (refused.TooLarge limit size) old new h = h
+fault_counts j edit (refused.Load fault) old new h = h
+fault_counts j edit refused.Memory old new h = inr h
+
+fault_refused : (j : Journal) (edit : Edit) (fault : EditFault) (old new : Counts) → is_refused (as_reply fault) ≡ true → CountsFault j edit fault old new → CountsRefused j edit old new
+fault_refused j edit (refused.BadBase base current) old new is h = h
+fault_refused j edit (refused.Stale base current) old new is h = h
+fault_refused j edit (refused.NoSuchItem n count) old new is h = h
+fault_refused j edit (refused.NotTransactions line) old new is h = h
+fault_refused j edit (refused.TooLarge limit size) old new is h = h
+fault_refused j edit (refused.Load fault) old new is h = h
+fault_refused j edit refused.Memory old new is h = absurd (false≢true is)
+
+fault_tried : (j : Journal) (edit : Edit) (fault : EditFault) (old new : Counts) → CountsFault j edit fault old new → CountsTried j edit old new
+fault_tried j edit (refused.BadBase base current) old new h = inr h
+fault_tried j edit (refused.Stale base current) old new h = inr h
+fault_tried j edit (refused.NoSuchItem n count) old new h = inr h
+fault_tried j edit (refused.NotTransactions line) old new h = inr h
+fault_tried j edit (refused.TooLarge limit size) old new h = inr h
+fault_tried j edit (refused.Load fault) old new h = inr h
+fault_tried j edit refused.Memory old new h = h
+
+-- and for one that the journal refuses what its refusal counts
 pub refused_steps : (j : Journal) (d : Deed) (fault : EditFault) (r : Reply) (old new : Counts) → r ≡ as_reply fault
-    → new ≡ record old { bytes_read = new.bytes_read } → CountsSteps j (Some d) r old new
-refused_steps j d fault r old new is others = record {
-  others = others;
-  accepted = λ accepted. absurd (false≢true (sym (ap is_accepted is ∙ fault_unaccepted fault) ∙ accepted));
+    → CountsFault j d.edit fault old new → CountsSteps j (Some d) r old new
+refused_steps j d fault r old new is counts = record {
+  edit = record {
+    accepted = λ accepted. absurd (false≢true (sym (ap is_accepted is ∙ fault_unaccepted fault) ∙ accepted));
+    refusal = λ refusal. fault_refused j d.edit fault old new (sym (ap is_refused is) ∙ refusal) counts;
+    replied = fault_tried j d.edit fault old new counts;
+  };
   no_edit = λ none. absurd (cc none);
   unasked = λ unasked. absurd (false≢true (sym (ap is_unasked is ∙ fault_asked fault) ∙ unasked));
 }
@@ -81,51 +143,51 @@ pub same_steps : (j : Journal) (a b : Option Deed) (r : Reply) (old new : Counts
 same_steps j a b r old new is h = subst (λ (d : Option Deed). CountsSteps j d r old new) (sym is) h
 
 -- the same of a request that is seen as another
-pub seen_steps : (j : Journal) (s : State) (q seen : Request) (r : Reply) (old new : Counts) → q ≡ seen
-    → CountsSteps j (deed_in s seen) r old new → CountsSteps j (deed_in s q) r old new
-seen_steps j s q seen r old new is h = subst (λ (x : Request). CountsSteps j (deed_in s x) r old new) (sym is) h
+pub seen_steps : (j : Journal) (s : State) (day : ℕ) (q seen : Request) (r : Reply) (old new : Counts) → q ≡ seen
+    → CountsRequest j s day seen r old new → CountsRequest j s day q r old new
+seen_steps j s day q seen r old new is h = subst (λ (x : Request). CountsRequest j s day x r old new) (sym is) h
 
--- a refusal, if there is one, is given where the journal was asked
-abbrev IsAsked : Option Reply → Type 0
-IsAsked None = Unit {0}
-IsAsked (Some r) = is_unasked r ≡ false
+-- a refusal, if there is one, is given to an edit that was planned
+abbrev IsPlanned : Option Reply → Type 0
+IsPlanned None = Unit {0}
+IsPlanned (Some r) = is_planned r ≡ true
 
-room_asked : (due past : Bool) (size limit : ℕ) → IsAsked (if due then (if past then Some (reply.Full size limit) else None) else None)
-room_asked true true size limit = refl
-room_asked true false size limit = tt
-room_asked false past size limit = tt
+room_planned : (due past : Bool) (size limit : ℕ) → IsPlanned (if due then (if past then Some (reply.Full size limit) else None) else None)
+room_planned true true size limit = refl
+room_planned true false size limit = tt
+room_planned false past size limit = tt
 
-last_asked : (within : Bool) (size limit : ℕ) → IsAsked (if within then None else Some (reply.Full size limit))
-last_asked true size limit = tt
-last_asked false size limit = refl
+last_planned : (within : Bool) (size limit : ℕ) → IsPlanned (if within then None else Some (reply.Full size limit))
+last_planned true size limit = tt
+last_planned false size limit = refl
 
-end_asked : (n : ℕ) (within : Bool) → IsAsked (if within then None else Some (reply.Full n (2 ^ 32 - 1)))
-end_asked n true = tt
-end_asked n false = refl
+end_planned : (n : ℕ) (within : Bool) → IsPlanned (if within then None else Some (reply.Full n (2 ^ 32 - 1)))
+end_planned n true = tt
+end_planned n false = refl
 
-name_asked : (mark : Option Latest) → IsAsked (long_name mark)
-name_asked None = tt
-name_asked (Some mark) = end_asked (length mark.name) (nat_lt (length mark.name) (2 ^ 32))
+name_planned : (mark : Option Latest) → IsPlanned (long_name mark)
+name_planned None = tt
+name_planned (Some mark) = end_planned (length mark.name) (nat_lt (length mark.name) (2 ^ 32))
 
-states_asked : (states : Option (List Latest)) → IsAsked (many_states states)
-states_asked None = tt
-states_asked (Some states) = end_asked (length states) (nat_lt (length states) (2 ^ 32))
+states_planned : (states : Option (List Latest)) → IsPlanned (many_states states)
+states_planned None = tt
+states_planned (Some states) = end_planned (length states) (nat_lt (length states) (2 ^ 32))
 
 -- nor is the first of several refusals another
-next_asked : (o : Option Reply) (rest : List (Option Reply)) → IsAsked o → IsAsked (first_of rest) → IsAsked (first_of (o ∷ rest))
-next_asked None rest h more = more
-next_asked (Some r) rest h more = h
+next_planned : (o : Option Reply) (rest : List (Option Reply)) → IsPlanned o → IsPlanned (first_of rest) → IsPlanned (first_of (o ∷ rest))
+next_planned None rest h more = more
+next_planned (Some r) rest h more = h
 
 -- the refusals of a store without room are of an edit that the journal accepts
-pub full_asked : (s : State) (mark : Option Latest) (states : Option (List Latest)) (size : ℕ) (r : Reply) → first_of (full_cases s mark states size) ≡ Some r → is_unasked r ≡ false
-full_asked s mark states size r h =
+pub full_planned : (s : State) (mark : Option Latest) (states : Option (List Latest)) (size : ℕ) (r : Reply) → first_of (full_cases s mark states size) ≡ Some r → is_planned r ≡ true
+full_planned s mark states size r h =
     let room = no_room s size in
     let last = last_revision s.revision in
     let name = long_name mark in
     let many = many_states states in
-    let asked : IsAsked (first_of (full_cases s mark states size)) =
-    next_asked room (last ∷ name ∷ many ∷ []) (room_asked (is_due s size) _ _ _)
-    (next_asked last (name ∷ many ∷ []) (last_asked (nat_lt s.revision (2 ^ 62)) _ _)
-    (next_asked name (many ∷ []) (name_asked mark)
-    (next_asked many [] (states_asked states) tt))) in
-    subst (λ (o : Option Reply). IsAsked o) h asked
+    let planned : IsPlanned (first_of (full_cases s mark states size)) =
+    next_planned room (last ∷ name ∷ many ∷ []) (room_planned (is_due s size) _ _ _)
+    (next_planned last (name ∷ many ∷ []) (last_planned (nat_lt s.revision (2 ^ 62)) _ _)
+    (next_planned name (many ∷ []) (name_planned mark)
+    (next_planned many [] (states_planned states) tt))) in
+    subst (λ (o : Option Reply). IsPlanned o) h planned

@@ -1,11 +1,12 @@
 -- When a store is written anew, and how large it is then.
-use Rattle.std.proofs.Common.{◌≡◌, ◌⊎◌, inl, inr, ℕ, ◌+◌, ◌*◌, ◌-◌, ◌^◌, ◌<◌, ◌≤◌, min, Bool, true, false, IsTrue, ◌||◌, ltb, if◌then◌else◌, List, [], ◌∷◌, Option, Some, None, refl, ap, sym, ◌∙◌, arith}
+use Rattle.std.proofs.Common.{◌≡◌, ◌⊎◌, inl, inr, ℕ, ◌+◌, ◌*◌, ◌-◌, ◌^◌, ◌<◌, ◌≤◌, min, Bool, true, false, IsTrue, ◌||◌, ltb, if◌then◌else◌, List, [], ◌∷◌, length, Option, Some, None, refl, ap, sym, subst, ◌∙◌, arith}
 use Rattle.std.proofs.lemmas.Bool.{cases_lt, false≢true}
 use Rattle.std.proofs.lemmas.Bool.Decides.{nat_tests}
 use borrow.Author.Tests.{ltb-true}
 use Rattle.hl_base.specs.declared.change.Latest.{Latest}
 use Rattle.live_journal.specs.Loading.{first_of}
 use Rattle.text_store.specs.declared.change.Change.{Change}
+use Rattle.text_store.specs.Changes.{payload_of}
 use Rattle.text_store.specs.Edits.{whole_size}
 use Rattle.desk.specs.declared.reply.Reply.{Reply}
 use Rattle.desk.specs.declared.reply.Reply.TheVariants as reply
@@ -163,9 +164,18 @@ pub told_full : (s : State) (mark : Option Latest) (states : Option (List Latest
 told_full s mark states size some few =
     ap (λ (o : Option Reply). first_of (o ∷ last_revision s.revision ∷ long_name mark ∷ many_states states ∷ [])) (told_room s size some few)
 
--- the size that is told of a change
-pub capped : (told : ℕ) (c given : Change) → told ≡ min (record_size c) (2 ^ 64 - 1) → c ≡ given → told ≡ min (record_size given) (2 ^ 64 - 1)
-capped told c given is same = is ∙ ap (λ (x : Change). min (record_size x) (2 ^ 64 - 1)) same
+-- the first refusal of what an edit is kept as
+pub room_told : (s : State) (mark : Option Latest) (states given : Option (List Latest)) (c is : Change) → 0 < s.size → s.limit < 2 ^ 64 → c ≡ is → states ≡ given
+    → first_of (full_cases s mark states (min (record_size c) (2 ^ 64 - 1))) ≡ first_of (full_cases s mark given (record_size is))
+room_told s mark states given c is some few same also =
+    (λ i. first_of (full_cases s mark (also i) (min (record_size (same i)) (2 ^ 64 - 1)))) ∙ told_full s mark given (record_size is) some few
+
+-- a record has some bytes
+some_bytes : (n : ℕ) → 0 < min (10 + n) (2 ^ 64 - 1)
+some_bytes n = omega arith
+
+pub some_told : (told : ℕ) (c : Change) → told ≡ min (record_size c) (2 ^ 64 - 1) → 0 < told
+some_told told c is = subst (λ (n : ℕ). 0 < n) (sym is) (some_bytes (length (payload_of c)))
 
 -- the only one of a list
 pub only_one : (o : Option Reply) → o ≡ first_of (o ∷ [])

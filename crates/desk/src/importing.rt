@@ -1,24 +1,119 @@
-//! The entries of a file, and the edit that an import of them is.
-ghost use Rattle.std.specs.Prelude.{◌≡◌, ◌⊎◌, ◌++◌, ◌<◌, ◌^◌, ◌∷◌, true, None, IfOk, OnOk, length, map};
+//! How a machine answers imports: the entries of a file, and the edit that an import of them is.
+ghost use Rattle.std.specs.Prelude.{◌≡◌, ◌++◌, ◌<◌, ◌^◌, ◌∷◌, true, None, IfOk, OnOk, length, map};
 ghost use Rattle.std.specs.List.{flat_map};
 ghost use Rattle.entry_reader.specs.Contexts.{context_of};
 ghost use Rattle.csv_rules.specs.Importing.{is_ordered};
 ghost use Rattle.desk.specs.Files.{FileSo, rules_reply, convert_reply};
 ghost use Rattle.desk.specs.Imports as spec;
+ghost use Rattle.desk.specs.States as state;
 
 use crate::csv_fault::CsvFault;
 use crate::deed::Deed;
+use crate::desk::Desk;
+use crate::judging::covers;
 use crate::reply::Reply;
+use crate::request::{Allow, Request};
 use crate::states::state_named;
 use book::{Placed, Txn};
 use csv_entries::{ConvertFault, convert};
 use csv_rules::{Rules, RulesFault, new_ones};
 use entry_reader::Context;
-use hl_base::{Bytes, Latest, List, Memory, Text};
+use hl_base::{Bytes, Disk, Latest, List, Memory, Steps, Text};
 use journal_printer::print_entry;
 use live_journal::{Edit, Live};
 use query::Maker;
 use std::alloc::Global;
+use std::sync::ledger::Ledger;
+
+impl<D: Disk> Desk<D> {
+    ghost use Rattle.std.specs.Prelude.{◌≡◌, ℕ, true};
+    ghost use Rattle.csv_rules.specs.Importing.{is_ordered};
+    ghost use Rattle.desk.specs.Desks.{Serves, counts_of, state_of};
+    ghost use Rattle.desk.specs.Imports.{entries_of as entries_told, new_deed};
+    ghost use Rattle.desk.specs.Reading.{CountsSteps};
+    ghost use Rattle.desk.specs.Steps.{TellsReply};
+
+    /// Answers an import of a file by rules, whose state is remembered under a name.
+    pub(crate) fn import<M: Maker, L: Ledger>(
+        &mut self,
+        alloc: Global,
+        name: &Text,
+        rules: &[u8],
+        csv: &[u8],
+        maker: &mut M,
+        steps: &mut Steps<L>,
+    ) -> Reply
+        ensures maker { (day : ℕ) → TellsReply (Request.Import name.now rules.now csv.now) day
+            (M.refusals maker.old) (M.refusals maker.new)
+            (M.last_refused maker.old) (M.last_refused maker.new) result }
+        ensures served { Serves (state.import_answer (state_of self.old) name.now rules.now csv.now)
+            (state.deed_of_file (state_of self.old) name.now (entries_told rules.now csv.now))
+            self.old result self.new }
+        ensures counts { counts_of self.new ≡ counts_of self.old }
+        ensures steps { CountsSteps self.old.live
+            (state.deed_of_file (state_of self.old) name.now (entries_told rules.now csv.now))
+            result
+            steps.old steps.new }
+    {
+        if !covers(self.allow, Allow::Add) {
+            let have = self.allow;
+            return Reply::Forbidden {
+                need: Allow::Add,
+                have,
+            };
+        }
+        match entries_of(alloc, rules, csv, maker) {
+            Ok(txns) => self.import_entries(alloc, name, txns, steps),
+            Err(reply) => reply,
+        }
+    }
+
+    /// Answers an import of some entries.
+    fn import_entries<L: Ledger>(
+        &mut self,
+        alloc: Global,
+        name: &Text,
+        txns: List<Txn>,
+        steps: &mut Steps<L>,
+    ) -> Reply
+        requires { is_ordered txns ≡ true }
+        ensures served { let s = state_of self.old in
+            Serves (state.deed_answer s (new_deed s.text s.latest name.now txns))
+            (new_deed s.text s.latest name.now txns) self.old result self.new }
+        ensures counts { counts_of self.new ≡ counts_of self.old }
+        ensures steps { CountsSteps self.old.live
+            (new_deed self.old.live.text self.old.latest name.now txns) result steps.old steps.new }
+    {
+        if txns.len() as u64 >= 1 << 32 {
+            return Reply::Memory;
+        }
+        match import_deed(alloc, &self.live, self.latest.as_slice(), name, txns) {
+            Ok(deed) => self.put_deed(alloc, deed, steps),
+            Err(Memory) => Reply::Memory,
+        }
+    }
+
+    /// Puts in what an import is, unless none of its entries is new.
+    fn put_deed<L: Ledger>(
+        &mut self,
+        alloc: Global,
+        deed: Option<Deed>,
+        steps: &mut Steps<L>,
+    ) -> Reply
+        ensures served { Serves (state.deed_answer (state_of self.old) deed) deed
+            self.old result self.new }
+        ensures counts { counts_of self.new ≡ counts_of self.old }
+        ensures steps { CountsSteps self.old.live deed result steps.old steps.new }
+    {
+        match deed {
+            Some(deed) => self.judge(alloc, Allow::Add, &deed, steps),
+            None => {
+                let revision = self.live.revision();
+                Reply::Same { revision }
+            }
+        }
+    }
+}
 
 /// The reply to an import whose rules don't read.
 fn rules_reply(fault: RulesFault) -> Reply
@@ -54,7 +149,7 @@ fn convert_reply(fault: ConvertFault) -> Reply
 }
 
 /// The entries that a file becomes by rules, whose patterns the maker builds; or the reply that says why it becomes none.
-pub(crate) fn entries_of<M: Maker>(
+fn entries_of<M: Maker>(
     alloc: Global,
     rules: &[u8],
     csv: &[u8],
@@ -92,7 +187,8 @@ fn push_entry(
     context: &Context,
     txn: &Txn,
 ) -> Result<(), Memory>
-    ensures { OnOk result (bytes.new.items ≡ bytes.old.items ++ spec.entry_text context.now txn.now) }
+    ensures { OnOk result (bytes.new.items ≡ bytes.old.items
+        ++ spec.entry_text context.now txn.now) }
 {
     let text = print_entry(alloc, txn, context)?;
     bytes.extend_from_slice(text.as_slice())?;
@@ -153,7 +249,7 @@ fn addition(
 }
 
 /// The edit that an import of some entries is under a name, unless none of them is new.
-pub(crate) fn import_deed(
+fn import_deed(
     alloc: Global,
     live: &Live,
     states: &[Latest],

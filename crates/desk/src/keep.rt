@@ -37,7 +37,8 @@ fn reason_of(fault: StoreFault) -> Unkept
 
 /// Repairs a store where that is due.
 fn mend<D: Disk>(store: &mut Store<D>) -> Result<(), Unkept>
-    ensures mended { OnOk result ((shown : Image) (pending : Option Image) → Stands store.old shown pending
+    ensures mended { OnOk result ((shown : Image) (pending : Option Image)
+        → Stands store.old shown pending
         → (repair_due store.new ≡ false) × Holds store.new shown) }
     ensures torn { OnErr result ((shown : Image) (pending : Option Image)
         → Stands store.old shown pending → Stands store.new shown pending) }
@@ -160,7 +161,8 @@ fn make_room<D: Disk>(
         ≡ fault_count D.Disk (disks store.old)) }
     ensures size { let whole = edits.whole_size
         (record { text = live.now.text; latest = latest.now; revision = live.now.revision }) in
-        OnOk result (size_of store.new ≡ spec.room_size (size_of store.old) (limit_of store.old) size whole) }
+        OnOk result (size_of store.new
+        ≡ spec.room_size (size_of store.old) (limit_of store.old) size whole) }
     ensures same_size { OnErr result (size_of store.new ≡ size_of store.old) }
     ensures ready { OnOk result (repair_due store.new ≡ false) }
     ensures goes_on { spec.GoesOn store.old store.new }
@@ -202,7 +204,8 @@ pub(crate) fn keep<D: Disk>(
     requires revision { live.now.revision < 2 ^ 62 }
     requires room { let whole = edits.whole_size
         (record { text = live.now.text; latest = latest.now; revision = live.now.revision }) in
-        spec.room_size (size_of store.old) (limit_of store.old) size whole + size ≤ limit_of store.old }
+        spec.room_size (size_of store.old) (limit_of store.old) size whole + size
+        ≤ limit_of store.old }
     ensures held { (shown next : Image) (pending : Option Image)
         → shown ≡ record { text = live.now.text; latest = latest.now; revision = live.now.revision }
         → Stands store.old shown pending → edits.edited shown change.now ≡ Some next
@@ -216,7 +219,8 @@ pub(crate) fn keep<D: Disk>(
         → shown ≡ record { text = live.now.text; latest = latest.now; revision = live.now.revision }
         → Stands store.old shown pending → edits.edited shown change.now ≡ Some next
         → Tell D.Disk (disks store.old)
-        → Throughout D.Disk (disks store.old) (disks store.new) (ShowsOne shown pending (Some next)) }
+        → Throughout D.Disk (disks store.old) (disks store.new)
+        (ShowsOne shown pending (Some next)) }
     ensures cause { IfErr result (λ e. spec.IsCause e (fault_count D.Disk (disks store.old))
         (fault_count D.Disk (disks store.new))) }
     ensures no_fault { OnOk result (fault_count D.Disk (disks store.new)

@@ -81,7 +81,8 @@ impl<D: Disk> Desk<D> {
             (WhileMade D.Disk (first, second) (fresh text.now))) }
         ensures keeps { Keeps D.Disk (first, second) (disks_of (λ desk. disks desk.store) result)
             (limit, limit) }
-        ensures no_fault { IfOk result (λ desk. faults_of desk ≡ fault_count D.Disk (first, second)) }
+        ensures no_fault { IfOk result (λ desk.
+            faults_of desk ≡ fault_count D.Disk (first, second)) }
     {
         let live = match Live::open(alloc, text, None, 0, steps) {
             Ok(live) => live,
@@ -140,7 +141,8 @@ impl<D: Disk> Desk<D> {
         ensures bounds { IfOk result (λ desk. Told D.Disk (first, second) (λ f s.
             ((bounds desk.store).0 ≤ max (limit_of desk.store) (length f))
             × ((bounds desk.store).1 ≤ max (limit_of desk.store) (length s)))) }
-        ensures no_fault { IfOk result (λ desk. faults_of desk ≡ fault_count D.Disk (first, second)) }
+        ensures no_fault { IfOk result (λ desk.
+            faults_of desk ≡ fault_count D.Disk (first, second)) }
     {
         let (store, image) = match Store::open(alloc, first, second) {
             Ok(opened) => opened,

@@ -1,6 +1,7 @@
 //! The reports of a journal.
 ghost use Rattle.hl_time.specs.Calendar.{IsDay};
 ghost use Rattle.std.specs.Prelude.{◌≡◌};
+ghost use Rattle.desk.specs.Reading.{AsksReport};
 ghost use Rattle.desk.specs.Reports.{Reports};
 ghost use Rattle.desk.specs.States as state;
 
@@ -8,8 +9,9 @@ use crate::reply::Reply;
 use generated::GenFault;
 use hl_base::{Bytes, Steps, Text};
 use hl_time::Day;
+use kept_reports::{is_from_kept, report};
 use live_journal::Live;
-use plan_commands::{PlanFault, read_report, report};
+use plan_commands::{PlanFault, read_report};
 use query::Maker;
 use report_commands::{Loaded, WordsFault};
 use std::alloc::Global;
@@ -19,6 +21,8 @@ use std::sync::ledger::Ledger;
 /// command, and those after it are its options and its query. Of several causes why there is none the first in the
 /// order of `PlanFault` is told: what is wrong with the words, then why the rules of the text make no book, and then what is
 /// wrong with the report.
+/// Nothing is read or checked. A plain balance comes from the sums that the journal keeps, if it keeps them: at most 44 nodes are
+/// asked for each account and symbol of its book and each column; for any other report none.
 pub fn report_text<M: Maker, L: Ledger>(
     alloc: Global,
     live: &Live,
@@ -31,7 +35,7 @@ pub fn report_text<M: Maker, L: Ledger>(
     ensures value { Reports day.0 live.now.year live.now.text words.now
         (M.refusals maker.old) (M.refusals maker.new)
         (M.last_refused maker.old) (M.last_refused maker.new) result }
-    ensures steps { steps.new ≡ steps.old }
+    ensures steps { AsksReport day.0 live.now.year live.now.text words.now steps.old steps.new }
 {
     let asked = match read_report(alloc, words, day) {
         Ok(asked) => asked,
@@ -43,7 +47,17 @@ pub fn report_text<M: Maker, L: Ledger>(
         styles: live.styles(),
         day,
     };
-    report(alloc, &asked, &loaded, maker)
+    report(alloc, &asked, &loaded, live.sums(), maker, steps)
+}
+
+/// Whether the words of a report ask for a plain balance.
+pub(crate) fn asks_sums(alloc: Global, words: &[Text], day: Day) -> bool
+    requires { IsDay day.0 }
+{
+    match read_report(alloc, words, day) {
+        Ok(asked) => is_from_kept(&asked),
+        Err(_) => false,
+    }
 }
 
 /// The reply to a report whose words aren't one.

@@ -6,7 +6,7 @@ use Rattle.desk.specs.Desks.{state_of}
 use Rattle.desk.specs.States.{plain}
 use Rattle.desk.proofs.Imported.{tells_import}
 use Rattle.desk.proofs.Quiet.{quiet_download, quiet_edit}
-use Rattle.desk.proofs.ReadingLaws.{idle, idle_as, seen_steps}
+use Rattle.desk.proofs.ReadingLaws.{idle, seen_steps}
 use Rattle.desk.proofs.Refused.{no_rule_of_add, no_rule_of_change, no_rule_of_download, no_rule_of_import, no_rule_of_replace, rule_of_report}
 use Rattle.desk.proofs.Served.{downloaded, reported, was_add, was_change, was_import, was_replace}
 use Rattle.desk.proofs.desk.Desk.answer.Goals as goal
@@ -99,27 +99,27 @@ returns-in-Import-clause-rule g c =
 
 pub returns-in-Report-clause-steps : goal.returns-in-Report-clause-steps
 returns-in-Report-clause-steps g c =
-    seen_steps c.args.self.now.live (state_of c.args.self.now) c.args.request.now _ _ _ _ c.in-Report.is (idle_as _ _ _ _ _ c.report.ensures.steps)
+    seen_steps c.args.self.now.live (state_of c.args.self.now) c.args.day.0 c.args.request.now _ _ _ _ c.in-Report.is (rw c.as_slice.ensures at c.report.ensures.steps)
 
 pub returns-in-Download-clause-steps : goal.returns-in-Download-clause-steps
 returns-in-Download-clause-steps g c =
-    seen_steps c.args.self.now.live (state_of c.args.self.now) c.args.request.now _ _ _ _ c.in-Download.is (idle _ _ _ _)
+    seen_steps c.args.self.now.live (state_of c.args.self.now) c.args.day.0 c.args.request.now _ _ _ _ c.in-Download.is (idle _ _ _ _)
 
 pub returns-in-Add-clause-steps : goal.returns-in-Add-clause-steps
 returns-in-Add-clause-steps g c =
-    seen_steps c.args.self.now.live (state_of c.args.self.now) c.args.request.now _ _ _ _ c.in-Add.is (c.edit.ensures.steps (edit.Add c.in-Add.entry) c.add.ensures)
+    seen_steps c.args.self.now.live (state_of c.args.self.now) c.args.day.0 c.args.request.now _ _ _ _ c.in-Add.is (c.edit.ensures.steps (edit.Add c.in-Add.entry) c.add.ensures)
 
 pub returns-in-Change-clause-steps : goal.returns-in-Change-clause-steps
 returns-in-Change-clause-steps g c =
     let e : Edit = edit.Change c.in-Change.base c.in-Change.item c.in-Change.entry in
-    seen_steps c.args.self.now.live (state_of c.args.self.now) c.args.request.now _ _ _ _ c.in-Change.is (c.edit-in-Change.ensures.steps e c.change.ensures)
+    seen_steps c.args.self.now.live (state_of c.args.self.now) c.args.day.0 c.args.request.now _ _ _ _ c.in-Change.is (c.edit-in-Change.ensures.steps e c.change.ensures)
 
 pub returns-in-Replace-clause-steps : goal.returns-in-Replace-clause-steps
 returns-in-Replace-clause-steps g c =
     let e : Edit = edit.Replace c.in-Replace.base c.in-Replace.text in
-    seen_steps c.args.self.now.live (state_of c.args.self.now) c.args.request.now _ _ _ _ c.in-Replace.is (c.edit-in-Replace.ensures.steps e c.replace.ensures)
+    seen_steps c.args.self.now.live (state_of c.args.self.now) c.args.day.0 c.args.request.now _ _ _ _ c.in-Replace.is (c.edit-in-Replace.ensures.steps e c.replace.ensures)
 
 pub returns-in-Import-clause-steps : goal.returns-in-Import-clause-steps
 returns-in-Import-clause-steps g c =
-    seen_steps c.args.self.now.live (state_of c.args.self.now) c.args.request.now _ _ _ _ c.in-Import.is
+    seen_steps c.args.self.now.live (state_of c.args.self.now) c.args.day.0 c.args.request.now _ _ _ _ c.in-Import.is
     (rw (c.as_slice-in-Import.ensures, c.as_slice-in-Import-2.ensures) at c.import.ensures.steps)

@@ -5,7 +5,7 @@ use Rattle.desk.specs.declared.request.Allow.TheVariants as allow
 use Rattle.desk.specs.declared.request.Request.TheVariants as request
 use Rattle.desk.specs.declared.reply.Reply.TheVariants as reply
 use Rattle.desk.specs.Desks.{state_of}
-use Rattle.desk.specs.Imports.{entries_of, new_deed}
+use Rattle.desk.specs.Imports.{new_deed}
 use Rattle.desk.specs.Reading.{CountsSteps}
 use Rattle.desk.specs.States.{deed_of_file}
 use Rattle.desk.proofs.Imported.{forbidden_import, put_in, tells_unmade, unmade}

@@ -25,7 +25,7 @@ returns-in-Ok-clause-served g c =
     let f = permits old.allow need (sym c.covers.ensures ∙ c.if-not-covers.false) in
     let plan = plan_is old.live d.edit c.in-Ok.plan c.in-Ok.ensures.value in
     let unrefused = ap (λ (j : Journal). refusal_of j d.edit) (journal_is old old.no_year) ∙ plan.0 in
-    accepted_by old _ _ need d _ refl (sym c.prepare.ensures.stays) refl refl f unrefused c.put_plan.ensures.served
+    accepted_by old _ _ need d _ refl (sym c.boxed_plan.ensures.stays) refl refl f unrefused c.put_plan.ensures.served
 
 pub returns-in-Err-clause-served : goal.returns-in-Err-clause-served
 returns-in-Err-clause-served g c =
@@ -33,17 +33,13 @@ returns-in-Err-clause-served g c =
     let need = c.args.need in
     let d = c.args.deed.now in
     let f = permits old.allow need (sym c.covers.ensures ∙ c.if-not-covers.false) in
-    rw c.refusal.ensures (recounted (edit_answer (state_of old) need d) (Some d) old (as_reply c.in-Err.fault) old _ refl c.prepare.ensures.stays refl refl (refused_by old need d c.in-Err.fault f old.no_year c.in-Err.ensures.value))
+    rw c.refusal.ensures (recounted (edit_answer (state_of old) need d) (Some d) old (as_reply c.in-Err.fault) old _ refl c.boxed_plan.ensures.stays refl refl (refused_by old need d c.in-Err.fault f old.no_year c.in-Err.ensures.value))
 
 pub returns-then-not-covers-clause-steps : goal.returns-then-not-covers-clause-steps
 returns-then-not-covers-clause-steps g c = idle _ _ _ _
 
 pub returns-in-Ok-clause-steps : goal.returns-in-Ok-clause-steps
-returns-in-Ok-clause-steps g c =
-    let old = c.args.self.now in
-    let d = c.args.deed.now in
-    let plan = plan_is old.live d.edit c.in-Ok.plan c.in-Ok.ensures.value in
-    planned_steps old.live d c.in-Ok.plan _ _ _ plan.1 c.put_plan.ensures.asked c.in-Ok.ensures.read c.prepare.ensures.others
+returns-in-Ok-clause-steps g c = planned_steps c.args.self.now.live c.args.deed.now _ _ _ c.put_plan.ensures.accepted c.in-Ok.ensures.counts
 
 pub returns-in-Err-clause-steps : goal.returns-in-Err-clause-steps
-returns-in-Err-clause-steps g c = refused_steps _ _ c.in-Err.fault _ _ _ c.refusal.ensures c.prepare.ensures.others
+returns-in-Err-clause-steps g c = refused_steps _ _ c.in-Err.fault _ _ _ c.refusal.ensures c.in-Err.ensures.refused

@@ -63,14 +63,14 @@ returns-in-Ok-clause-served g c =
     let few = subst (λ (o : Option (List Latest)). many_states o ≡ None) c.requires.states r.few in
     let is = ap (edited (shown_by old)) c.requires.change ∙ edited_is s d.edit d.mark inside few in
     let size = c.record_size-size.ensures ∙ r.told ∙ ap record_size c.requires.change in
-    let live = c.put.ensures ∙ put_so c.args.plan old.live.revision c.requires.differs in
+    let live = c.put_boxed.ensures ∙ put_so c.args.plan old.live.revision c.requires.differs in
     let whole = whole_size (shown_by old) in
     let grows = c.in-Ok.ensures.size ∙ ap (λ (n : ℕ). room_size (size_of old.store) (limit_of old.store) n whole + n) size in
     let latest = ap (λ (o : Option (List Latest)). unwrap_or o old.latest) c.requires.states in
-    let state = state_as s d c.put.new.self _ _ _ (ap (λ (j : Journal). j.text) live ∙ ap (λ (p : Planned). p.text) plan) (ap (λ (j : Journal). j.revision) live) latest grows c.keep.ensures.goes_on.limit in
+    let state = state_as s d c.put_boxed.new.live _ _ _ (ap (λ (j : Journal). j.text) live ∙ ap (λ (p : Planned). p.text) plan) (ap (λ (j : Journal). j.revision) live) latest grows c.keep.ensures.goes_on.limit in
     let next = image_of (edited_state s d) in
     let done = c.revision-revision.ensures ∙ ap (λ (j : Journal). j.revision) (c.put_states.ensures.live ∙ live) in
-    by_parts (or_done s d None) (Some d) old (reply.Done c.revision-revision.result) c.put_states.new.self c.keep.new.store c.put.new.self (unwrap_or c.args.states old.latest) old.allow
+    by_parts (or_done s d None) (Some d) old (reply.Done c.revision-revision.result) c.put_states.new.self c.keep.new.store c.put_boxed.new.live (unwrap_or c.args.states old.latest) old.allow
     c.put_states.ensures.store c.put_states.ensures.live c.put_states.ensures.latest c.put_states.ensures.allowed
     (inl (ap reply.Done done, state, c.in-Ok.ensures.no_fault))
     (λ pending stands.
