@@ -1,7 +1,0 @@
-use Rattle.std.proofs.Common.{◌≡◌, take}
-use Rattle.std.specs.List.{fold}
-use Rattle.asserted_entries.specs.Asking.{asked_through}
-use Rattle.asserted_entries.proofs.last_day.last_asked.Given as goal
-
-abbrev pub invariant-loop-txn : goal.invariant-loop-txn
-invariant-loop-txn l = l.last ≡ fold asked_through 0 (take l.txn-index l.txns)
