@@ -1,3 +1,3 @@
 mod Alike
 mod Digits
-mod Runs
+pub mod Runs

@@ -39,7 +39,8 @@ fn is_head(bytes: &[u8]) -> bool
 fn is_head_at(text: &[u8], pieces: &[Piece], at: usize) -> bool
     requires within { AreWithin text.now pieces.now }
     requires inside { at < length pieces.now }
-    ensures { (d : piece.Piece) → result ≡ spec.is_head (spec.bytes_of text.now (slice_index_or pieces.now at d)) }
+    ensures { (d : piece.Piece)
+        → result ≡ spec.is_head (spec.bytes_of text.now (slice_index_or pieces.now at d)) }
 {
     is_head(bytes_of(text, &pieces[at]))
 }

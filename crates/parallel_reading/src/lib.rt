@@ -6,6 +6,3 @@ mod run;
 mod threads;
 
 pub use threads::read_items;
-
-#[cfg(test)]
-mod tests;

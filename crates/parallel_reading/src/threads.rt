@@ -42,19 +42,23 @@ fn read_parts<R: Threads>(
     context: &Context,
 ) -> (Run, Run)
     requires { AreWithin text.now pieces.now }
-    ensures first { Gives (λ v. v.items) cause_in result.0 (read_alike context.now text.now (first_part pieces.now)) }
-    ensures second { Gives (λ v. v.items) cause_in result.1 (read_alike context.now text.now (second_part pieces.now)) }
+    ensures first { Gives (λ v. v.items) cause_in result.0
+        (read_alike context.now text.now (first_part pieces.now)) }
+    ensures second { Gives (λ v. v.items) cause_in result.1
+        (read_alike context.now text.now (second_part pieces.now)) }
 {
     let (front, back) = parts(text, pieces);
     join(
         rt,
         || -> Run
             requires { AreWithin text.now front.now }
-            ensures { Gives (λ v. v.items) cause_in result (read_alike context.entry.now text.entry.now front.entry.now) }
+            ensures { Gives (λ v. v.items) cause_in result
+                (read_alike context.entry.now text.entry.now front.entry.now) }
         { read_run(alloc, text, front, context) },
         || -> Run
             requires { AreWithin text.now back.now }
-            ensures { Gives (λ v. v.items) cause_in result (read_alike context.entry.now text.entry.now back.entry.now) }
+            ensures { Gives (λ v. v.items) cause_in result
+                (read_alike context.entry.now text.entry.now back.entry.now) }
         { read_run(alloc, text, back, context) },
     )
 }
@@ -68,23 +72,31 @@ fn read_four_parts<R: Threads + Sync>(
     context: &Context,
 ) -> ((Run, Run), (Run, Run))
     requires { AreWithin text.now pieces.now }
-    ensures first { Gives (λ v. v.items) cause_in result.0.0 (read_alike context.now text.now (first_part (first_part pieces.now))) }
-    ensures second { Gives (λ v. v.items) cause_in result.0.1 (read_alike context.now text.now (second_part (first_part pieces.now))) }
-    ensures third { Gives (λ v. v.items) cause_in result.1.0 (read_alike context.now text.now (first_part (second_part pieces.now))) }
-    ensures fourth { Gives (λ v. v.items) cause_in result.1.1 (read_alike context.now text.now (second_part (second_part pieces.now))) }
+    ensures first { Gives (λ v. v.items) cause_in result.0.0
+        (read_alike context.now text.now (first_part (first_part pieces.now))) }
+    ensures second { Gives (λ v. v.items) cause_in result.0.1
+        (read_alike context.now text.now (second_part (first_part pieces.now))) }
+    ensures third { Gives (λ v. v.items) cause_in result.1.0
+        (read_alike context.now text.now (first_part (second_part pieces.now))) }
+    ensures fourth { Gives (λ v. v.items) cause_in result.1.1
+        (read_alike context.now text.now (second_part (second_part pieces.now))) }
 {
     let (front, back) = parts(text, pieces);
     join(
         rt,
         || -> (Run, Run)
             requires { IsSync R.row × AreWithin text.now front.now }
-            ensures first { Gives (λ v. v.items) cause_in result.0 (read_alike context.entry.now text.entry.now (first_part front.entry.now)) }
-            ensures second { Gives (λ v. v.items) cause_in result.1 (read_alike context.entry.now text.entry.now (second_part front.entry.now)) }
+            ensures first { Gives (λ v. v.items) cause_in result.0
+                (read_alike context.entry.now text.entry.now (first_part front.entry.now)) }
+            ensures second { Gives (λ v. v.items) cause_in result.1
+                (read_alike context.entry.now text.entry.now (second_part front.entry.now)) }
         { read_parts(rt, alloc, text, front, context) },
         || -> (Run, Run)
             requires { IsSync R.row × AreWithin text.now back.now }
-            ensures third { Gives (λ v. v.items) cause_in result.0 (read_alike context.entry.now text.entry.now (first_part back.entry.now)) }
-            ensures fourth { Gives (λ v. v.items) cause_in result.1 (read_alike context.entry.now text.entry.now (second_part back.entry.now)) }
+            ensures third { Gives (λ v. v.items) cause_in result.0
+                (read_alike context.entry.now text.entry.now (first_part back.entry.now)) }
+            ensures fourth { Gives (λ v. v.items) cause_in result.1
+                (read_alike context.entry.now text.entry.now (second_part back.entry.now)) }
         { read_parts(rt, alloc, text, back, context) },
     )
 }
@@ -100,7 +112,8 @@ fn read_by_four<R: Threads + Sync>(
     items: Vec<Placed>,
 ) -> Run
     requires { AreWithin text.now pieces.now }
-    ensures { Gives (λ v. v.items) cause_in result (both (Ok items.items) (read_alike context.now text.now pieces.now)) }
+    ensures { Gives (λ v. v.items) cause_in result
+        (both (Ok items.items) (read_alike context.now text.now pieces.now)) }
 {
     let ((first, second), (third, fourth)) = read_four_parts(rt, alloc, text, pieces, context);
     let begun = joined(Ok(items), first);
@@ -132,7 +145,9 @@ fn read_behind<R: Threads + Sync>(
 ) -> Run
     requires within { AreWithin text.now pieces.now }
     requires alike { has_head text.now pieces.now ≡ false }
-    ensures { Gives (λ v. v.items) cause_in result (both (Ok items.items) (spec.reading_from year (items_at items.items) text.now pieces.now)) }
+    ensures { Gives (λ v. v.items) cause_in result
+        (both (Ok items.items)
+        (spec.reading_from year (items_at items.items) text.now pieces.now)) }
 {
     items.reserve_exact(pieces.len())?;
     let context = context_behind(alloc, items.as_slice(), year)?;
@@ -141,7 +156,10 @@ fn read_behind<R: Threads + Sync>(
 
 /// Counts the bytes of some pieces.
 fn count_bytes<L: Ledger>(pieces: &[Piece], steps: &mut Steps<L>)
-    ensures { steps.new ≡ record steps.old { bytes_read = steps.old.bytes_read + bytes_in pieces.now } }
+    ensures { steps.new ≡ record steps.old {
+      bytes_read = steps.old.bytes_read
+          + bytes_in pieces.now;
+    } }
 {
     for piece in pieces {
         steps.read_bytes(piece.len);
@@ -174,7 +192,8 @@ pub fn read_items<R: Threads + Sync, L: Ledger>(
     steps: &mut Steps<L>,
 ) -> Result<Items, ReadFault>
     requires { AreWithin text.now pieces.now }
-    ensures value { Gives (λ items. items) cause_in result (spec.reading_from year [] text.now pieces.now) }
+    ensures value { Gives (λ items.
+        items) cause_in result (spec.reading_from year [] text.now pieces.now) }
     ensures read { OnOk result (steps.new.bytes_read ≡ steps.old.bytes_read + bytes_in pieces.now) }
     ensures bound { steps.new.bytes_read ≤ steps.old.bytes_read + bytes_in pieces.now }
     ensures others { steps.new ≡ record steps.old { bytes_read = steps.new.bytes_read } }
