@@ -6,6 +6,7 @@ use crate::clock::SystemClock;
 use crate::sockets::SocketDoor;
 use desk_team::House;
 use hl_base::{Failed, Text};
+use local_day::Zone;
 use query::{Maker, RegexMaker};
 use shared_desk::Kit;
 use std::net::{Net, TcpListener, TcpStream};
@@ -15,6 +16,7 @@ use std::rt::Clock;
 #[derive(Drop)]
 pub struct SocketHouse<'a, R> {
     rt: &'a R,
+    zone: &'a Zone,
     listener: Option<TcpListener>,
     binds: u64,
     last: Option<(Text, u16)>,
@@ -23,13 +25,14 @@ pub struct SocketHouse<'a, R> {
 }
 
 impl<'a, R> SocketHouse<'a, R> {
-    /// A house that wasn't asked to bind yet.
-    pub fn new(rt: &'a R) -> SocketHouse<'a, R>
+    /// A house that wasn't asked to bind yet, whose clocks are in a zone.
+    pub fn new(rt: &'a R, zone: &'a Zone) -> SocketHouse<'a, R>
         ensures binds { (result.binds ≡ 0) × (result.last ≡ None) }
         ensures counts { (result.faults ≡ 0) × (result.refusals ≡ 0) }
     {
         SocketHouse {
             rt,
+            zone,
             listener: None,
             binds: 0,
             last: None,
@@ -98,7 +101,7 @@ impl<'a, R: Net<Listener = TcpListener, Stream = TcpStream> + Clock + Sync> Hous
         match handle_of(&self.listener) {
             Some(listener) => Ok(Kit {
                 door: SocketDoor::new(listener),
-                clock: SystemClock::new(self.rt),
+                clock: SystemClock::new(self.rt, self.zone),
                 maker: RegexMaker::new(),
             }),
             None => {

@@ -6,6 +6,7 @@ mod house;
 pub mod run;
 mod sockets;
 pub mod streams;
+mod zone;
 
 pub use house::SocketHouse;
 pub use run::run_process;

@@ -1,4 +1,4 @@
-//! A run whose words, day, input, files, sockets and outputs are those of the process.
+//! A run whose words, zone, day, input, files, sockets and outputs are those of the process.
 
 ghost use Rattle.command_line.specs.Answers.{Says};
 ghost use Rattle.refusals.specs.Errors.{memory_line, usage_line};
@@ -8,10 +8,12 @@ ghost use Rattle.std.specs.Prelude.{◌≡◌};
 use crate::clock::today;
 use crate::house::SocketHouse;
 use crate::streams::{Input, Output};
+use crate::zone::local_zone;
 use command_line::{Outside, Status, Streams, say};
 use desk_team::House;
-use hl_base::{Shelf, Sink, Source, Steps, Text};
+use hl_base::{Memory, Shelf, Sink, Source, Steps, Text};
 use hl_time::Day;
+use local_day::Zone;
 use query::{Maker, RegexMaker};
 use real_files::FileShelf;
 use serve_line::{Site, run_program};
@@ -27,7 +29,7 @@ use std::sync::ledger::{Blank, Ledger};
 use std::thread::Threads;
 use std::{env, io};
 
-/// Why there are no words.
+/// Why there are no words, or no zone.
 #[derive(Clone, Copy)]
 enum NoWords {
     /// One isn't UTF-8.
@@ -45,8 +47,14 @@ impl From<io::Error> for NoWords {
     }
 }
 
-/// Runs the program on the process's words and day, over these streams and the files and sockets of the operating system. Where
-/// there are no words nothing is read, and the line that says why is written.
+impl From<Memory> for NoWords {
+    fn from(_error: Memory) -> NoWords {
+        NoWords::Memory
+    }
+}
+
+/// Runs the program on the process's words and on today in its zone, over these streams and the files and sockets of the
+/// operating system. Where there are no words, or no zone, the input isn't read, and the line that says why is written.
 pub fn run_process<
     R: Env
         + Clock
@@ -60,8 +68,8 @@ pub fn run_process<
     O: Write + Drop,
     E: Write + Drop,
 >(rt: &R, input: I, output: O, errors: E) -> ExitCode {
-    match words(rt) {
-        Ok(words) => {
+    match begin(rt) {
+        Ok((words, zone)) => {
             let mut site = Site {
                 outside: Outside {
                     streams: Streams {
@@ -72,14 +80,14 @@ pub fn run_process<
                     shelf: FileShelf::new(rt),
                     maker: RegexMaker::new(),
                 },
-                house: SocketHouse::new(rt),
+                house: SocketHouse::new(rt, &zone),
             };
             let Status(status) = counted::<Brand, _, _, _, _, _, _, _>(
                 rt,
                 rt.alloc(),
                 Blank::new(3),
                 words.as_slice(),
-                today(rt),
+                today(rt, &zone),
                 &mut site,
             );
             ExitCode::from(status)
@@ -89,6 +97,13 @@ pub fn run_process<
             ExitCode::from(status)
         }
     }
+}
+
+/// The words after the program's name, and the zone in which its days are.
+fn begin<R: Env + Files + AllocGlobal>(rt: &R) -> Result<(Vec<Text>, Zone), NoWords> {
+    let words = words(rt)?;
+    let zone = local_zone(rt)?;
+    Ok((words, zone))
 }
 
 /// The words after the program's name.
@@ -102,8 +117,8 @@ fn words<R: Env + AllocGlobal>(rt: &R) -> Result<Vec<Text>, NoWords> {
     Ok(words)
 }
 
-/// Says why there are no words: one that isn't UTF-8 is a faulty command line, with status 2, and for want of memory it
-/// is 6. Where the line can't be written it is 4.
+/// Says why the program doesn't begin: a word that isn't UTF-8 is a faulty command line, with status 2, and for want of
+/// memory it is 6. Where the line can't be written it is 4.
 fn refuse<E: Sink>(err: &mut E, why: NoWords) -> Status
     ensures encoding { why ≡ NoWords.Encoding → Says result.0 2 usage_line
         (E.written err.old) (E.written err.new) (E.faults err.old) (E.faults err.new) }
