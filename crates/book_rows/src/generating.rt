@@ -1,11 +1,12 @@
 //! Texts with rules and the books that they make, worked out by hand. 2024-01-01 is day 738,886.
-use crate::entries::{amount, every, periodic, posting, times};
-use book::{AutoRule, Book, Cause, Item, Items, Mark, Placed, Side, Txn};
-use generated::{GenFault, assignments_stay, forecast, forecast_window, goals, with_auto};
+use crate::rules::{amount, every, periodic, posting, times};
+use book::{
+    AutoRule, Book, Item, Items, Mark, Placed, Side, Txn, copied_head, copied_posting, copied_txns,
+};
+use generated::{assignments_stay, forecast, goals, with_auto};
 use hl_base::{Kind, List, Memory, Piece, Text};
-use hl_time::{Day, Period, Span, Unit};
-use query::{ListMaker, RegexMaker};
-use rule_entries::{copied_posting, copied_txn, copied_txns};
+use hl_time::{Day, Span, Unit};
+use query::RegexMaker;
 use std::alloc::Global;
 use std::test::Fail;
 
@@ -16,7 +17,7 @@ const TODAY: Day = Day(739_052);
 fn auto(alloc: Global, word: &str, side: Side) -> Result<Items, Memory> {
     let mut words = Vec::new(alloc);
     words.push(Text::copied(alloc, word)?)?;
-    let mut made = times(alloc, -1, None)?;
+    let mut made = times(alloc, -1)?;
     made.posting.side = side;
     let mut postings = Vec::new(alloc);
     postings.push(made)?;
@@ -56,7 +57,7 @@ fn bread(alloc: Global) -> Result<Book, Memory> {
         tags: List::new(alloc),
         postings: List::new(alloc),
     };
-    let txn = copied_txn(alloc, &head, List::from_vec(postings))?;
+    let txn = copied_head(alloc, &head, List::from_vec(postings))?;
     let txns = copied_txns(alloc, std::slice::from_ref(&txn))?;
     Ok(Book {
         txns: List::from_vec(txns),
@@ -91,36 +92,6 @@ fn adds_behind_what_matches(rt: HostRuntime) -> Result<(), Fail> {
     Ok(())
 }
 
-/// Whether an automated rule of a word is refused for this reason, by a maker that refuses the pattern `f..d`.
-fn refuses(alloc: Global, word: &str, why: &str) -> Result<bool, Memory> {
-    let items = auto(alloc, word, Side::Real)?;
-    let book = bread(alloc)?;
-    let mut refused = Vec::new(alloc);
-    refused.push(Text::copied(alloc, "f..d")?)?;
-    let mut maker = ListMaker::new(List::from_vec(refused));
-    match with_auto(alloc, &items, &book, TODAY, &mut maker) {
-        Ok(_book) => Ok(false),
-        Err(GenFault::BadTerm { line }) => Ok(line == 3 && why == "term"),
-        Err(GenFault::PatternRefused { line }) => Ok(line == 3 && why == "pattern"),
-        Err(GenFault::TooMany { count: _, limit: _ }) => Ok(false),
-        Err(GenFault::Journal(fault)) => Ok(
-            fault.line == 9
-                && why == "balance"
-                && matches!(fault.cause, Cause::Unbalanced { symbol: _, sum: _ }),
-        ),
-        Err(GenFault::Memory) => Err(Memory),
-    }
-}
-
-#[test]
-fn refuses_rules(rt: HostRuntime) -> Result<(), Fail> {
-    let alloc = rt.alloc();
-    assert!(rt; refuses(alloc, "amt:x", "term")?);
-    assert!(rt; refuses(alloc, "f..d", "pattern")?);
-    assert!(rt; refuses(alloc, "food", "balance")?);
-    Ok(())
-}
-
 #[test]
 fn makes_what_is_to_come(rt: HostRuntime) -> Result<(), Fail> {
     let alloc = rt.alloc();
@@ -145,41 +116,5 @@ fn makes_what_is_to_come(rt: HostRuntime) -> Result<(), Fail> {
         Ok(made) => assert_eq!(rt; posted(&made, 0, 0, "expenses:food"), Some(400)),
         Err(_fault) => assert!(rt; false),
     }
-    let all = Span {
-        from: 1,
-        end: 3_652_060,
-    };
-    let told = goals(alloc, &items, all);
-    let many = matches!(
-        told,
-        Err(GenFault::TooMany {
-            count: 119_988,
-            limit: 100_000
-        })
-    );
-    assert!(rt; many);
-    Ok(())
-}
-
-#[test]
-fn looks_ahead(rt: HostRuntime) -> Result<(), Fail> {
-    let alloc = rt.alloc();
-    let open = Period {
-        from: None,
-        end: None,
-        interval: None,
-    };
-    let year = Period {
-        from: Some(738_886),
-        end: Some(739_252),
-        interval: None,
-    };
-    let book = bread(alloc)?;
-    let bare = forecast_window(open, open, &book, TODAY);
-    assert_eq!(rt; (bare.from, bare.end), (738_891, 739_232));
-    let given = forecast_window(open, year, &book, TODAY);
-    assert_eq!(rt; (given.from, given.end), (738_891, 739_252));
-    let asked = forecast_window(year, open, &book, TODAY);
-    assert_eq!(rt; (asked.from, asked.end), (738_886, 739_252));
     Ok(())
 }

@@ -1,8 +1,8 @@
 //! Transactions worked out by hand.
-use book::{Amount, Book, Mark, Posting, Side, Styles, Txn, Written};
+use crate::rules::{amount, posting};
+use book::{Book, Mark, Styles, Txn};
 use entry_reader::Context;
 use hl_base::{List, Text};
-use hl_num::Dec;
 use hl_time::Day;
 use journal_printer::{Detail, print_book, print_chosen, print_entry, print_txn};
 use std::alloc::Global;
@@ -11,31 +11,12 @@ use std::test::Fail;
 /// The number of 2024-01-05.
 const DAY: u32 = 738_890;
 
-fn euros(alloc: Global, mantissa: i128) -> Result<Amount, Fail> {
-    Ok(Amount {
-        symbol: Text::copied(alloc, "EUR")?,
-        value: Dec::new(mantissa, 0).ok_or("within bounds")?,
-        shape: Written {
-            left: false,
-            spaced: true,
-            mark: None,
-            group: None,
-            first: 3,
-            rest: 3,
-        },
-    })
-}
-
-fn posting(alloc: Global, account: &str, mantissa: i128) -> Result<Posting, Fail> {
-    let mut posting = Posting::plain(alloc, 2, Side::Real, Text::copied(alloc, account)?);
-    posting.amount = Some(euros(alloc, mantissa)?);
-    Ok(posting)
-}
-
 fn bread(alloc: Global, day: u32, quantity: u16) -> Result<Txn, Fail> {
     let mut postings = Vec::new(alloc);
-    postings.push(posting(alloc, "expenses:food", i128::from(quantity))?)?;
-    postings.push(posting(alloc, "assets:cash", -i128::from(quantity))?)?;
+    let paid = amount(alloc, i128::from(quantity), 0, "EUR")?;
+    postings.push(posting(alloc, "expenses:food", Some(paid))?)?;
+    let given = amount(alloc, -i128::from(quantity), 0, "EUR")?;
+    postings.push(posting(alloc, "assets:cash", Some(given))?)?;
     Ok(Txn {
         line: 1,
         day: Day(day),
