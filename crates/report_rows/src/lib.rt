@@ -1,7 +1,11 @@
-//! Rows of registers, listings and whole reports.
+//! Rows of words, of queries, and of whole reports.
 #![tactic(auto)]
 
 #[cfg(test)]
 mod commands;
 #[cfg(test)]
-mod listings;
+mod options;
+#[cfg(test)]
+mod queries;
+#[cfg(test)]
+mod terms;

@@ -1,7 +1,7 @@
 //! Words of reports, and what they read as; what words don't read is in tests/queries.
 use hl_base::Text;
 use hl_time::Day;
-use report_options::{Command, command_named, option_terms, read_options, read_program_options};
+use report_options::{Command, read_options};
 use std::alloc::Global;
 use std::test::Fail;
 
@@ -20,29 +20,11 @@ pub(crate) fn words_of(alloc: Global, line: &str) -> Result<Vec<Text>, Fail> {
 #[test]
 fn words_read_as_options(rt: HostRuntime) -> Result<(), Fail> {
     let alloc = rt.alloc();
-    assert!(rt; command_named("bal") == Some(Command::Balance));
     let words = words_of(alloc, "-b|This Month|-M|--depth=3|food")?;
     match read_options(alloc, Command::Balance, &words, TODAY) {
         Ok((options, query)) => {
             assert!(rt; options.bounds.from == Some(739_038));
             assert!(rt; options.depth == Some(3));
-            assert_eq!(rt; query.len(), 1);
-            let terms = option_terms(alloc, &options)?;
-            assert_eq!(rt; terms.len(), 1);
-        }
-        Err(_) => return Err(Fail::new("no options")),
-    }
-    Ok(())
-}
-
-#[test]
-fn words_name_a_journal(rt: HostRuntime) -> Result<(), Fail> {
-    let alloc = rt.alloc();
-    let words = words_of(alloc, "-f|a.journal|food")?;
-    match read_program_options(alloc, Command::Balance, &words, TODAY) {
-        Ok((given, _options, query)) => {
-            assert!(rt; given.file.is_some());
-            assert!(rt; given.store.is_none());
             assert_eq!(rt; query.len(), 1);
         }
         Err(_) => return Err(Fail::new("no options")),

@@ -53,7 +53,10 @@ fn depths_and_days_are_told(rt: HostRuntime) -> Result<(), Fail> {
 
 #[test]
 fn days_are_left_out(rt: HostRuntime) -> Result<(), Fail> {
-    let mut query = query_of(rt.alloc(), "food|date:2023|not:date:2024")?;
+    let mut query = query_of(
+        rt.alloc(),
+        "food|desc:^lu.ch$|not:cur:eur|date:2023|not:date:2024",
+    )?;
     let types = Types::new(rt.alloc(), &List::new(rt.alloc()))?;
     let txn = lunch(rt.alloc())?;
     let posting = food(rt.alloc())?;

@@ -1,5 +1,0 @@
-//! Rows of budgets.
-#![tactic(auto)]
-
-#[cfg(test)]
-mod budgets;

@@ -1,5 +1,0 @@
-use Rattle.std.proofs.Common.{lit<}
-use Rattle.layout_rows.proofs.layouts.months.Goals as goal
-
-pub returns : goal.returns
-returns c = lit< tt

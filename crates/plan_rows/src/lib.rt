@@ -1,5 +1,0 @@
-//! Rows of reports with what rules make, and of budgets.
-#![tactic(auto)]
-
-#[cfg(test)]
-mod plans;
