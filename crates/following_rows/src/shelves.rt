@@ -1,8 +1,8 @@
-//! A store that is fed, and replicas that follow what it fed.
+//! A store that is fed, and a replica that follows what it fed.
 
+use crate::stops::FED;
 use fed_histories::{fed_frames_are_genuine, fed_stores_are_followed};
 use follow_commands::Tally;
-use follower::FrameFault;
 use hl_base::{Bytes, List, MemShelf, MemSource, Memory, Text};
 use std::alloc::Global;
 use std::test::Fail;
@@ -14,13 +14,6 @@ use store_text::read_store;
 /// behind its gate, and a shut gate.
 const HOME: [u8; 141] =
     *b"HLSTORE\x02\0\0\x10\0\0\0\0\0\x01\0\0\0\0\0\0\0\0\0\0\0\0\0\0\0\x01C\x04\0\0\0\0\0\0\0\0\0\0\0\x01S\x54\0\0\0\0\0\0\0\0\0\0\0\0\0\0\0\0\0\0\0\0\0\0\x002024-01-05 bread\n    expenses:food  10 EUR\n    assets:cash  -10 EUR\n\0";
-
-/// Its frames: a `C` of 21 bytes and an `S` of 101.
-const FED: [u8; 122] =
-    *b"\0\0\0\0\0\0\0\0C\x04\0\0\0\0\0\0\0\0\0\0\0\x01\0\0\0\0\0\0\0S\x54\0\0\0\0\0\0\0\0\0\0\0\0\0\0\0\0\0\0\0\0\0\0\x002024-01-05 bread\n    expenses:food  10 EUR\n    assets:cash  -10 EUR\n";
-
-/// An `S` of revision 3 that changes nothing.
-const LATE: [u8; 33] = *b"\x03\0\0\0\0\0\0\0S\x10\0\0\0\0\0\0\0\0\0\0\0\0\0\0\0\0\0\0\0\0\0\0\0";
 
 // A shelf with that store.
 fn home(alloc: Global) -> Result<MemShelf, Memory> {
@@ -65,80 +58,18 @@ fn text(alloc: Global, shelf: &mut MemShelf) -> Result<Bytes, Fail> {
     }
 }
 
-// The same bytes twice.
-fn twice(alloc: Global, bytes: &[u8]) -> Result<Bytes, Memory> {
-    let mut both = Vec::new(alloc);
-    both.extend_from_slice(bytes)?;
-    both.extend_from_slice(bytes)?;
-    Ok(Bytes::from_vec(both))
-}
-
 #[test]
-fn a_store_is_fed_and_a_new_replica_follows(rt: HostRuntime) -> Result<(), Fail> {
+fn a_store_is_fed_and_a_replica_follows_twice(rt: HostRuntime) -> Result<(), Fail> {
     let mut shelf = home(rt.alloc())?;
     let frames = fed(rt.alloc(), &mut shelf)?;
     assert_eq!(rt; frames.as_slice(), FED.as_slice());
     let done = followed(rt.alloc(), &mut shelf, frames.as_slice())?;
     assert_eq!(rt; done, told(1, 2, 0, 0));
+    let again = followed(rt.alloc(), &mut shelf, frames.as_slice())?;
+    assert_eq!(rt; again, told(1, 0, 2, 0));
     let text = text(rt.alloc(), &mut shelf)?;
     assert_eq!(rt; text.as_slice(), &FED[54..]);
     fed_frames_are_genuine(frames.as_slice());
     fed_stores_are_followed::<MemSource, MemShelf, MemShelf>(frames.as_slice());
-    Ok(())
-}
-
-#[test]
-fn frames_that_come_again_are_old(rt: HostRuntime) -> Result<(), Fail> {
-    let mut shelf = home(rt.alloc())?;
-    let first = followed(rt.alloc(), &mut shelf, &FED)?;
-    assert_eq!(rt; first, told(1, 2, 0, 0));
-    let frames = twice(rt.alloc(), &FED)?;
-    let again = followed(rt.alloc(), &mut shelf, frames.as_slice())?;
-    assert_eq!(rt; again, told(1, 0, 4, 0));
-    let late = followed(rt.alloc(), &mut shelf, &LATE)?;
-    assert_eq!(rt; late, told(1, 0, 0, 1));
-    Ok(())
-}
-
-#[test]
-fn a_new_replica_needs_a_snapshot(rt: HostRuntime) -> Result<(), Fail> {
-    let mut shelf = home(rt.alloc())?;
-    let none = followed(rt.alloc(), &mut shelf, &FED[21..])?;
-    assert_eq!(rt; none, Err(FollowRefusal::NoSnapshot));
-    let cut = followed(rt.alloc(), &mut shelf, &FED[..20])?;
-    assert_eq!(rt;
-        cut,
-        Err(FollowRefusal::Unread(FrameFault::Cut { had: 20 }))
-    );
-    let done = followed(rt.alloc(), &mut shelf, &FED)?;
-    assert_eq!(rt; done, told(1, 2, 0, 0));
-    Ok(())
-}
-
-// What becomes of a front of the frames in a new replica: a whole number of frames is taken, and else the rest is cut.
-fn is_front_followed(alloc: Global, count: usize) -> Result<bool, Fail> {
-    if count > FED.len() {
-        return Ok(true);
-    }
-    let mut shelf = home(alloc)?;
-    let done = followed(alloc, &mut shelf, &FED[..count])?;
-    let wanted = match count {
-        0 => Err(FollowRefusal::NoSnapshot),
-        21 => told(0, 1, 0, 0),
-        122 => told(1, 2, 0, 0),
-        _ => {
-            let had = if count < 21 { count } else { count - 21 };
-            Err(FollowRefusal::Unread(FrameFault::Cut { had: had as u64 }))
-        }
-    };
-    Ok(done == wanted)
-}
-
-#[test]
-fn each_front_of_the_frames_is_followed_or_cut(rt: HostRuntime) -> Result<(), Fail> {
-    for count in 0..123 {
-        let is = is_front_followed(rt.alloc(), count)?;
-        assert!(rt; is);
-    }
     Ok(())
 }

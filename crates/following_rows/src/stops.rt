@@ -1,16 +1,33 @@
 //! A stop before and inside each call of a disk while a follower is made and takes a frame, and then an opening.
 ghost use Rattle.std.specs.Prelude.{◌<◌};
 
-use crate::feeds::{ENTRY, FED};
-use crate::follows::frame_of;
-use follower::{Accepted, FollowFault, Follower, Frame};
-use hl_base::{MemDisk, Memory};
+use follower::{
+    Accepted, FollowFault, Follower, Frame, crashes_show_one_image, genuine_frames_lead_on,
+    genuine_snapshots_begin, next_frame,
+};
+use hl_base::{MemDisk, MemSource, Memory};
 use std::alloc::Global;
 use std::test::Fail;
 use text_store::StoreFault;
 
+/// An entry of 68 bytes.
+const ENTRY: [u8; 68] = *b"2024-01-05 bread\n    expenses:food  10 EUR\n    assets:cash  -10 EUR\n";
+
+/// The frames of a store of the empty text to which the entry was added: a `C` of 21 bytes and an `S` of 101.
+pub(crate) const FED: [u8; 122] =
+    *b"\0\0\0\0\0\0\0\0C\x04\0\0\0\0\0\0\0\0\0\0\0\x01\0\0\0\0\0\0\0S\x54\0\0\0\0\0\0\0\0\0\0\0\0\0\0\0\0\0\0\0\0\0\0\x002024-01-05 bread\n    expenses:food  10 EUR\n    assets:cash  -10 EUR\n";
+
 /// How many bytes of a piece have reached the file: none, its first, parts and more than any piece has.
 const PARTS: [u64; 6] = [0, 1, 9, 20, 32, 200];
+
+// The frame with which bytes begin.
+fn frame_of(alloc: Global, bytes: &[u8]) -> Result<Frame, Fail> {
+    let mut source = MemSource::new(alloc, bytes, &[])?;
+    match next_frame(alloc, &mut source) {
+        Ok(Some(frame)) => Ok(frame),
+        _ => Err(Fail::new("a frame")),
+    }
+}
 
 // The files of a follower.
 #[derive(Drop)]
@@ -97,6 +114,9 @@ fn followed_stops(alloc: Global, in_second: bool) -> Result<(), Fail> {
 
 #[test]
 fn a_stop_at_a_call_leaves_one_of_the_images(rt: HostRuntime) -> Result<(), Fail> {
+    genuine_snapshots_begin();
+    genuine_frames_lead_on();
+    crashes_show_one_image::<MemDisk>();
     followed_stops(rt.alloc(), false)?;
     followed_stops(rt.alloc(), true)
 }
