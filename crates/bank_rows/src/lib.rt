@@ -1,13 +1,8 @@
-//! Bank files of many countries with their rules, and the entries that they become.
+//! A bank's file that is imported, imported again and imported with a further record, and what a file of rules holds; files
+//! of many countries are in tests/commands/banks.rows.
 #![tactic(auto)]
 
 #[cfg(test)]
-mod files;
-#[cfg(test)]
 mod imports;
 #[cfg(test)]
-mod records;
-#[cfg(test)]
 mod rules;
-#[cfg(test)]
-mod shown;

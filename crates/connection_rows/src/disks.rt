@@ -1,7 +1,7 @@
 //! Additions to a machine of which calls of a disk fail.
 use crate::ends::{at_once, is};
 use crate::messages::{ADD, ADDED};
-use crate::served::served;
+use crate::served::ended_of;
 use std::alloc::Global;
 use std::test::Fail;
 use web_desk::ConnEnd;
@@ -46,7 +46,7 @@ fn sent_after(alloc: Global, faults: usize) -> Result<Vec<u8>, Fail> {
 fn goes_on(alloc: Global, disk_fails: &[u64]) -> Result<bool, Fail> {
     let coming = coming_after(alloc, disk_fails.len())?;
     let sent = sent_after(alloc, disk_fails.len())?;
-    let ended = served(alloc, disk_fails, &at_once(coming.as_slice()))?;
+    let ended = ended_of(alloc, disk_fails, &at_once(coming.as_slice()))?;
     Ok(is(&ended, ConnEnd::Closed, sent.as_slice()))
 }
 

@@ -6,6 +6,6 @@ mod disks;
 #[cfg(test)]
 mod ends;
 #[cfg(test)]
-mod heads;
-pub mod messages;
-pub mod served;
+mod messages;
+#[cfg(test)]
+mod served;

@@ -68,42 +68,27 @@ fn serve<L: Ledger>(
     Ok(Ended { end, sent })
 }
 
-/// Serves a connection to a machine of its own, and then another to the same machine.
-fn both<L: Ledger>(
+/// Serves a connection to a machine of its own. These calls of its first disk fail.
+fn alone<L: Ledger>(
     alloc: Global,
     blank: Blank,
     disk_fails: &[u64],
-    first: &Connection,
-    second: &Connection,
-) -> Result<(Ended, Ended), Memory>
+    connection: &Connection,
+) -> Result<Ended, Memory>
     requires name { blank.name ≡ L.name }
     requires parts { blank.parts ≡ L.parts }
     requires three { blank.parts ≡ 3 }
 {
     let mut steps = Steps::<L>::start(blank);
     let mut desk = machine(alloc, disk_fails, &mut steps)?;
-    let one = serve(alloc, &mut desk, first, &mut steps)?;
-    let other = serve(alloc, &mut desk, second, &mut steps)?;
-    Ok((one, other))
+    serve(alloc, &mut desk, connection, &mut steps)
 }
 
-/// Two connections after one another to a machine that begins with the empty text. These calls of its first disk fail.
-pub fn served_both(
+/// The same, with counters of its own.
+pub fn ended_of(
     alloc: Global,
     disk_fails: &[u64],
-    first: &Connection,
-    second: &Connection,
-) -> Result<(Ended, Ended), Memory> {
-    both::<Brand>(alloc, Blank::new(3), disk_fails, first, second)
-}
-
-/// One connection to such a machine.
-pub fn served(alloc: Global, disk_fails: &[u64], connection: &Connection) -> Result<Ended, Memory> {
-    let none = Connection {
-        coming: &[],
-        most: 1,
-        fails: &[],
-    };
-    let (ended, _) = served_both(alloc, disk_fails, connection, &none)?;
-    Ok(ended)
+    connection: &Connection,
+) -> Result<Ended, Memory> {
+    alone::<Brand>(alloc, Blank::new(3), disk_fails, connection)
 }

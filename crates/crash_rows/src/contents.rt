@@ -126,11 +126,6 @@ impl Contents {
         })
     }
 
-    /// The bytes that a read gives.
-    pub fn as_slice(&self) -> &[u8] {
-        self.now.as_slice()
-    }
-
     /// How many calls were made.
     pub fn asked(&self) -> u64 {
         self.asked

@@ -1,9 +1,5 @@
-//! Rows of a journal that is kept open, and of its requests.
+//! Rows of what an open journal tells beside its text.
 #![tactic(auto)]
 
 #[cfg(test)]
-mod desks;
-#[cfg(test)]
-mod lives;
-#[cfg(test)]
-mod requests;
+mod cells;

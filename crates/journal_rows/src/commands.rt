@@ -53,10 +53,6 @@ const DELETED: &[u8] =
 const ADDED_AGAIN: &[u8] =
     b"HLSTORE\x02\xfa\0\0\0\0\0\0\0\x02\0\0\0\0\0\0\0\x02\0\0\0\0\0\0\0\x01C\x04\0\0\0\0\0\0\0\0\0\0\0\x01ST\0\0\0\0\0\0\0\0\0\0\0\0\0\0\0\0\0\0\0\0\0\0\x002024-01-05 bread\n    expenses:food  10 EUR\n    assets:cash  -10 EUR\n\0";
 
-/// A text of nine items at revision 5.
-const NINE: &[u8] =
-    b"HLSTORE\x02\0\0\x10\0\0\0\0\0\x01\0\0\0\0\0\0\0\x05\0\0\0\0\0\0\0\x01C^\0\0\0\0\0\0\0\0\0\0\0account a\naccount b\naccount c\naccount d\naccount e\naccount f\naccount g\naccount h\naccount i\n\0";
-
 /// A bank's rules.
 const RULES: &[u8] = b"fields date, description, x\namount %x EUR\naccount1 assets:bank\n";
 
@@ -67,40 +63,13 @@ const RECORDS: &[u8] =
 /// A request that deletes the first item at revision 1.
 const DELETE: &[u8] = b"POST /edit HTTP/1.1\r\nContent-Length: 19\r\n\r\nbase=1&item=1&text=";
 
-/// A request that adds the entry before the amount.
-const GIVE: &[u8] =
-    b"POST /add HTTP/1.1\r\nContent-Length: 82\r\n\r\nentry=2024-01-05+gift%0A++++assets%3Acash++30+EUR%0A++++income%3Agifts++-30+EUR%0A";
-
-/// A request for the balance.
-const GET_BALANCE: &[u8] = b"GET /balance HTTP/1.1\r\n\r\n";
-
 /// A request that imports the records and one more of their last day.
 const IMPORT: &[u8] =
     b"POST /import HTTP/1.1\r\nContent-Length: 253\r\n\r\nname=pay.csv&rules=fields+date%2C+description%2C+x%0Aamount+%25x+EUR%0Aaccount1+assets%3Abank%0A&csv=2024-03-01%2Crent%2C-500%0A2024-03-02%2Cshop%2C-20%0A2024-03-03%2Cpay%2C900%0A2024-03-05%2Cshop%2C-7%0A2024-03-05%2Ccafe%2C-3%0A2024-03-05%2Cbar%2C-4%0A";
 
-/// Edits at revisions that their senders saw, of an item that isn't there, and of what is no entry.
-const EDITS: &[u8] =
-    b"POST /upload?base=4 HTTP/1.1\r\n\r\nPOST /upload?base=9 HTTP/1.1\r\n\r\nPOST /upload?base=5 HTTP/1.1\r\nContent-Length: 90\r\n\r\naccount a\naccount b\naccount c\naccount d\naccount e\naccount f\naccount g\naccount h\naccount i\nPOST /edit HTTP/1.1\r\nContent-Length: 20\r\n\r\nbase=5&item=99&text=POST /add HTTP/1.1\r\nContent-Length: 17\r\n\r\nentry=alias+a%3Db";
-
-/// What is said of these at revision 5.
-const REFUSALS: &[u8] =
-    b"HTTP/1.1 409 Conflict\r\nContent-Type: text/plain; charset=utf-8\r\nX-Revision: 5\r\nContent-Length: 32\r\n\r\nerror: stale: base 4, current 5\nHTTP/1.1 400 Bad Request\r\nContent-Type: text/plain; charset=utf-8\r\nX-Revision: 5\r\nContent-Length: 35\r\n\r\nerror: bad base: base 9, current 5\nHTTP/1.1 200 OK\r\nContent-Type: text/plain; charset=utf-8\r\nX-Revision: 5\r\nContent-Length: 22\r\n\r\nunchanged, revision 5\nHTTP/1.1 400 Bad Request\r\nContent-Type: text/plain; charset=utf-8\r\nX-Revision: 5\r\nContent-Length: 23\r\n\r\nerror: no item 99 of 9\nHTTP/1.1 400 Bad Request\r\nContent-Type: text/plain; charset=utf-8\r\nX-Revision: 5\r\nContent-Length: 39\r\n\r\nerror: entry line 1: not a transaction\n";
-
-/// An edit that is there at revision 1.
-const DONE_1: &[u8] =
-    b"HTTP/1.1 200 OK\r\nContent-Type: text/plain; charset=utf-8\r\nX-Revision: 1\r\nContent-Length: 11\r\n\r\nrevision 1\n";
-
 /// An edit that is there at revision 2.
 const DONE_2: &[u8] =
     b"HTTP/1.1 200 OK\r\nContent-Type: text/plain; charset=utf-8\r\nX-Revision: 2\r\nContent-Length: 11\r\n\r\nrevision 2\n";
-
-/// A reply of the balance.
-const BALANCED: &[u8] =
-    b"HTTP/1.1 200 OK\r\nContent-Type: text/plain; charset=utf-8\r\nX-Revision: 0\r\nContent-Length: 113\r\n\r\n             100 EUR  assets:cash\n            -100 EUR  equity:start\n--------------------\n                   0  \n";
-
-/// An addition that isn't allowed.
-const FORBIDDEN: &[u8] =
-    b"HTTP/1.1 403 Forbidden\r\nContent-Type: text/plain; charset=utf-8\r\nX-Revision: 0\r\nContent-Length: 38\r\n\r\nerror: forbidden: need add, have view\n";
 
 /// A command and its input, and the status, the output and the error line that it has.
 #[derive(Clone, Copy)]
@@ -379,26 +348,6 @@ fn imports<W: Abort + Threads + Wait + Sync>(rt: &W, alloc: Global) -> Result<()
     holds(rt, alloc, &session)
 }
 
-// A connection is served a store or a file, as far as it is allowed.
-fn talks<W: Abort + Threads + Wait + Sync>(rt: &W, alloc: Global) -> Result<(), Fail> {
-    let before = [file_of("nine", NINE), file_of("set", SET)];
-    let commands = [
-        said(&["talk", "--store=nine", "--allow=edit"], EDITS, REFUSALS),
-        said(&["talk", "-f", "set"], GET_BALANCE, BALANCED),
-        said(&["talk", "-f", "set", "--allow=view"], GIVE, FORBIDDEN),
-        said(&["talk", "-f", "set", "--allow=add"], GIVE, DONE_1),
-        said(&["balance", "-f", "set"], b"", SET_BALANCE),
-    ];
-    let after = [file_of("nine", NINE)];
-    let session = Session {
-        before: &before,
-        fails: &[],
-        commands: &commands,
-        after: &after,
-    };
-    holds(rt, alloc, &session)
-}
-
 // An import of which a load or a take fails leaves the store as it was: the next one makes the first revision.
 fn import_fails<W: Abort + Threads + Wait + Sync>(
     rt: &W,
@@ -436,7 +385,6 @@ fn stores_are_made_and_edited(rt: HostRuntime) -> Result<(), Fail> {
 #[test]
 fn stores_are_imported_into_and_served(rt: HostRuntime) -> Result<(), Fail> {
     imports(&rt, rt.alloc())?;
-    talks(&rt, rt.alloc())?;
     for call in [1, 2, 3, 4] {
         import_fails(&rt, rt.alloc(), call)?;
     }

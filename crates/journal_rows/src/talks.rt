@@ -1,7 +1,7 @@
 //! Connections of `talk`: what must be sent for the bytes that come, however they come, and where a call fails.
 use crate::case::{Case, answer_beside, answer_in_cuts, nothing};
+use crate::messages::{ADDED, GET, LISTED, joined};
 use crate::runs::{case_of, expect};
-use connection_rows::messages::{ADDED, GET, LISTED, joined};
 use std::test::Fail;
 
 /// Both after one another.

@@ -34,7 +34,8 @@ impl<'a, R: Files<File = File>> FileShelf<'a, R> {
 
     // Counts a failed call under a name, and refuses it.
     fn refuse<T>(&mut self, alloc: Global, name: &Text) -> Result<T, ShelfFault>
-        ensures blame { HasBlame self.old.faults self.new.faults self.old.last_failed self.new.last_failed name.now result }
+        ensures blame { HasBlame self.old.faults self.new.faults self.old.last_failed
+            self.new.last_failed name.now result }
         ensures short { IfErr result NotTooLong }
         ensures refused { OnOk result ⊥ }
         ensures disk_faults { self.new.disk_faults ≡ self.old.disk_faults }

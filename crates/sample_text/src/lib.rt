@@ -3,8 +3,6 @@
 
 mod line;
 mod sample;
-#[cfg(test)]
-mod tests;
 
 pub use line::sample_line;
 pub use sample::{SAMPLE_LIMIT, sample_text};

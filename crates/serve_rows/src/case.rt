@@ -76,7 +76,8 @@ fn kit_of(door: MemDoor) -> MemKit
 /// A list of this kit.
 fn one_kit(alloc: Global, kit: MemKit) -> Result<List<MemKit>, Memory>
     requires { IsNew kit.door (⟦<RegexMaker as Maker>⟧.refusals kit.maker) }
-    ensures { IfOk result (All (λ kit. IsNew kit.door (⟦<RegexMaker as Maker>⟧.refusals kit.maker))) }
+    ensures { IfOk result (All (λ kit.
+        IsNew kit.door (⟦<RegexMaker as Maker>⟧.refusals kit.maker))) }
 {
     let mut kits = Vec::new(alloc);
     kits.push(kit)?;

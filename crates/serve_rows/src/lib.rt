@@ -1,6 +1,7 @@
 //! Rows of `serve` over memory: what only a public call can show.
 #![tactic(auto)]
 
-pub mod case;
+#[cfg(test)]
+mod case;
 #[cfg(test)]
 mod rows;

@@ -48,52 +48,41 @@ fn each_leaves(alloc: Global, case: &Case, in_second: bool) -> Result<(), Fail> 
     Ok(())
 }
 
-#[test]
-fn a_fault_in_create(rt: HostRuntime) -> Result<(), Fail> {
-    let case = Case {
+/// Each deed to files that it fits.
+const CASES: [Case; 4] = [
+    Case {
         first: b"",
         deed: Deed::Create,
         old: None,
         new: Some((0, b"b\n")),
-    };
-    each_leaves(rt.alloc(), &case, false)?;
-    each_leaves(rt.alloc(), &case, true)
-}
-
-#[test]
-fn a_fault_in_append(rt: HostRuntime) -> Result<(), Fail> {
-    let case = Case {
+    },
+    Case {
         first: &MADE,
         deed: Deed::Append,
         old: Some((0, b"")),
         new: Some((1, b"a\n")),
-    };
-    each_leaves(rt.alloc(), &case, false)?;
-    each_leaves(rt.alloc(), &case, true)
-}
-
-#[test]
-fn a_fault_in_checkpoint(rt: HostRuntime) -> Result<(), Fail> {
-    let case = Case {
+    },
+    Case {
         first: &MADE,
         deed: Deed::Keep(2),
         old: Some((0, b"")),
         new: Some((2, b"b\n")),
-    };
-    each_leaves(rt.alloc(), &case, false)?;
-    each_leaves(rt.alloc(), &case, true)
-}
-
-#[test]
-fn a_fault_in_the_opening_of_an_older_store(rt: HostRuntime) -> Result<(), Fail> {
-    let case = Case {
+    },
+    Case {
         first: b"HLSTORE\x01\0\0\x10\0\0\0\0\0\x01T\x02\0\0\0\0\0\0\0b\n\0",
         deed: Deed::Open,
         old: Some((0, b"b\n")),
         new: Some((0, b"b\n")),
-    };
-    each_leaves(rt.alloc(), &case, false)?;
-    each_leaves(rt.alloc(), &case, true)
+    },
+];
+
+#[test]
+fn a_fault_leaves_the_old_image_or_the_new(rt: HostRuntime) -> Result<(), Fail> {
+    for case in CASES {
+        each_leaves(rt.alloc(), &case, false)?;
+        each_leaves(rt.alloc(), &case, true)?;
+    }
+    Ok(())
 }
 
 // A fault at a call of a deed, one at a call of the repair after it, and then the deed again.

@@ -1,4 +1,4 @@
-//! Rows of what a store must do, byte for byte, and what a stop or a fault at each call of a disk leaves.
+//! What a stop or a fault at each call of a disk leaves of a store, and its size as it grows.
 #![tactic(auto)]
 
 #[cfg(test)]

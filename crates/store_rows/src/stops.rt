@@ -1,9 +1,8 @@
-//! A stop before and inside each call of a disk, and then an opening.
+//! A stop before and inside each call of a disk, and then an opening; those of other deeds are in `crash_rows`.
 ghost use Rattle.std.specs.Prelude.{◌<◌};
 
 use crate::files::{
-    Deed, Files, MADE, Shown, acknowledged, again, calls, failing, files_of, is_shown, stopped,
-    tried,
+    Deed, Files, MADE, Shown, acknowledged, again, files_of, is_shown, stopped, tried,
 };
 use std::alloc::Global;
 use std::test::Fail;
@@ -61,35 +60,6 @@ fn kept(alloc: Global) -> Result<Files, Fail> {
 }
 
 #[test]
-fn a_stop_in_create(rt: HostRuntime) -> Result<(), Fail> {
-    let empty = files_of(rt.alloc(), b"", b"")?;
-    let files = acknowledged(tried(rt.alloc(), empty, Deed::Create)?)?;
-    assert!(rt; files.first.calls() >= 10);
-    stops(rt.alloc(), &files, false, None, Some((0, b"b\n")))?;
-    stops(
-        rt.alloc(),
-        &files,
-        true,
-        Some((0, b"b\n")),
-        Some((0, b"b\n")),
-    )
-}
-
-#[test]
-fn a_stop_in_append(rt: HostRuntime) -> Result<(), Fail> {
-    let made = files_of(rt.alloc(), &MADE, b"")?;
-    let files = acknowledged(tried(rt.alloc(), made, Deed::Append)?)?;
-    stops(rt.alloc(), &files, false, Some((0, b"")), Some((1, b"a\n")))
-}
-
-#[test]
-fn a_stop_in_checkpoint(rt: HostRuntime) -> Result<(), Fail> {
-    let files = kept(rt.alloc())?;
-    assert!(rt; files.second.calls() >= 10);
-    stops(rt.alloc(), &files, true, Some((0, b"")), Some((2, b"b\n")))
-}
-
-#[test]
 fn a_stop_in_the_checkpoint_back(rt: HostRuntime) -> Result<(), Fail> {
     let kept = again(rt.alloc(), &kept(rt.alloc())?)?;
     let files = acknowledged(tried(rt.alloc(), kept, Deed::Keep(7))?)?;
@@ -115,52 +85,6 @@ fn a_stop_in_append_to_the_second_file(rt: HostRuntime) -> Result<(), Fail> {
     )
 }
 
-// A fault at a call of a deed to a new store, and a repair: stopped at any call the files have the one image or the
-// other, and the old one once they are repaired.
-fn stops_in_repair(
-    alloc: Global,
-    in_second: bool,
-    deed: Deed,
-    call: u64,
-    new: Shown,
-) -> Result<(), Fail> {
-    let files = failing(alloc, &MADE, b"", in_second, &[call])?;
-    let (acknowledged, files) = tried(alloc, files, deed)?;
-    if acknowledged {
-        return Err(Fail::new("the fault is told"));
-    }
-    stops(alloc, &files, in_second, new, Some((0, b"")))
-}
-
-// The same for each call of the deed behind those of the opening.
-fn stops_in_repairs(
-    alloc: Global,
-    in_second: bool,
-    deed: Deed,
-    count: u64,
-    new: Shown,
-) -> Result<(), Fail> {
-    let opening = calls(alloc, in_second, Deed::Open)?;
-    let all = calls(alloc, in_second, deed)?;
-    if all != opening.saturating_add(count) {
-        return Err(Fail::new("the deed has so many calls"));
-    }
-    for before in opening..all {
-        stops_in_repair(alloc, in_second, deed, before.saturating_add(1), new)?;
-    }
-    Ok(())
-}
-
-#[test]
-fn a_stop_in_the_repair_of_an_append(rt: HostRuntime) -> Result<(), Fail> {
-    stops_in_repairs(rt.alloc(), false, Deed::Append, 4, Some((1, b"a\n")))
-}
-
-#[test]
-fn a_stop_in_the_repair_of_a_checkpoint(rt: HostRuntime) -> Result<(), Fail> {
-    stops_in_repairs(rt.alloc(), true, Deed::Keep(2), 8, Some((2, b"b\n")))
-}
-
 // Stopped at any call of an opening, the files have the image.
 fn stops_in_open(alloc: Global, first: &[u8], in_second: bool, image: Shown) -> Result<(), Fail> {
     let found = files_of(alloc, first, b"")?;
@@ -174,10 +98,4 @@ fn a_stop_in_open(rt: HostRuntime) -> Result<(), Fail> {
         b"HLSTORE\x02\0\0\x10\0\0\0\0\0\x01\0\0\0\0\0\0\0\0\0\0\0\0\0\0\0\x01C\x04\0\0\0\0\0\0\0\0\0\0\0\x01S\x12\0\0".as_slice();
     stops_in_open(rt.alloc(), torn, false, Some((0, b"")))?;
     stops_in_open(rt.alloc(), &MADE, false, Some((0, b"")))
-}
-
-#[test]
-fn a_stop_in_the_opening_of_an_older_store(rt: HostRuntime) -> Result<(), Fail> {
-    let older = b"HLSTORE\x01\0\0\x10\0\0\0\0\0\x01T\x02\0\0\0\0\0\0\0b\n\0".as_slice();
-    stops_in_open(rt.alloc(), older, true, Some((0, b"b\n")))
 }

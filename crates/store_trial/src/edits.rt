@@ -50,7 +50,9 @@ fn line(alloc: Global, revision: u64) -> Result<Vec<u8>, Memory> {
 // A text after an edit.
 fn edited(alloc: Global, text: &[u8], part: &Part, line: &[u8]) -> Result<Vec<u8>, Memory>
     requires { part.now.at + part.now.removed ≤ length text.now }
-    ensures { IfOk result (λ new. new.items ≡ take part.now.at text.now ++ line.now ++ drop (part.now.at + part.now.removed) text.now) }
+    ensures { IfOk result (λ new.
+        new.items ≡ take part.now.at text.now ++ line.now
+        ++ drop (part.now.at + part.now.removed) text.now) }
 {
     let (front, rest) = text.split_at(part.at);
     let (_, back) = rest.split_at(part.removed);

@@ -2,8 +2,6 @@
 #![tactic(auto)]
 
 mod laws;
-#[cfg(test)]
-mod tests;
 
 pub use laws::{
     command_loads, hours_load, hours_own, plain_loads, plain_reads, timeclock_plain, timedot_plain,

@@ -1,7 +1,0 @@
-use super::*;
-
-#[test]
-fn the_laws_hold() {
-    samples_load();
-    samples_tell();
-}
