@@ -1,4 +1,0 @@
-use Rattle.team_rows.proofs.kits.begun.Given as goal
-
-abbrev pub ghosts-machine : goal.ghosts-machine
-ghosts-machine a = record { name = a.blank.name; parts = a.blank.parts }
