@@ -4,7 +4,7 @@ use Rattle.httparse.specs.Grammar.{RequestHead, print_request, ReadsRequest}
 use Rattle.web_messages.specs.declared.head.Head.{Head}
 use Rattle.web_messages.specs.declared.head.Judged.{Judged}
 use Rattle.web_messages.specs.declared.head.Judged.TheVariants.{Whole, Long, Bad, Open}
-use Rattle.web_messages.specs.Routes.{route_of, path_of, query_of}
+use Rattle.web_messages.specs.Routes.{route_to, query_of}
 use Rattle.web_messages.specs.Fields.{fields_of, body_length, closes}
 use Rattle.web_messages.specs.Streams.{IsBad, IsOpen, most_fields}
 
@@ -12,7 +12,7 @@ use Rattle.web_messages.specs.Streams.{IsBad, IsOpen, most_fields}
 abbrev pub facts_of : RequestHead → Head
 facts_of h = record {
   length = length (print_request h);
-  route = route_of h.method (path_of h.target);
+  route = route_to h;
   query = query_of h.target;
   said = body_length (fields_of h);
   closing = closes h;

@@ -1,6 +1,7 @@
 pub mod Fields
 pub mod Forms
 pub mod Heads
+pub mod Origins
 pub mod Paths
 pub mod ReadCounts
 pub mod Receipt

@@ -1,5 +1,5 @@
 -- Where the method and the target of a head lead.
-use Rattle.std.specs.Prelude.{ℕ, List, ◌==◌, Option, Some, None, if◌then◌else◌, codes}
+use Rattle.std.specs.Prelude.{ℕ, Bool, true, false, List, ◌==◌, Option, Some, None, if◌then◌else◌, codes}
 use Rattle.std.specs.List.{before_first, after_first}
 use Rattle.std.specs.Str.{bytes_eq}
 use Rattle.web_messages.specs.declared.refusal.Refusal.{Refusal}
@@ -8,6 +8,9 @@ use Rattle.web_messages.specs.declared.resource.Resource.{Resource}
 use Rattle.web_messages.specs.declared.resource.Resource.TheVariants as resource
 use Rattle.web_messages.specs.declared.route.Route.{Route}
 use Rattle.web_messages.specs.declared.route.Route.TheVariants as route
+use Rattle.httparse.specs.Grammar.{RequestHead}
+use Rattle.web_messages.specs.Fields.{fields_of}
+use Rattle.web_messages.specs.Origins.{is_cross_origin}
 use Rattle.web_messages.specs.Paths.{resource_at}
 
 -- a target is a path and, after the first question mark, a query
@@ -34,3 +37,19 @@ route_at method (Some resource.Import) = by_method method (codes "POST") route.I
 -- where a method and a path lead
 abbrev pub route_of : List ℕ → List ℕ → Route
 route_of method path = route_at method (resource_at path)
+
+-- where a cross-origin request leads: one that reads is answered, one that posts is refused
+abbrev pub from_elsewhere : Route → Route
+from_elsewhere route.Add = route.Refused refusal.Origin
+from_elsewhere route.Edit = route.Refused refusal.Origin
+from_elsewhere route.Upload = route.Refused refusal.Origin
+from_elsewhere route.Import = route.Refused refusal.Origin
+from_elsewhere other = other
+
+abbrev pub route_from : Bool → Route → Route
+route_from true found = from_elsewhere found
+route_from false found = found
+
+-- where a head leads
+abbrev pub route_to : RequestHead → Route
+route_to h = route_from (is_cross_origin (fields_of h)) (route_of h.method (path_of h.target))

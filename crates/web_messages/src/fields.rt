@@ -12,7 +12,7 @@ use httparse::spans::HeaderSpan;
 use std::alloc::Global;
 
 /// Whether a text is this word, which is in lower case, in whatever case.
-fn is_same_word(text: &[u8], word: &[u8]) -> bool
+pub(crate) fn is_same_word(text: &[u8], word: &[u8]) -> bool
     requires { map to_ascii_lowercase word.now ≡ word.now }
     ensures { result ≡ is_word word.now text.now }
 {
@@ -20,7 +20,7 @@ fn is_same_word(text: &[u8], word: &[u8]) -> bool
 }
 
 /// The values of the fields of a name, in order. The name is in lower case.
-fn values<'b>(
+pub(crate) fn values<'b>(
     alloc: Global,
     head: &'b [u8],
     spans: &[HeaderSpan],

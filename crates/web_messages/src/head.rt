@@ -6,8 +6,9 @@ ghost use Rattle.web_messages.specs.Heads.{facts_of, JudgedSo};
 ghost use Rattle.web_messages.specs.Streams.{most_head, most_fields};
 
 use crate::fields::{length_of_body, says_to_close};
+use crate::origin::is_cross_origin;
 use crate::paths::Paths;
-use crate::route::{Route, find_route, split_target};
+use crate::route::{Route, find_route, route_from, split_target};
 use crate::target::is_inside_target;
 use hl_base::{Bytes, Memory};
 use httparse::spans::{EMPTY_HEADER_SPAN, HeaderSpan, RequestSpans, parse_request};
@@ -22,7 +23,7 @@ const MOST_FIELDS: usize = 64;
 pub struct Head {
     /// How many bytes the head has.
     pub length: usize,
-    /// Where its method and its path lead.
+    /// Where its method and its path lead, unless a page of another site posts it.
     pub route: Route,
     /// The query of its target.
     pub query: Bytes,
@@ -61,9 +62,10 @@ fn head_at(
     let (path, query) = split_target(found.path.of(bytes));
     let said = length_of_body(alloc, bytes, fields)?;
     let closing = says_to_close(alloc, bytes, fields)?;
+    let cross = is_cross_origin(alloc, bytes, fields)?;
     Ok(Head {
         length: found.len,
-        route: find_route(paths, found.method.of(bytes), path),
+        route: route_from(cross, find_route(paths, found.method.of(bytes), path)),
         query: Bytes::copied(alloc, query)?,
         said,
         closing: found.version == 0 || closing,

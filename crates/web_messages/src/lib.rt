@@ -7,6 +7,7 @@ mod fields;
 pub mod form;
 pub mod head;
 pub mod incoming;
+mod origin;
 pub mod paths;
 mod reading;
 pub mod receive;

@@ -13,6 +13,8 @@ pub enum Refusal {
     GetOnly,
     /// The path has the method POST alone.
     PostOnly,
+    /// A page of another site posts it.
+    Origin,
     /// A head past a limit.
     Head,
     /// A body past a limit.

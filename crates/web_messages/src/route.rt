@@ -1,6 +1,6 @@
 //! Where the method and the target of a head lead.
 ghost use Rattle.std.specs.Prelude.{◌≡◌};
-ghost use Rattle.web_messages.specs.Routes.{path_of, query_of, by_method, route_of};
+ghost use Rattle.web_messages.specs.Routes.{path_of, query_of, by_method, route_of, from_elsewhere, route_from};
 
 use crate::paths::Paths;
 use crate::refusal::Refusal;
@@ -70,5 +70,26 @@ pub fn find_route(paths: &Paths, method: &[u8], path: &[u8]) -> Route
         Some(Resource::Upload) => by_one_method(method, b"POST", Route::Upload, Refusal::PostOnly),
         Some(Resource::Import) => by_one_method(method, b"POST", Route::Import, Refusal::PostOnly),
         None => Route::Refused(Refusal::Path),
+    }
+}
+
+/// Where a cross-origin request leads: one that reads is answered, one that posts is refused.
+fn from_elsewhere(route: Route) -> Route
+    ensures { result ≡ from_elsewhere route }
+{
+    match route {
+        Route::Add | Route::Edit | Route::Upload | Route::Import => Route::Refused(Refusal::Origin),
+        other => other,
+    }
+}
+
+/// Where a request leads, by where its method and its path do, and by whether it is cross-origin.
+pub fn route_from(is_cross_origin: bool, route: Route) -> Route
+    ensures { result ≡ route_from is_cross_origin route }
+{
+    if is_cross_origin {
+        from_elsewhere(route)
+    } else {
+        route
     }
 }
