@@ -1,4 +1,5 @@
 pub mod AnswerLemmas
+pub mod CallLemmas
 pub mod CourseLemmas
 pub mod FewEntries
 pub mod MakerLemmas

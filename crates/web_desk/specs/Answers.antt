@@ -68,6 +68,7 @@ refusal_status refusal.Message = 400
 refusal_status refusal.Path = 404
 refusal_status refusal.GetOnly = 405
 refusal_status refusal.PostOnly = 405
+refusal_status refusal.Origin = 403
 refusal_status refusal.Head = 431
 refusal_status refusal.Body = 413
 
@@ -77,6 +78,7 @@ refusal_line refusal.Message = ended (codes "error: message")
 refusal_line refusal.Path = ended (codes "error: path")
 refusal_line refusal.GetOnly = ended (codes "error: method")
 refusal_line refusal.PostOnly = ended (codes "error: method")
+refusal_line refusal.Origin = ended (codes "error: origin")
 refusal_line refusal.Head = ended (codes "error: head")
 refusal_line refusal.Body = ended (codes "error: body")
 
@@ -86,6 +88,7 @@ allow_field refusal.Message = []
 allow_field refusal.Path = []
 allow_field refusal.GetOnly = codes "Allow: GET\r\n"
 allow_field refusal.PostOnly = codes "Allow: POST\r\n"
+allow_field refusal.Origin = []
 allow_field refusal.Head = []
 allow_field refusal.Body = []
 

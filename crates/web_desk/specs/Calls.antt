@@ -12,7 +12,7 @@ use Rattle.web_messages.specs.declared.route.Route.{Route}
 use Rattle.web_messages.specs.declared.route.Route.TheVariants as route
 use Rattle.web_desk.specs.Edits.{edit_of, import_of}
 use Rattle.web_messages.specs.Forms.{parameters_of, number_in, only_value, all_values}
-use Rattle.web_messages.specs.Routes.{route_of, path_of, query_of}
+use Rattle.web_messages.specs.Routes.{route_to, query_of}
 
 -- the parameters were as they have to be, or the form is refused
 abbrev pub formed : {X : Type 0} → Option X → (X → Request) → Result Request Refusal
@@ -51,4 +51,15 @@ call_at route.Import query body = if_none (parameters_of query) (import_of (para
 call_at (route.Refused refused) query body = Err refused
 
 abbrev pub call_of : RequestHead → List ℕ → Result Request Refusal
-call_of h body = call_at (route_of h.method (path_of h.target)) (query_of h.target) body
+call_of h body = call_at (route_to h) (query_of h.target) body
+
+-- the request reads the journal, and changes nothing
+abbrev pub IsReading : Request → Type 0
+IsReading (Report words) = Unit {0}
+IsReading Download = Unit {0}
+IsReading other = ⊥
+
+-- what is asked, if anything is, is to read
+abbrev pub OnlyReads : Result Request Refusal → Type 0
+OnlyReads (Ok request) = IsReading request
+OnlyReads (Err refused) = Unit {0}

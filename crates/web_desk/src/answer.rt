@@ -125,6 +125,7 @@ fn refusal_code(refusal: Refusal) -> StatusCode
         Refusal::Form | Refusal::Message => StatusCode::BAD_REQUEST,
         Refusal::Path => StatusCode::NOT_FOUND,
         Refusal::GetOnly | Refusal::PostOnly => StatusCode::METHOD_NOT_ALLOWED,
+        Refusal::Origin => StatusCode::FORBIDDEN,
         Refusal::Head => StatusCode::REQUEST_HEADER_FIELDS_TOO_LARGE,
         Refusal::Body => StatusCode::PAYLOAD_TOO_LARGE,
     }
@@ -139,6 +140,7 @@ fn refusal_text(refusal: Refusal) -> &'static str
         Refusal::Message => "error: message\n",
         Refusal::Path => "error: path\n",
         Refusal::GetOnly | Refusal::PostOnly => "error: method\n",
+        Refusal::Origin => "error: origin\n",
         Refusal::Head => "error: head\n",
         Refusal::Body => "error: body\n",
     }

@@ -1,9 +1,13 @@
-//! The law that a connection follows the messages of its stream.
-ghost use Rattle.std.specs.Prelude.{ℕ, List};
+//! The laws that a connection follows the messages of its stream, and that pages of other sites only read.
+ghost use Rattle.std.specs.Prelude.{◌≡◌, ℕ, List, true};
 ghost use Rattle.desk.specs.Entries.{Entry};
 ghost use Rattle.web_desk.specs.declared.conn_end.ConnEnd.{ConnEnd};
 ghost use Rattle.web_desk.specs.Courses.{FollowsCourse};
-ghost use Rattle.web_desk.specs.Served.{Served};
+ghost use Rattle.web_desk.specs.Calls.{OnlyReads};
+ghost use Rattle.web_desk.specs.Served.{Served, asks};
+ghost use Rattle.web_messages.specs.Fields.{fields_of};
+ghost use Rattle.web_messages.specs.Origins.{is_cross_origin};
+ghost use Rattle.web_messages.specs.Streams.{Message};
 
 /// A connection followed the one reading of its stream, however its link cut the bytes into reads. Where it came to the
 /// end of the stream, its end is the one of that reading, its entries are of the requests that the messages ask, in
@@ -12,4 +16,10 @@ ghost use Rattle.web_desk.specs.Served.{Served};
 pub fn one_course()
     ensures { (bytes : List ℕ) (end : ConnEnd) (entries : List Entry) (text : List ℕ)
         → Served bytes end entries text → FollowsCourse bytes end entries text }
+{}
+
+/// A cross-origin request asks for no edit: what a page of another site sends reads the journal, or is refused. It does
+/// nothing; its contract is the law.
+pub fn other_sites_only_read()
+    ensures { (m : Message) → is_cross_origin (fields_of m.head) ≡ true → OnlyReads (asks m) }
 {}
