@@ -117,7 +117,7 @@ memory_complete day status old error faults (Ok (task.Over given)) h = λ none q
 memory_complete day status old error faults (Ok (task.Stored what)) h = stored_memory day status old error faults what h
 memory_complete day status old error faults (Ok (task.Talk what)) h = λ none loads bytes is whole. memory_done status old error faults h none
 memory_complete day status old error faults (Ok (task.Sample count)) h = λ none loads. memory_done status old error faults h none
-memory_complete day status old error faults (Ok task.Help) h = λ none. memory_done status old error faults h none
+memory_complete day status old error faults (Ok (task.Help subject)) h = λ none. memory_done status old error faults h none
 memory_complete day status old error faults (Ok task.Version) h = λ none. memory_done status old error faults h none
 memory_complete day status old error faults (Err fault) h = tt
 

@@ -17,7 +17,7 @@ use Rattle.command_line.specs.Answers.{Says, Wrote, WrotePrefix, status_of, line
 use Rattle.command_words.specs.Commands.{usage_of}
 use Rattle.command_words.specs.Usage.{usage_cause}
 use Rattle.refusals.specs.Errors.{memory_line}
-use Rattle.command_line.specs.Help.{help_text, version_text}
+use Rattle.command_line.specs.Help.{help_of, version_text}
 use Rattle.refusals.specs.Outcomes.{Judged}
 use Rattle.command_line.specs.Runs.{AnswersText, Prints, RefusesWords, Runs, RunsSoundly}
 use Rattle.command_line.specs.Scenes.{FilesStay, OtherStays, Scene, Soundness, judged_in}
@@ -111,7 +111,7 @@ memory_runs words day status old error faults (Ok (task.Over given)) h =
 memory_runs words day status old error faults (Ok (task.Stored what)) h = λ e. no_other status old error faults 2 (six_or_four status old error faults h) e (λ x. omega arith) (λ x. omega arith)
 memory_runs words day status old error faults (Ok (task.Talk what)) h = λ e. no_other status old error faults 2 (six_or_four status old error faults h) e (λ x. omega arith) (λ x. omega arith)
 memory_runs words day status old error faults (Ok (task.Sample count)) h = λ e. no_other status old error faults 2 (six_or_four status old error faults h) e (λ x. omega arith) (λ x. omega arith)
-memory_runs words day status old error faults (Ok task.Help) h = memory_prints help_text status old error faults h
+memory_runs words day status old error faults (Ok (task.Help subject)) h = memory_prints (help_of subject) status old error faults h
 memory_runs words day status old error faults (Ok task.Version) h = memory_prints version_text status old error faults h
 memory_runs words day status old error faults (Err fault) h =
     record { said = inr h; unread = (refl, refl); files = λ name. refl; unwritten = refl; maker = unasked old.refusals old.last_refused }
@@ -155,7 +155,7 @@ memory_sound words day status old error faults sound (Ok (task.Over given)) h ow
 memory_sound words day status old error faults sound (Ok (task.Stored what)) h own = tt
 memory_sound words day status old error faults sound (Ok (task.Talk what)) h own = tt
 memory_sound words day status old error faults sound (Ok (task.Sample count)) h own = tt
-memory_sound words day status old error faults sound (Ok task.Help) h own = λ room line e. not_same status 6 4 (own line) e (λ x. omega arith)
+memory_sound words day status old error faults sound (Ok (task.Help subject)) h own = λ room line e. not_same status 6 4 (own line) e (λ x. omega arith)
 memory_sound words day status old error faults sound (Ok task.Version) h own = λ room line e. not_same status 6 4 (own line) e (λ x. omega arith)
 memory_sound words day status old error faults sound (Err fault) h own = λ usage line e. not_same status 6 4 (own line) e (λ x. omega arith)
 

@@ -285,7 +285,7 @@ module _ {J O E S D M : Type 0} (j : Inputs J) (o : Outputs O) (e : Outputs E) (
     soundly = own;
     stays = (refl, refl, refl);
   }
-  memory_stores (Ok task.Help) h own = tt
+  memory_stores (Ok (task.Help subject)) h own = tt
   memory_stores (Ok task.Version) h own = tt
   memory_stores (Err fault) h own = tt
 

@@ -100,7 +100,7 @@ CompletesTask day status old new (task.Over given) = CompletesText given day sta
 CompletesTask day status old new (task.Stored what) = CompletesStored what day status old new
 CompletesTask day status old new (task.Talk what) = CompletesTalk what status old new
 CompletesTask day status old new (task.Sample count) = CompletesSample count status old new
-CompletesTask day status old new task.Help = NoneRose old new → IsDone status
+CompletesTask day status old new (task.Help subject) = NoneRose old new → IsDone status
 CompletesTask day status old new task.Version = NoneRose old new → IsDone status
 
 abbrev pub Completes : ℕ → ℕ → Scene → Scene → Result Task UsageFault → Type 0

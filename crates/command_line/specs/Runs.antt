@@ -14,7 +14,7 @@ use Rattle.command_words.specs.declared.task.Task.TheVariants as task
 use Rattle.command_words.specs.declared.usage.UsageFault.{UsageFault}
 use Rattle.command_line.specs.Answers.{FindsText, IsErrorLine, IsNamed, IsOfAnswer, IsOfSource, IsStore, IsTextStatus, Says, Wrote, WrotePrefix}
 use Rattle.command_words.specs.Commands.{usage_of}
-use Rattle.command_line.specs.Help.{help_text, version_text}
+use Rattle.command_line.specs.Help.{help_of, version_text}
 use Rattle.command_line.specs.Scenes.{FilesStay, IsReadWhole, MayRefuseIn, OtherStays, OutputsStay, RefusedIn, Scene, Soundness, SourceIsSound, SourceRose, TellsIn, judged_in, telling, text_in}
 
 -- A text was read from the input, a file or a store, or why not.
@@ -119,7 +119,7 @@ RunsTask day status old new (task.Over given) = RunsText given day status old ne
 RunsTask day status old new (task.Stored what) = status ≢ 2
 RunsTask day status old new (task.Talk what) = status ≢ 2
 RunsTask day status old new (task.Sample count) = status ≢ 2
-RunsTask day status old new task.Help = Prints help_text status old new
+RunsTask day status old new (task.Help subject) = Prints (help_of subject) status old new
 RunsTask day status old new task.Version = Prints version_text status old new
 
 -- What a run does with its words on a day.
@@ -139,7 +139,7 @@ TaskSoundly day status old sound (task.Over given) = TextSoundly given day statu
 TaskSoundly day status old sound (task.Stored what) = Unit {0}
 TaskSoundly day status old sound (task.Talk what) = Unit {0}
 TaskSoundly day status old sound (task.Sample count) = Unit {0}
-TaskSoundly day status old sound task.Help = sound.output (length help_text) → sound.error (length memory_line) → status ≢ 4
+TaskSoundly day status old sound (task.Help subject) = sound.output (length (help_of subject)) → sound.error (length memory_line) → status ≢ 4
 TaskSoundly day status old sound task.Version = sound.output (length version_text) → sound.error (length memory_line) → status ≢ 4
 
 -- and of words without a reading no write, if there is room for their line

@@ -17,7 +17,7 @@ ghost use Rattle.command_line.specs.Talks.{RunsTalk};
 ghost use Rattle.command_line.specs.Tasks.{Stores, StoresTask};
 
 use crate::answering::answer;
-use crate::help::{help_text, version_text};
+use crate::help::{help_of, version_text};
 use crate::outside::Outside;
 use crate::sample::answer_sample;
 use crate::store_tasks::answer_stored;
@@ -221,10 +221,10 @@ fn run_task<J: Source, O: Sink, E: Sink, S: Shelf, M: Maker, R: Threads + Sync, 
         Task::Stored(what) => run_stored(alloc, what, day, outside, steps),
         Task::Talk(_) => unreachable!(),
         Task::Sample(count) => run_sample(rt, alloc, count, outside, steps),
-        Task::Help => finish(
+        Task::Help(subject) => finish(
             &mut outside.streams.output,
             &mut outside.err,
-            help_text().as_bytes(),
+            help_of(subject).as_bytes(),
         ),
         Task::Version => finish(
             &mut outside.streams.output,

@@ -9,7 +9,8 @@ use Rattle.report_commands.specs.declared.asked.Asked.{Asked}
 use Rattle.report_commands.specs.declared.fault.WordsFault.{WordsFault}
 use Rattle.plan_commands.specs.Commands.{given_of}
 use Rattle.command_words.specs.Chores.{chore_named}
-use Rattle.command_words.specs.Commands.{chore_or_report, close_task, into_or_default, report_task, strict_task, task_by, task_from, task_named, task_of, task_or_text, task_over, words_or_default, origin_of}
+use Rattle.command_words.specs.Commands.{chore_or_report, close_task, into_or_default, report_task, strict_task, task_by, task_from, task_of, task_over, words_or_default, origin_of}
+use Rattle.command_words.specs.HelpWords.{help_on, help_task, subject_named}
 use Rattle.command_words.specs.Limits.{most_entries, number_in}
 use Rattle.command_words.specs.Said.{said_by}
 use Rattle.command_words.specs.StoreWords.{adding_of, export_of, feeding_of, following_of, import_of, import_task, making_of, plain_name}
@@ -18,6 +19,7 @@ use Rattle.command_words.specs.declared.chores.Chore.{Chore}
 use Rattle.command_words.specs.declared.chores.Chore.TheVariants as chores
 use Rattle.command_words.specs.declared.said.Said.{Said}
 use Rattle.command_words.specs.declared.task.Origin.{Origin}
+use Rattle.command_words.specs.declared.task.Subject.{Subject}
 use Rattle.command_words.specs.declared.task.Task.{Task}
 use Rattle.command_words.specs.declared.task.Task.TheVariants as task
 use Rattle.command_words.specs.declared.usage.UsageFault.{UsageFault}
@@ -132,9 +134,17 @@ plain_chore (Some chore) day word words h = plain_by chore (said_by chore words)
 plain_chore None day word words h = plain_report (given_of day (word ∷ words))
 
 -- help and the version are no connection
+plain_on : (word : List ℕ) (subject : Option Subject) (words : List (List ℕ)) → IsPlainRead (help_on word subject words)
+plain_on word (Some subject) words = plain_alone (task.Help subject) words tt
+plain_on word None words = tt
+
+plain_help : (words : List (List ℕ)) → IsPlainRead (help_task words)
+plain_help [] = tt
+plain_help (word ∷ words) = plain_on word (subject_named word) words
+
 plain_text : (help version : Bool) (day : ℕ) (word : List ℕ) (words : List (List ℕ)) → IsPlainRead (chore_or_report (chore_named word) day word words)
-    → IsPlainRead (task_or_text (if help then Some task.Help else if version then Some task.Version else None) day word words)
-plain_text true version day word words h = plain_alone task.Help words tt
+    → IsPlainRead (if help then help_task words else if version then task_alone task.Version words else chore_or_report (chore_named word) day word words)
+plain_text true version day word words h = plain_help words
 plain_text false true day word words h = plain_alone task.Version words tt
 plain_text false false day word words h = h
 

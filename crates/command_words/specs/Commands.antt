@@ -14,6 +14,7 @@ use Rattle.report_commands.specs.declared.fault.WordsFault.{WordsFault}
 use Rattle.report_commands.specs.declared.fault.WordsFault.TheVariants as words_fault
 use Rattle.plan_commands.specs.Commands.{given_of}
 use Rattle.command_words.specs.Chores.{chore_named}
+use Rattle.command_words.specs.HelpWords.{help_task}
 use Rattle.command_words.specs.Limits.{most_entries}
 use Rattle.command_words.specs.Said.{said_by}
 use Rattle.command_words.specs.StoreWords.{add_task, export_task, feed_task, follow_task, import_task, init_task}
@@ -30,13 +31,6 @@ use Rattle.command_words.specs.declared.task.Task.{Task}
 use Rattle.command_words.specs.declared.task.Task.TheVariants as task
 use Rattle.command_words.specs.declared.usage.UsageFault.{UsageFault}
 use Rattle.command_words.specs.declared.usage.UsageFault.TheVariants as usages
-
--- what a word asks for that isn't asked of a text
-abbrev pub task_named : List ℕ → Option Task
-task_named word =
-    if bytes_eq word (codes "--help") then Some task.Help
-    else if bytes_eq word (codes "--version") then Some task.Version
-    else None
 
 -- a name, and `-` for the input
 abbrev pub name_of_journal : List ℕ → Option (List ℕ)
@@ -147,14 +141,17 @@ abbrev pub chore_or_report : Option Chore → ℕ → List ℕ → List (List �
 chore_or_report (Some chore) day word words = chore_task chore words
 chore_or_report None day word words = report_task (given_of day (word ∷ words))
 
-abbrev pub task_or_text : Option Task → ℕ → List ℕ → List (List ℕ) → Result Task UsageFault
-task_or_text (Some what) day word words = task_alone what words
-task_or_text None day word words = chore_or_report (chore_named word) day word words
+-- what the first word asks for, with those behind it
+abbrev pub task_at : ℕ → List ℕ → List (List ℕ) → Result Task UsageFault
+task_at day word words =
+    if bytes_eq word (codes "--help") then help_task words
+    else if bytes_eq word (codes "--version") then task_alone task.Version words
+    else chore_or_report (chore_named word) day word words
 
 -- what the words ask for on a day, or what is wrong with them
 abbrev pub task_of : ℕ → List (List ℕ) → Result Task UsageFault
 task_of day [] = Err (usages.Words (words_fault.NoCommand []))
-task_of day (word ∷ words) = task_or_text (task_named word) day word words
+task_of day (word ∷ words) = task_at day word words
 
 -- the options of a report are valid, and a sample has few enough entries
 abbrev pub IsReadable : Task → Type 0

@@ -8,7 +8,7 @@ use desk::Allow;
 
 /// A command over a text or a store that is no report.
 #[derive(Clone, Copy)]
-pub(crate) enum Chore {
+pub enum Chore {
     /// The hours of a time log.
     Hours,
     /// Checks.

@@ -3,6 +3,7 @@
 
 mod chore_tasks;
 mod chores;
+mod help_words;
 mod items;
 mod limit;
 mod said;
@@ -12,6 +13,7 @@ mod task;
 mod usage;
 mod words;
 
-pub use task::{Following, Importing, Making, Origin, StoreTask, Talking, Task, TextTask};
+pub use chores::Chore;
+pub use task::{Following, Importing, Making, Origin, StoreTask, Subject, Talking, Task, TextTask};
 pub use usage::UsageFault;
 pub use words::{read_words, refuse_words};

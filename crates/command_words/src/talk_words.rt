@@ -15,7 +15,7 @@ use sample_text::SAMPLE_LIMIT;
 use std::alloc::Global;
 
 /// The fault of a word that has no place.
-fn misplaced(alloc: Global, word: &Text) -> Result<Task, UsageFault>
+pub(crate) fn misplaced(alloc: Global, word: &Text) -> Result<Task, UsageFault>
     ensures answer { Gives (λ task. task) usage_cause result (spec.misplaced_task word.now) }
     ensures valid { IfOk result IsReadable }
 {

@@ -1,8 +1,10 @@
 //! What the words of the program ask for.
 
+use crate::chores::Chore;
 use book_commands::Work;
 use desk::Allow;
 use hl_base::Text;
+use report_options::Command;
 
 /// Where a text is.
 #[derive(Drop)]
@@ -79,6 +81,19 @@ pub struct Talking {
     pub allow: Allow,
 }
 
+/// What help is about.
+#[derive(Clone, Copy)]
+pub enum Subject {
+    /// The program.
+    Program,
+    /// A report.
+    Report(Command),
+    /// A command that is no report.
+    Other(Chore),
+    /// `serve`.
+    Serve,
+}
+
 /// What the words ask for.
 #[derive(Drop)]
 pub enum Task {
@@ -90,8 +105,8 @@ pub enum Task {
     Talk(Talking),
     /// A sample of so many entries, at most 100,000.
     Sample(u64),
-    /// The commands.
-    Help,
+    /// Help.
+    Help(Subject),
     /// The program's version.
     Version,
 }

@@ -1,5 +1,5 @@
 //! What the words of the program ask for.
-ghost use Rattle.std.specs.Prelude.{◌≡◌, ◌∷◌, IfOk, IfSome, codes};
+ghost use Rattle.std.specs.Prelude.{◌≡◌, ◌∷◌, IfOk, codes};
 ghost use Rattle.std.specs.Str.{bytes_eq};
 ghost use Rattle.hl_base.specs.Gives.{Gives};
 ghost use Rattle.hl_time.specs.Calendar.{IsDay};
@@ -14,6 +14,7 @@ ghost use Rattle.command_words.specs.declared.usage.UsageFault.TheVariants as us
 
 use crate::chore_tasks::{chore_task, file_origin, store_origin};
 use crate::chores::chore_named;
+use crate::help_words::help_task;
 use crate::talk_words::task_alone;
 use crate::task::{Origin, Task, TextTask};
 use crate::usage::UsageFault;
@@ -26,18 +27,18 @@ use report_commands::{Asked, WordsFault};
 use report_options::Given;
 use std::alloc::Global;
 
-/// What a word asks for that isn't asked of a text.
-fn task_named(word: &Text) -> Option<Task>
-    ensures task { result ≡ spec.task_named word.now }
-    ensures valid { IfSome result spec.IsReadable }
+/// Whether a word is `--help`.
+fn is_help(word: &Text) -> bool
+    ensures { result ≡ bytes_eq word.now (codes "--help") }
 {
-    if word.as_bytes() == b"--help".as_slice() {
-        Some(Task::Help)
-    } else if word.as_bytes() == b"--version".as_slice() {
-        Some(Task::Version)
-    } else {
-        None
-    }
+    word.as_bytes() == b"--help".as_slice()
+}
+
+/// Whether a word is `--version`.
+fn is_version(word: &Text) -> bool
+    ensures { result ≡ bytes_eq word.now (codes "--version") }
+{
+    word.as_bytes() == b"--version".as_slice()
 }
 
 /// Where the journal is that is named; a file and a store aren't both.
@@ -96,6 +97,29 @@ fn text_words(
     }
 }
 
+/// What the first word asks for, with those behind it.
+fn task_at(
+    alloc: Global,
+    word: &Text,
+    rest: &[Text],
+    words: &[Text],
+    day: Day,
+) -> Result<Task, UsageFault>
+    requires day { IsDay day.0 }
+    requires all { words.now ≡ word.now ∷ rest.now }
+    ensures answer { Gives (λ task. task) usage_cause result
+        (spec.task_at day.0 word.now rest.now) }
+    ensures valid { IfOk result spec.IsReadable }
+{
+    if is_help(word) {
+        help_task(alloc, rest)
+    } else if is_version(word) {
+        task_alone(alloc, Task::Version, rest)
+    } else {
+        text_words(alloc, word, rest, words, day)
+    }
+}
+
 /// What the words ask for on a day: something of a text or of a store, a connection, a sample, or what the program says of
 /// itself.
 pub fn read_words(alloc: Global, words: &[Text], day: Day) -> Result<Task, UsageFault>
@@ -107,10 +131,7 @@ pub fn read_words(alloc: Global, words: &[Text], day: Day) -> Result<Task, Usage
         [] => Err(UsageFault::Words(WordsFault::NoCommand {
             word: Text::new(alloc),
         })),
-        [word, rest @ ..] => match task_named(word) {
-            Some(task) => task_alone(alloc, task, rest),
-            None => text_words(alloc, word, rest, words, day),
-        },
+        [word, rest @ ..] => task_at(alloc, word, rest, words, day),
     }
 }
 
