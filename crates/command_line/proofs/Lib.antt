@@ -2,6 +2,7 @@ mod Completing
 mod Endings
 mod Finishing
 mod Limits
+mod PreviewEnds
 mod Reporting
 mod Running
 mod Sampling

@@ -275,14 +275,14 @@ module _ {J O E S D M : Type 0} (j : Inputs J) (o : Outputs O) (e : Outputs E) (
   rules_by : (what : Importing) (old last : Outside J O E S M) (mid last_shelf : S) (csv rules : List ℕ) (read : Result (List ℕ) Refusal) (r : Result (List ℕ) Refusal)
       → SameShelf s old.shelf mid → LoadsFile s most_imported what.rules mid last_shelf read
       → ImportedWith s g m what day csv read (record old { shelf = last_shelf }) last r → file_within most_imported what.rules (s.file old.shelf what.rules) ≡ Ok rules
-      → IsTrue ((s.tells old.shelf).files) → AnswersWell what.store (request.Import what.file rules csv) day.0 (sc old)
+      → IsTrue ((s.tells old.shelf).files) → AnswersWell what.store (request.Import what.name rules csv) day.0 (sc old)
       → NoneFailed s old.shelf last.shelf → (Rose (m.refusals old.maker) (m.refusals last.maker) → ⊥) → IsWell old last r
   rules_by what old last mid last_shelf csv rules (Ok t) r same loads imports is told well none patterns =
       let here : file_within most_imported what.rules (s.file mid what.rules) ≡ Ok rules = ap (λ (x : Option (List ℕ)). file_within most_imported what.rules x) (same.files what.rules) ∙ is in
       let at : t ≡ rules = read_bytes t rules (file_within most_imported what.rules (s.file mid what.rules)) here (loads.found (told_on s old.shelf mid same told)) in
-      edit_well what.store (request.Import what.file t csv) old (record old { shelf = last_shelf }) last r imports
+      edit_well what.store (request.Import what.name t csv) old (record old { shelf = last_shelf }) last r imports
       (same_then s old.shelf mid last_shelf same (same_loaded s most_imported what.rules mid last_shelf (Ok t) loads)) refl (unchanged old last_shelf) told
-      (subst (λ (x : List ℕ). AnswersWell what.store (request.Import what.file x csv) day.0 (sc old)) (sym at) well) none patterns
+      (subst (λ (x : List ℕ). AnswersWell what.store (request.Import what.name x csv) day.0 (sc old)) (sym at) well) none patterns
   rules_by what old last mid last_shelf csv rules (Err x) r same loads imports is told well none patterns =
       let here : file_within most_imported what.rules (s.file mid what.rules) ≡ Ok rules = ap (λ (y : Option (List ℕ)). file_within most_imported what.rules y) (same.files what.rules) ∙ is in
       stayed old (record old { shelf = last_shelf }) last r x imports
@@ -293,12 +293,12 @@ module _ {J O E S D M : Type 0} (j : Inputs J) (o : Outputs O) (e : Outputs E) (
   csv_by : (what : Importing) (old last : Outside J O E S M) (mid : S) (csv rules : List ℕ) (read : Result (List ℕ) Refusal) (r : Result (List ℕ) Refusal)
       → LoadsFile s most_imported what.file old.shelf mid read → ImportedAfter s g m what day read (record old { shelf = mid }) last r
       → file_within most_imported what.file (s.file old.shelf what.file) ≡ Ok csv → file_within most_imported what.rules (s.file old.shelf what.rules) ≡ Ok rules
-      → IsTrue ((s.tells old.shelf).files) → AnswersWell what.store (request.Import what.file rules csv) day.0 (sc old)
+      → IsTrue ((s.tells old.shelf).files) → AnswersWell what.store (request.Import what.name rules csv) day.0 (sc old)
       → NoneFailed s old.shelf last.shelf → (Rose (m.refusals old.maker) (m.refusals last.maker) → ⊥) → IsWell old last r
   csv_by what old last mid csv rules (Ok t) r loads imports is is_rules told well none patterns =
       let at : t ≡ csv = read_bytes t csv (file_within most_imported what.file (s.file old.shelf what.file)) is (loads.found told) in
       rules_by what old last mid imports.mid t rules imports.read r (same_loaded s most_imported what.file old.shelf mid (Ok t) loads) imports.reads imports.imports is_rules told
-      (subst (λ (x : List ℕ). AnswersWell what.store (request.Import what.file rules x) day.0 (sc old)) (sym at) well) none patterns
+      (subst (λ (x : List ℕ). AnswersWell what.store (request.Import what.name rules x) day.0 (sc old)) (sym at) well) none patterns
   csv_by what old last mid csv rules (Err x) r loads imports is is_rules told well none patterns =
       stayed old (record old { shelf = mid }) last r x imports
       (file_unread most_imported what.file csv old.shelf mid x loads told is
@@ -351,5 +351,6 @@ module _ {J O E S D M : Type 0} (j : Inputs J) (o : Outputs O) (e : Outputs E) (
       (⊎_elim (λ imports. csv_by j o e s g m day what old runs.last imports.mid csv rules imports.read runs.answer imports.reads imports.imports is is_rules told well
       (none_last (stored.Import what) runs none) (patterns_last (stored.Import what) runs none patterns))
       (λ h. unread_well (stored.Import what) runs none h) runs.answers)
+  complete_stored (stored.Preview what) runs = tt
   complete_stored (stored.Feed name) runs = tt
   complete_stored (stored.Follow what) runs = tt

@@ -86,12 +86,13 @@ abbrev pub CompletesImport : Importing → ℕ → ℕ → Scene → Scene → T
 CompletesImport what day status old new =
     NoneRose old new → (Rose old.refusals new.refusals → ⊥) → IsTrue old.files_told → (csv rules : List ℕ)
     → file_within most_imported what.file (old.file what.file) ≡ Ok csv → file_within most_imported what.rules (old.file what.rules) ≡ Ok rules
-    → AnswersWell what.store (request.Import what.file rules csv) day old → IsDone status
+    → AnswersWell what.store (request.Import what.name rules csv) day old → IsDone status
 
 abbrev pub CompletesStored : StoreTask → ℕ → ℕ → Scene → Scene → Type 0
 CompletesStored (stored.Init what) day status old new = CompletesInit what status old new
 CompletesStored (stored.Add name) day status old new = CompletesAdd name day status old new
 CompletesStored (stored.Import what) day status old new = CompletesImport what day status old new
+CompletesStored (stored.Preview what) day status old new = Unit {0}
 CompletesStored (stored.Feed name) day status old new = Unit {0}
 CompletesStored (stored.Follow what) day status old new = Unit {0}
 

@@ -3,6 +3,7 @@ pub mod Complete
 pub mod Files
 pub mod Frames
 pub mod Help
+pub mod Previewing
 pub mod Runs
 pub mod Samples
 pub mod Scenes

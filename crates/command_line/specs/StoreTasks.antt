@@ -103,7 +103,7 @@ pub record AddsEntry {J O E S D M : Type 0} (sc : Outside J O E S M → Scene) (
 
 abbrev pub ImportedWith : {J O E S D M : Type 0} → Shelves S D → Disks D → Makers M → Importing → Day → List ℕ → Result (List ℕ) Refusal
     → Outside J O E S M → Outside J O E S M → Result (List ℕ) Refusal → Type 0
-ImportedWith s g m what day csv (Ok rules) old new r = EditedBy s g m what.store (request.Import what.file rules csv) day old new r
+ImportedWith s g m what day csv (Ok rules) old new r = EditedBy s g m what.store (request.Import what.name rules csv) day old new r
 ImportedWith s g m what day csv (Err x) old new r = (r ≡ Err x) × (new ≡ old)
 
 -- The rules were read, and the store asked to import a file's bytes by them.

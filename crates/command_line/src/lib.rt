@@ -6,6 +6,7 @@ mod files;
 mod frames;
 mod help;
 mod outside;
+mod previews;
 mod program;
 mod sample;
 mod source;

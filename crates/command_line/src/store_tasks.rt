@@ -11,6 +11,7 @@ ghost use Rattle.command_line.specs.StoreTasks as spec;
 use crate::files::load_file;
 use crate::frames::{feed, follow};
 use crate::outside::Outside;
+use crate::previews::preview_import;
 use crate::source::read_text;
 use command_words::{Importing, Making, Origin, StoreTask};
 use desk::{Reply, Request};
@@ -24,7 +25,7 @@ use store_commands::{StoreEdit, edit_store, reply_line, reply_status};
 use store_making::{JournalRefusal, init_store, journal_line, journal_status};
 
 /// The most bytes of a file that is imported, and of its rules.
-const MOST_IMPORTED: u64 = 8_388_608;
+pub(crate) const MOST_IMPORTED: u64 = 8_388_608;
 
 /// The refusal of a journal, of a store of this name.
 pub(crate) fn refuse_journal(alloc: Global, name: &Text, refusal: &JournalRefusal) -> Refusal
@@ -84,7 +85,7 @@ fn told_line(status: u8, line: Bytes) -> Result<Bytes, Refusal>
 }
 
 /// What is said of a reply.
-fn answer_reply(alloc: Global, reply: &Reply) -> Result<Bytes, Refusal>
+pub(crate) fn answer_reply(alloc: Global, reply: &Reply) -> Result<Bytes, Refusal>
     requires { IsEditReply reply.now }
     ensures told { spec.ToldLine (reply_status_of reply.now) (reply_line_of reply.now) result }
     ensures kind { IfErr result spec.IsOfStored }
@@ -156,14 +157,16 @@ fn import_by<J: Source, O: Sink, E: Sink, S: Shelf, M: Maker, L: Ledger>(
         outside.new result }
     ensures kind { IfErr result spec.IsOfStored }
 {
-    let Importing { store, file, rules } = what;
+    let Importing {
+        store,
+        file,
+        rules,
+        name,
+    } = what;
+    drop(file);
     match load_file(alloc, &rules, MOST_IMPORTED, &mut outside.shelf) {
         Ok(rules) => {
-            let request = Request::Import {
-                name: file,
-                rules,
-                csv,
-            };
+            let request = Request::Import { name, rules, csv };
             let what = StoreEdit {
                 store,
                 request,
@@ -211,6 +214,7 @@ pub(crate) fn answer_stored<J: Source, O: Sink, E: Sink, S: Shelf, M: Maker, L: 
         StoreTask::Init(what) => init(alloc, &what, outside, steps),
         StoreTask::Add(store) => add(alloc, store, day, outside, steps),
         StoreTask::Import(what) => import(alloc, what, day, outside, steps),
+        StoreTask::Preview(what) => preview_import(alloc, what, day, outside, steps),
         StoreTask::Feed(name) => feed(alloc, &name, outside),
         StoreTask::Follow(what) => follow(alloc, &what, outside),
     }

@@ -47,13 +47,14 @@ plain_adding : (name : Result (List ℕ) UsageFault) → IsPlainRead (adding_of 
 plain_adding (Ok name) = tt
 plain_adding (Err fault) = tt
 
-plain_file : (store : List ℕ) (rules : Option (List ℕ)) (file : Result (List ℕ) UsageFault) → IsPlainRead (import_of store rules file)
-plain_file store rules (Ok file) = tt
-plain_file store rules (Err fault) = tt
+plain_file : (dry : Bool) (store : List ℕ) (rules name : Option (List ℕ)) (file : Result (List ℕ) UsageFault) → IsPlainRead (import_of dry store rules name file)
+plain_file true store rules name (Ok file) = tt
+plain_file false store rules name (Ok file) = tt
+plain_file dry store rules name (Err fault) = tt
 
-plain_import : (rules : Option (List ℕ)) (words : List (List ℕ)) → IsPlainRead (import_task rules words)
-plain_import rules [] = tt
-plain_import rules (store ∷ words) = plain_file store rules (plain_name words)
+plain_import : (dry : Bool) (rules name : Option (List ℕ)) (words : List (List ℕ)) → IsPlainRead (import_task dry rules name words)
+plain_import dry rules name [] = tt
+plain_import dry rules name (store ∷ words) = plain_file dry store rules name (plain_name words)
 
 plain_count : (word : List ℕ) (count : Option ℕ) (words : List (List ℕ)) → IsPlainRead (sample_of word count words)
 plain_count word (Some count) words = plain_alone (task.Sample count) words tt
@@ -81,7 +82,7 @@ plain_over chores.Strict said origin h = plain_strict origin said.checks
 plain_over chores.Close said origin h = plain_close origin said.on (into_or_default said.into) (words_or_default said.words)
 plain_over chores.Init said origin h = plain_making origin said.limit (plain_name said.words)
 plain_over chores.Add said origin h = plain_adding (plain_name said.words)
-plain_over chores.Import said origin h = plain_import said.rules said.words
+plain_over chores.Import said origin h = plain_import said.dry said.rules said.remembered said.words
 plain_over chores.Talk said origin h = absurd (h refl)
 plain_over chores.Sample said origin h = plain_sample said.words
 plain_over chores.Export said origin h = plain_export (plain_name said.words)

@@ -54,12 +54,15 @@ name_of word =
     else if bytes_eq word (codes "--into") then Some names.Into
     else if bytes_eq word (codes "--limit") then Some names.Limit
     else if bytes_eq word (codes "--rules") then Some names.Rules
+    else if bytes_eq word (codes "--name") then Some names.Remembered
+    else if bytes_eq word (codes "--dry-run") then Some names.DryRun
     else if bytes_eq word (codes "--allow") then Some names.Allow
     else None
 
 -- a value has to be written
 abbrev pub takes_value : Name → Bool
 takes_value names.Dot = false
+takes_value names.DryRun = false
 takes_value _ = true
 
 abbrev pub is_hours : Chore → Bool
@@ -108,4 +111,6 @@ has_option chore names.On = is_close chore
 has_option chore names.Into = is_close chore
 has_option chore names.Limit = is_of_new_stores chore
 has_option chore names.Rules = is_import chore
+has_option chore names.Remembered = is_import chore
+has_option chore names.DryRun = is_import chore
 has_option chore names.Allow = is_talk chore

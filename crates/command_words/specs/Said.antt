@@ -89,16 +89,19 @@ store_item word name = Some (items.Store word name)
 -- what an option says with a value, by the word that names it, and without one
 abbrev pub valued : Name → List ℕ → List ℕ → Option Item
 valued names.Dot word value = None
+valued names.DryRun word value = None
 valued names.File word value = Some (items.File value)
 valued names.Store word value = store_item word value
 valued names.On word value = day_item value
 valued names.Into word value = account_item value
 valued names.Limit word value = limit_item (limit_in value)
 valued names.Rules word value = Some (items.Rules value)
+valued names.Remembered word value = Some (items.Remembered value)
 valued names.Allow word value = allow_item (allow_named value)
 
 abbrev pub bare : Name → Option Item
 bare names.Dot = Some items.Dot
+bare names.DryRun = Some items.DryRun
 bare _ = None
 
 -- with the next word as its value, if there is one
@@ -166,7 +169,7 @@ plain_items chore those = all_said (map (plain_item chore) those)
 -- ---- all of it
 
 abbrev pub unsaid : Said
-unsaid = record { dot = false; journal = named.Unnamed; on = None; into = None; limit = None; rules = None; allow = None; checks = []; words = [] }
+unsaid = record { dot = false; journal = named.Unnamed; on = None; into = None; limit = None; rules = None; remembered = None; dry = false; allow = None; checks = []; words = [] }
 
 -- the journal that is named where a file is named too, or a store: the first two words that exclude each other stay
 abbrev pub with_file : Named → List ℕ → Named
@@ -190,6 +193,8 @@ with_item said (items.On day) = record said { on = Some day }
 with_item said (items.Into account) = record said { into = Some account }
 with_item said (items.Limit limit) = record said { limit = Some limit }
 with_item said (items.Rules name) = record said { rules = Some name }
+with_item said (items.Remembered name) = record said { remembered = Some name }
+with_item said items.DryRun = record said { dry = true }
 with_item said (items.Allow allow) = record said { allow = Some allow }
 with_item said (items.Check check) = record said { checks = said.checks ++ check ∷ [] }
 with_item said (items.Word word) = record said { words = said.words ++ word ∷ [] }

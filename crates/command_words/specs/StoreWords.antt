@@ -1,8 +1,9 @@
 -- What the words of commands over a store ask for: those that are no options name it.
-use Rattle.std.specs.Prelude.{ℕ, List, [], ◌∷◌, ◌++◌, codes, Option, Some, None, Result, Ok, Err}
+use Rattle.std.specs.Prelude.{ℕ, Bool, List, [], ◌∷◌, ◌++◌, codes, Option, Some, None, Result, Ok, Err, if◌then◌else◌}
 use Rattle.book_commands.specs.declared.work.Work.TheVariants as works
 use Rattle.command_words.specs.Limits.{most_limit}
 use Rattle.command_words.specs.Usage.{misplaced, missing}
+use Rattle.command_words.specs.declared.task.Importing.{Importing}
 use Rattle.command_words.specs.declared.task.Origin.{Origin}
 use Rattle.command_words.specs.declared.task.Origin.TheVariants as origins
 use Rattle.command_words.specs.declared.task.StoreTask.TheVariants as stored
@@ -74,17 +75,26 @@ abbrev pub rules_or_default : Option (List ℕ) → List ℕ → List ℕ
 rules_or_default (Some rules) file = rules
 rules_or_default None file = rules_beside file
 
+-- a file is remembered under its own name where none is given
+abbrev pub name_or_default : Option (List ℕ) → List ℕ → List ℕ
+name_or_default (Some name) file = name
+name_or_default None file = file
+
 -- a file that is to be imported into a store
-abbrev pub importing : List ℕ → Option (List ℕ) → List ℕ → Task
-importing store rules file = task.Stored (stored.Import (record { store = store; file = file; rules = rules_or_default rules file }))
+abbrev pub importing : List ℕ → Option (List ℕ) → Option (List ℕ) → List ℕ → Importing
+importing store rules name file = record { store = store; file = file; rules = rules_or_default rules file; name = name_or_default name file }
 
-abbrev pub import_of : List ℕ → Option (List ℕ) → Result (List ℕ) UsageFault → Result Task UsageFault
-import_of store rules (Ok file) = Ok (importing store rules file)
-import_of store rules (Err fault) = Err fault
+-- an import, or what it would add
+abbrev pub import_or_preview : Bool → Importing → Task
+import_or_preview dry what = if dry then task.Stored (stored.Preview what) else task.Stored (stored.Import what)
 
-abbrev pub import_task : Option (List ℕ) → List (List ℕ) → Result Task UsageFault
-import_task rules [] = missing
-import_task rules (store ∷ words) = import_of store rules (plain_name words)
+abbrev pub import_of : Bool → List ℕ → Option (List ℕ) → Option (List ℕ) → Result (List ℕ) UsageFault → Result Task UsageFault
+import_of dry store rules name (Ok file) = Ok (import_or_preview dry (importing store rules name file))
+import_of dry store rules name (Err fault) = Err fault
+
+abbrev pub import_task : Bool → Option (List ℕ) → Option (List ℕ) → List (List ℕ) → Result Task UsageFault
+import_task dry rules name [] = missing
+import_task dry rules name (store ∷ words) = import_of dry store rules name (plain_name words)
 
 -- ---- frames
 

@@ -150,6 +150,8 @@ fn task_said(alloc: Global, chore: Chore, said: Said) -> Result<Task, UsageFault
         into,
         limit,
         rules,
+        remembered,
+        dry,
         allow,
         checks,
         words,
@@ -165,7 +167,7 @@ fn task_said(alloc: Global, chore: Chore, said: Said) -> Result<Task, UsageFault
         }
         Chore::Init => init_task(alloc, origin, limit, words.as_slice()),
         Chore::Add => add_task(alloc, words.as_slice()),
-        Chore::Import => import_task(alloc, rules, words.as_slice()),
+        Chore::Import => import_task(alloc, dry, rules, remembered, words.as_slice()),
         Chore::Talk => Ok(talk_task(origin, allow)),
         Chore::Sample => sample_task(alloc, words.as_slice()),
         Chore::Export => export_task(alloc, words.as_slice()),

@@ -43,6 +43,8 @@ pub(crate) enum Name {
     Into,
     Limit,
     Rules,
+    Remembered,
+    DryRun,
     Allow,
 }
 
@@ -139,6 +141,10 @@ pub(crate) fn name_of(word: &[u8]) -> Option<Name>
         Some(Name::Limit)
     } else if is_same(word, b"--rules") {
         Some(Name::Rules)
+    } else if is_same(word, b"--name") {
+        Some(Name::Remembered)
+    } else if is_same(word, b"--dry-run") {
+        Some(Name::DryRun)
     } else if is_same(word, b"--allow") {
         Some(Name::Allow)
     } else {
@@ -152,12 +158,14 @@ pub(crate) fn takes_value(name: Name) -> bool
 {
     match name {
         Name::Dot => false,
+        Name::DryRun => false,
         Name::File
         | Name::Store
         | Name::On
         | Name::Into
         | Name::Limit
         | Name::Rules
+        | Name::Remembered
         | Name::Allow => true,
     }
 }
@@ -175,7 +183,7 @@ pub(crate) fn has_option(chore: Chore, name: Name) -> bool
         Name::Store => matches!(chore, Chore::Strict | Chore::Close | Chore::Talk),
         Name::On | Name::Into => matches!(chore, Chore::Close),
         Name::Limit => matches!(chore, Chore::Init | Chore::Follow),
-        Name::Rules => matches!(chore, Chore::Import),
+        Name::Rules | Name::Remembered | Name::DryRun => matches!(chore, Chore::Import),
         Name::Allow => matches!(chore, Chore::Talk),
     }
 }

@@ -38,6 +38,10 @@ pub(crate) enum Item {
     Limit(u64),
     /// The name of the file of the rules.
     Rules(Text),
+    /// The name under which an import is remembered.
+    Remembered(Text),
+    /// An import that stores nothing.
+    DryRun,
     /// What requests may do.
     Allow(Allow),
     /// A check.
@@ -214,13 +218,14 @@ fn valued(alloc: Global, name: Name, word: &Text, value: &str) -> Result<Option<
     ensures { IfOk result (λ item. item ≡ spec.valued name word.now value.now) }
 {
     match name {
-        Name::Dot => Ok(None),
+        Name::Dot | Name::DryRun => Ok(None),
         Name::File => Ok(Some(Item::File(Text::copied(alloc, value)?))),
         Name::Store => store_item(alloc, word, value),
         Name::On => Ok(day_item(value.as_bytes())),
         Name::Into => account_item(alloc, value.as_bytes()),
         Name::Limit => Ok(limit_item(value.as_bytes())),
         Name::Rules => Ok(Some(Item::Rules(Text::copied(alloc, value)?))),
+        Name::Remembered => Ok(Some(Item::Remembered(Text::copied(alloc, value)?))),
         Name::Allow => Ok(allow_item(allow_named(value.as_bytes()))),
     }
 }
@@ -231,12 +236,14 @@ fn bare(name: Name) -> Option<Item>
 {
     match name {
         Name::Dot => Some(Item::Dot),
+        Name::DryRun => Some(Item::DryRun),
         Name::File
         | Name::Store
         | Name::On
         | Name::Into
         | Name::Limit
         | Name::Rules
+        | Name::Remembered
         | Name::Allow => None,
     }
 }

@@ -134,43 +134,82 @@ fn rules_or_default(alloc: Global, rules: Option<Text>, file: &Text) -> Result<T
     }
 }
 
+/// The name under which a file is remembered.
+fn name_or_default(alloc: Global, name: Option<Text>, file: &Text) -> Result<Text, Memory>
+    ensures { IfOk result (λ known. known ≡ spec.name_or_default name file.now) }
+{
+    match name {
+        Some(name) => Ok(name),
+        None => Text::copied(alloc, file.as_str()),
+    }
+}
+
 /// A file that is to be imported into a store.
-fn importing(alloc: Global, store: &Text, file: Text, rules: Option<Text>) -> Result<Task, Memory>
-    ensures task { IfOk result (λ task. task ≡ spec.importing store.now rules file) }
-    ensures valid { IfOk result IsReadable }
+fn importing(
+    alloc: Global,
+    store: &Text,
+    file: Text,
+    rules: Option<Text>,
+    name: Option<Text>,
+) -> Result<Importing, Memory>
+    ensures { IfOk result (λ what. what ≡ spec.importing store.now rules name file) }
 {
     let rules = rules_or_default(alloc, rules, &file)?;
+    let name = name_or_default(alloc, name, &file)?;
     let store = Text::copied(alloc, store.as_str())?;
-    Ok(Task::Stored(StoreTask::Import(Importing { store, file, rules })))
+    Ok(Importing {
+        store,
+        file,
+        rules,
+        name,
+    })
+}
+
+/// An import, or what it would add.
+fn import_or_preview(dry: bool, what: Importing) -> Task
+    ensures task { result ≡ spec.import_or_preview dry what }
+    ensures valid { IsReadable result }
+{
+    if dry {
+        Task::Stored(StoreTask::Preview(what))
+    } else {
+        Task::Stored(StoreTask::Import(what))
+    }
 }
 
 /// The file that some words name, which is to be imported into a store.
 fn import_into(
     alloc: Global,
+    dry: bool,
     store: &Text,
     rules: Option<Text>,
+    name: Option<Text>,
     words: &[Text],
 ) -> Result<Task, UsageFault>
     ensures answer { Gives (λ task. task) usage_cause result
-        (spec.import_of store.now rules (spec.plain_name words.now)) }
+        (spec.import_of dry store.now rules name (spec.plain_name words.now)) }
     ensures valid { IfOk result IsReadable }
 {
     let file = plain_name(alloc, words)?;
-    Ok(importing(alloc, store, file, rules)?)
+    let what = importing(alloc, store, file, rules, name)?;
+    Ok(import_or_preview(dry, what))
 }
 
 /// The file that the words name behind a store, which is to be imported into that.
 pub(crate) fn import_task(
     alloc: Global,
+    dry: bool,
     rules: Option<Text>,
+    name: Option<Text>,
     words: &[Text],
 ) -> Result<Task, UsageFault>
-    ensures answer { Gives (λ task. task) usage_cause result (spec.import_task rules words.now) }
+    ensures answer { Gives (λ task. task) usage_cause result
+        (spec.import_task dry rules name words.now) }
     ensures valid { IfOk result IsReadable }
 {
     match words {
         [] => Err(UsageFault::Missing),
-        [store, rest @ ..] => import_into(alloc, store, rules, rest),
+        [store, rest @ ..] => import_into(alloc, dry, store, rules, name, rest),
     }
 }
 

@@ -46,6 +46,8 @@ pub struct Importing {
     pub file: Text,
     /// The name of the file of its rules.
     pub rules: Text,
+    /// The name under which it is remembered.
+    pub name: Text,
 }
 
 /// A replica that is to follow the frames of a store, which are the input.
@@ -66,6 +68,8 @@ pub enum StoreTask {
     Add(Text),
     /// An import.
     Import(Importing),
+    /// What an import would add.
+    Preview(Importing),
     /// The frames of the store of this name.
     Feed(Text),
     /// That a replica follows.

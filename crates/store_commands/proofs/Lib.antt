@@ -1,4 +1,5 @@
 pub mod AskingLaws
 pub mod EditLaws
+pub mod PreviewLaws
 pub mod ReplyLaws
 pub mod StandingLaws

@@ -4,6 +4,8 @@
 mod asking;
 mod edit;
 mod lines;
+mod preview;
 
 pub use edit::{StoreEdit, edit_store};
 pub use lines::{reply_line, reply_status};
+pub use preview::{Preview, preview_edit};
