@@ -11,6 +11,7 @@ use Rattle.query_terms.specs.declared.making.Maker.{Ghosts as Makers}
 use Rattle.live_journal.specs.Loading.{fault_of}
 use Rattle.text_store.specs.declared.image.Image.{Image}
 use Rattle.text_store.specs.Files.{opened_limit, opened_size}
+use Rattle.text_store.specs.Image.{NoImage}
 use Rattle.desk.specs.States.{State, answer_to}
 use Rattle.desk.specs.declared.reply.Reply.{Reply}
 use Rattle.desk.specs.declared.reply.Reply.TheVariants as reply
@@ -25,9 +26,11 @@ use Rattle.store_making.specs.Making.{MakesStore}
 use Rattle.store_making.specs.Refusals.{files_refusal}
 use Rattle.store_making.specs.declared.refusal.JournalRefusal.{JournalRefusal}
 use Rattle.store_commands.specs.Asking.{EditsStore, Patterns, opened_state, state_under, told_by}
+use Rattle.store_commands.specs.Replacing.{base_or, replacement}
 use Rattle.store_commands.specs.Replies.{line_of as reply_line, status_of as reply_status}
 use Rattle.command_words.specs.declared.task.Importing.{Importing}
 use Rattle.command_words.specs.declared.task.Making.{Making}
+use Rattle.command_words.specs.declared.task.Replacing.{Replacing}
 use Rattle.command_words.specs.declared.task.Origin.{Origin}
 use Rattle.command_words.specs.declared.task.Origin.TheVariants as origins
 use Rattle.command_words.specs.declared.task.StoreTask.{StoreTask}
@@ -39,7 +42,7 @@ use Rattle.command_line.specs.Runs.{ReadsText}
 use Rattle.command_line.specs.Scenes.{OutputsStay, Scene, SourceRose, scene, soundness, text_in}
 use Rattle.command_line.specs.Sources.{file_within}
 use Rattle.command_line.specs.StoreRuns.{Ends, RunsStored}
-use Rattle.command_line.specs.StoreTasks.{AddedAfter, EditedBy, ImportedAfter, ImportedWith, InitsStore, MadeAfter, ToldEdit, ToldLine, ToldMaking, most_imported}
+use Rattle.command_line.specs.StoreTasks.{AddedAfter, EditedBy, ImportedAfter, ImportedWith, InitsStore, MadeAfter, ReplacedAfter, ReplacesText, ToldEdit, ToldLine, ToldMaking, most_imported}
 use Rattle.command_line.specs.declared.outside.Outside.{Outside}
 use Rattle.command_line.proofs.Completing.{said_memory}
 use Rattle.command_line.proofs.TalkCompleting.{memory_of, ok_is, read_so, unread_by}
@@ -269,6 +272,39 @@ module _ {J O E S D M : Type 0} (j : Inputs J) (o : Outputs O) (e : Outputs E) (
       (λ rose. none.0 (subst (λ (y : Outside J O E S M). Rose (s.faults old.shelf) (s.faults y.shelf)) (sym adds.1) rose)))
       (stay_same (sc old) (sc mid) reads.outputs)
 
+  replaced_by : (what : Replacing) (old mid last : Outside J O E S M) (read : Result (List ℕ) Refusal) (r : Result (List ℕ) Refusal) (text : List ℕ)
+      → ReadsText what.source read (sc old) (sc mid) → SameShelf s old.shelf mid.shelf → mid.maker ≡ old.maker → ReplacedAfter s g m what day read mid last r
+      → (IsStore what.source → ⊥) → text_in what.source (sc old) ≡ Some (Ok text) → IsTrue ((s.tells old.shelf).files)
+      → AnswersWell what.store (replacement what.base text (image_under (s.file old.shelf) what.store)) day.0 (sc old)
+      → NoneFailed s old.shelf last.shelf → (Rose (m.refusals old.maker) (m.refusals last.maker) → ⊥)
+      → (Rose (j.faults old.streams.input) (j.faults last.streams.input) → ⊥) → IsWell old last r
+  replaced_by what old mid last (Ok t) r text reads same maker replaced plain is told well none patterns no_input =
+      let at : t ≡ text = sym (ok_is text t (read_so what.source (sc old) (sc mid) text (Ok t) reads is)) in
+      let asked : Request = request.Replace (base_or what.base replaced.replaces.revision) t in
+      let asked_is : asked ≡ replacement what.base text (image_under (s.file old.shelf) what.store) =
+      ap (λ (revision : ℕ). request.Replace (base_or what.base revision) t) (replaced.replaces.is (told_on s old.shelf mid.shelf same told))
+      ∙ ap (λ (x : List ℕ). replacement what.base x (image_under (s.file mid.shelf) what.store)) at
+      ∙ ap (λ (found : Option (Result Image NoImage)). replacement what.base text found) (both s old.shelf mid.shelf same (λ a b. image_in a b) what.store) in
+      edit_well what.store asked old mid last r
+      (record { asked = replaced.asked; edits = replaced.replaces.edits; told = replaced.told; rest = replaced.rest })
+      same maker (stay_same (sc old) (sc mid) reads.outputs) told
+      (subst (λ (x : Request). AnswersWell what.store x day.0 (sc old)) (sym asked_is) well) none patterns
+  replaced_by what old mid last (Err x) r text reads same maker replaced plain is told well none patterns no_input =
+      stayed old mid last r x replaced
+      (source_unread what.source old mid text x plain reads is
+      (λ rose. no_input (subst (λ (y : Outside J O E S M). Rose (j.faults old.streams.input) (j.faults y.streams.input)) (sym replaced.1) rose))
+      (λ rose. none.0 (subst (λ (y : Outside J O E S M). Rose (s.faults old.shelf) (s.faults y.shelf)) (sym replaced.1) rose)))
+      (stay_same (sc old) (sc mid) reads.outputs)
+
+  replace_well : (what : Replacing) (old last : Outside J O E S M) (r : Result (List ℕ) Refusal) (text : List ℕ) → ReplacesText sc s g m what day old last r
+      → (IsStore what.source → ⊥) → text_in what.source (sc old) ≡ Some (Ok text) → IsTrue ((s.tells old.shelf).files)
+      → AnswersWell what.store (replacement what.base text (image_under (s.file old.shelf) what.store)) day.0 (sc old)
+      → NoneFailed s old.shelf last.shelf → (Rose (m.refusals old.maker) (m.refusals last.maker) → ⊥)
+      → (Rose (j.faults old.streams.input) (j.faults last.streams.input) → ⊥) → IsWell old last r
+  replace_well what old last r text replaces plain is told well none patterns no_input =
+      replaced_by what old replaces.mid last replaces.read r text replaces.reads (init_source what.source old replaces.mid replaces.read plain replaces.shelf) replaces.maker
+      replaces.replaces plain is told well none patterns no_input
+
   unchanged : (old : Outside J O E S M) (mid : S) → SameOutputs (sc old) (sc (record old { shelf = mid }))
   unchanged old mid = record { output = refl; error = refl }
 
@@ -352,5 +388,10 @@ module _ {J O E S D M : Type 0} (j : Inputs J) (o : Outputs O) (e : Outputs E) (
       (none_last (stored.Import what) runs none) (patterns_last (stored.Import what) runs none patterns))
       (λ h. unread_well (stored.Import what) runs none h) runs.answers)
   complete_stored (stored.Preview what) runs = tt
+  complete_stored (stored.Replace what) runs = λ none patterns plain told text is well.
+      done (stored.Replace what) runs none
+      (⊎_elim (λ replaces. replace_well j o e s g m day what old runs.last runs.answer text replaces plain is told well (none_last (stored.Replace what) runs none)
+      (patterns_last (stored.Replace what) runs none patterns) (input_last (stored.Replace what) runs none))
+      (λ h. unread_well (stored.Replace what) runs none h) runs.answers)
   complete_stored (stored.Feed name) runs = tt
   complete_stored (stored.Follow what) runs = tt

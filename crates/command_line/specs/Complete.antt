@@ -11,6 +11,7 @@ use Rattle.sample_text.specs.Sample.{sample_text}
 use Rattle.store_text.specs.Shelved.{image_under, or_empty, second_name}
 use Rattle.store_making.specs.Refusals.{files_refusal}
 use Rattle.store_commands.specs.Asking.{state_under}
+use Rattle.store_commands.specs.Replacing.{replacement}
 use Rattle.store_commands.specs.Replies.{status_of as reply_status}
 use Rattle.refusals.specs.Outcomes.{Judged, outcome_of}
 use Rattle.refusals.specs.declared.refusal.PatternOf.{PatternOf}
@@ -18,6 +19,7 @@ use Rattle.command_words.specs.declared.task.Origin.{Origin}
 use Rattle.command_words.specs.declared.task.Origin.TheVariants as origins
 use Rattle.command_words.specs.declared.task.Importing.{Importing}
 use Rattle.command_words.specs.declared.task.Making.{Making}
+use Rattle.command_words.specs.declared.task.Replacing.{Replacing}
 use Rattle.command_words.specs.declared.task.StoreTask.{StoreTask}
 use Rattle.command_words.specs.declared.task.StoreTask.TheVariants as stored
 use Rattle.command_words.specs.declared.task.Talking.{Talking}
@@ -88,11 +90,19 @@ CompletesImport what day status old new =
     → file_within most_imported what.file (old.file what.file) ≡ Ok csv → file_within most_imported what.rules (old.file what.rules) ≡ Ok rules
     → AnswersWell what.store (request.Import what.name rules csv) day old → IsDone status
 
+-- a text that takes the place of the one of a store
+abbrev pub CompletesReplace : Replacing → ℕ → ℕ → Scene → Scene → Type 0
+CompletesReplace what day status old new =
+    NoneRose old new → (Rose old.refusals new.refusals → ⊥) → (IsStore what.source → ⊥) → IsTrue old.files_told → (text : List ℕ)
+    → text_in what.source old ≡ Some (Ok text)
+    → AnswersWell what.store (replacement what.base text (image_under old.file what.store)) day old → IsDone status
+
 abbrev pub CompletesStored : StoreTask → ℕ → ℕ → Scene → Scene → Type 0
 CompletesStored (stored.Init what) day status old new = CompletesInit what status old new
 CompletesStored (stored.Add name) day status old new = CompletesAdd name day status old new
 CompletesStored (stored.Import what) day status old new = CompletesImport what day status old new
 CompletesStored (stored.Preview what) day status old new = Unit {0}
+CompletesStored (stored.Replace what) day status old new = CompletesReplace what day status old new
 CompletesStored (stored.Feed name) day status old new = Unit {0}
 CompletesStored (stored.Follow what) day status old new = Unit {0}
 

@@ -14,7 +14,7 @@ use Rattle.command_line.specs.Frames.{FeedsFrames, FollowsFrames}
 use Rattle.command_line.specs.Previewing.{PreviewsImport}
 use Rattle.command_line.specs.Runs.{OutputFailed}
 use Rattle.command_line.specs.Scenes.{Scene, Soundness}
-use Rattle.command_line.specs.StoreTasks.{AddsEntry, ImportsFile, InitsStore}
+use Rattle.command_line.specs.StoreTasks.{AddsEntry, ImportsFile, InitsStore, ReplacesText}
 use Rattle.command_line.specs.declared.outside.Outside.{Outside}
 
 -- what is answered before anything is written
@@ -24,6 +24,7 @@ AnswersStored j sc s g m (stored.Init what) day old new r = InitsStore sc s g wh
 AnswersStored j sc s g m (stored.Add name) day old new r = AddsEntry sc s g m name day old new r
 AnswersStored j sc s g m (stored.Import what) day old new r = ImportsFile s g m what day old new r
 AnswersStored j sc s g m (stored.Preview what) day old new r = PreviewsImport s m what day old new r
+AnswersStored j sc s g m (stored.Replace what) day old new r = ReplacesText sc s g m what day old new r
 AnswersStored j sc s g m (stored.Feed name) day old new r = FeedsFrames s g name old new r
 AnswersStored j sc s g m (stored.Follow what) day old new r = FollowsFrames j s g what old new r
 

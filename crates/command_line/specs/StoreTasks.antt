@@ -14,10 +14,12 @@ use Rattle.store_making.specs.Lines.{line_of as making_line, status_of as making
 use Rattle.store_making.specs.Making.{MakesStore}
 use Rattle.store_making.specs.declared.refusal.JournalRefusal.{JournalRefusal}
 use Rattle.store_commands.specs.Asking.{EditsStore, told_by}
+use Rattle.store_commands.specs.Replacing.{ReplacesStore}
 use Rattle.store_commands.specs.Replies.{line_of as reply_line, status_of as reply_status}
 use Rattle.command_words.specs.declared.task.Importing.{Importing}
 use Rattle.command_words.specs.declared.task.Making.{Making}
 use Rattle.command_words.specs.declared.task.Origin.TheVariants as origins
+use Rattle.command_words.specs.declared.task.Replacing.{Replacing}
 use Rattle.command_line.specs.Answers.{IsStatus, status_of}
 use Rattle.command_line.specs.Files.{LoadsFile, ReadsShelf}
 use Rattle.command_line.specs.Runs.{ReadsText}
@@ -126,3 +128,28 @@ pub record ImportsFile {J O E S D M : Type 0} (s : Shelves S D) (g : Disks D) (m
   pub read : Result (List ℕ) Refusal
   pub reads : LoadsFile s most_imported what.file old.shelf mid read
   pub imports : ImportedAfter s g m what day read (record old { shelf = mid }) new r
+
+-- ---- a text in the place of a store's
+
+-- a store was asked for it on a day, and this is said of the reply
+pub record ReplacedBy {J O E S D M : Type 0} (s : Shelves S D) (g : Disks D) (m : Makers M) (what : Replacing) (text : List ℕ) (day : Day)
+    (old new : Outside J O E S M) (r : Result (List ℕ) Refusal) : Type 0 where
+  pub asked : Result Reply JournalRefusal
+  pub replaces : ReplacesStore s g what.store text what.base day (told_by m old.maker new.maker) old.shelf new.shelf asked
+  pub told : ToldEdit what.store asked r
+  pub rest : new ≡ record old { shelf = new.shelf; maker = new.maker }
+
+abbrev pub ReplacedAfter : {J O E S D M : Type 0} → Shelves S D → Disks D → Makers M → Replacing → Day → Result (List ℕ) Refusal
+    → Outside J O E S M → Outside J O E S M → Result (List ℕ) Refusal → Type 0
+ReplacedAfter s g m what day (Ok text) old new r = ReplacedBy s g m what text day old new r
+ReplacedAfter s g m what day (Err x) old new r = (r ≡ Err x) × (new ≡ old)
+
+-- The text was read, and then the store asked to have it in the place of its own.
+pub record ReplacesText {J O E S D M : Type 0} (sc : Outside J O E S M → Scene) (s : Shelves S D) (g : Disks D) (m : Makers M) (what : Replacing) (day : Day)
+    (old new : Outside J O E S M) (r : Result (List ℕ) Refusal) : Type 0 where
+  pub mid : Outside J O E S M
+  pub read : Result (List ℕ) Refusal
+  pub reads : ReadsText what.source read (sc old) (sc mid)
+  pub shelf : ReadsShelf s text_limit what.source old.shelf mid.shelf read
+  pub maker : mid.maker ≡ old.maker
+  pub replaces : ReplacedAfter s g m what day read mid new r

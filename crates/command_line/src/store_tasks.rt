@@ -13,7 +13,7 @@ use crate::frames::{feed, follow};
 use crate::outside::Outside;
 use crate::previews::preview_import;
 use crate::source::read_text;
-use command_words::{Importing, Making, Origin, StoreTask};
+use command_words::{Importing, Making, Origin, Replacing, StoreTask};
 use desk::{Reply, Request};
 use hl_base::{Bytes, Memory, Shelf, Sink, Source, Steps, Text};
 use hl_time::Day;
@@ -21,7 +21,7 @@ use query::Maker;
 use refusals::Refusal;
 use std::alloc::Global;
 use std::sync::ledger::Ledger;
-use store_commands::{StoreEdit, edit_store, reply_line, reply_status};
+use store_commands::{Replacement, StoreEdit, edit_store, replace_store, reply_line, reply_status};
 use store_making::{JournalRefusal, init_store, journal_line, journal_status};
 
 /// The most bytes of a file that is imported, and of its rules.
@@ -197,6 +197,54 @@ fn import<J: Source, O: Sink, E: Sink, S: Shelf, M: Maker, L: Ledger>(
     }
 }
 
+/// Puts a text in the place of a store's.
+fn replace_by<J: Source, O: Sink, E: Sink, S: Shelf, M: Maker, L: Ledger>(
+    alloc: Global,
+    what: &Replacing,
+    text: Bytes,
+    day: Day,
+    outside: &mut Outside<J, O, E, S, M>,
+    steps: &mut Steps<L>,
+) -> Result<Bytes, Refusal>
+    requires { IsDay day.0 }
+    ensures replaces { spec.ReplacedBy S.Shelf S.Disk.Disk M.Maker what.now text day outside.old
+        outside.new result }
+    ensures kind { IfErr result spec.IsOfStored }
+{
+    let base = what.base;
+    let edit = Replacement { text, base, day };
+    match replace_store(
+        alloc,
+        &what.store,
+        edit,
+        &mut outside.shelf,
+        &mut outside.maker,
+        steps,
+    ) {
+        Ok(reply) => answer_reply(alloc, &reply),
+        Err(refusal) => Err(refuse_journal(alloc, &what.store, &refusal)),
+    }
+}
+
+/// Puts the text of the input or of a file in the place of a store's. It is read before the store is taken.
+fn replace<J: Source, O: Sink, E: Sink, S: Shelf, M: Maker, L: Ledger>(
+    alloc: Global,
+    what: &Replacing,
+    day: Day,
+    outside: &mut Outside<J, O, E, S, M>,
+    steps: &mut Steps<L>,
+) -> Result<Bytes, Refusal>
+    requires { IsDay day.0 }
+    ensures replaces { spec.ReplacesText (scene J.Source O.Sink E.Sink S.Shelf M.Maker)
+        S.Shelf S.Disk.Disk M.Maker what.now day outside.old outside.new result }
+    ensures kind { IfErr result spec.IsOfStored }
+{
+    match read_text(alloc, &what.source, outside) {
+        Ok(text) => replace_by(alloc, what, text, day, outside, steps),
+        Err(refusal) => Err(refusal),
+    }
+}
+
 /// What is answered to a command that makes a store, edits one, or is over frames, before anything is written.
 pub(crate) fn answer_stored<J: Source, O: Sink, E: Sink, S: Shelf, M: Maker, L: Ledger>(
     alloc: Global,
@@ -215,6 +263,7 @@ pub(crate) fn answer_stored<J: Source, O: Sink, E: Sink, S: Shelf, M: Maker, L: 
         StoreTask::Add(store) => add(alloc, store, day, outside, steps),
         StoreTask::Import(what) => import(alloc, what, day, outside, steps),
         StoreTask::Preview(what) => preview_import(alloc, what, day, outside, steps),
+        StoreTask::Replace(what) => replace(alloc, &what, day, outside, steps),
         StoreTask::Feed(name) => feed(alloc, &name, outside),
         StoreTask::Follow(what) => follow(alloc, &what, outside),
     }

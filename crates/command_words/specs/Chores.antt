@@ -21,6 +21,7 @@ chore_named word =
     else if bytes_eq word (codes "import") then Some chores.Import
     else if bytes_eq word (codes "talk") then Some chores.Talk
     else if bytes_eq word (codes "sample") then Some chores.Sample
+    else if bytes_eq word (codes "replace") then Some chores.Replace
     else if bytes_eq word (codes "export") then Some chores.Export
     else if bytes_eq word (codes "feed") then Some chores.Feed
     else if bytes_eq word (codes "follow") then Some chores.Follow
@@ -53,6 +54,7 @@ name_of word =
     else if bytes_eq word (codes "--on") then Some names.On
     else if bytes_eq word (codes "--into") then Some names.Into
     else if bytes_eq word (codes "--limit") then Some names.Limit
+    else if bytes_eq word (codes "--base") then Some names.Base
     else if bytes_eq word (codes "--rules") then Some names.Rules
     else if bytes_eq word (codes "--name") then Some names.Remembered
     else if bytes_eq word (codes "--dry-run") then Some names.DryRun
@@ -85,6 +87,7 @@ is_of_texts chores.Hours = true
 is_of_texts chores.Strict = true
 is_of_texts chores.Close = true
 is_of_texts chores.Init = true
+is_of_texts chores.Replace = true
 is_of_texts chores.Talk = true
 is_of_texts _ = false
 
@@ -98,6 +101,10 @@ abbrev pub is_import : Chore → Bool
 is_import chores.Import = true
 is_import _ = false
 
+abbrev pub is_replace : Chore → Bool
+is_replace chores.Replace = true
+is_replace _ = false
+
 abbrev pub is_talk : Chore → Bool
 is_talk chores.Talk = true
 is_talk _ = false
@@ -110,6 +117,7 @@ has_option chore names.Store = is_of_journals chore
 has_option chore names.On = is_close chore
 has_option chore names.Into = is_close chore
 has_option chore names.Limit = is_of_new_stores chore
+has_option chore names.Base = is_replace chore
 has_option chore names.Rules = is_import chore
 has_option chore names.Remembered = is_import chore
 has_option chore names.DryRun = is_import chore

@@ -17,7 +17,7 @@ use Rattle.command_words.specs.Chores.{chore_named}
 use Rattle.command_words.specs.HelpWords.{help_task}
 use Rattle.command_words.specs.Limits.{most_entries}
 use Rattle.command_words.specs.Said.{said_by}
-use Rattle.command_words.specs.StoreWords.{add_task, export_task, feed_task, follow_task, import_task, init_task}
+use Rattle.command_words.specs.StoreWords.{add_task, export_task, feed_task, follow_task, import_task, init_task, replace_task}
 use Rattle.command_words.specs.TalkWords.{sample_task, talk_task, task_alone}
 use Rattle.command_words.specs.Usage.{missing}
 use Rattle.command_words.specs.declared.chores.Chore.{Chore}
@@ -114,6 +114,7 @@ task_over chores.Close said origin = close_task origin said.on (into_or_default 
 task_over chores.Init said origin = init_task origin said.limit said.words
 task_over chores.Add said origin = add_task said.words
 task_over chores.Import said origin = import_task said.dry said.rules said.remembered said.words
+task_over chores.Replace said origin = replace_task origin said.base said.words
 task_over chores.Talk said origin = Ok (talk_task origin said.allow)
 task_over chores.Sample said origin = sample_task said.words
 task_over chores.Export said origin = export_task said.words

@@ -1,6 +1,7 @@
 -- Numbers as words write them, and the limit of a store.
-use Rattle.std.specs.Prelude.{ℕ, ◌-◌, ◌^◌, min, ◌&&◌, nat_le, List, Bool, true, false, Option, Some, None, if◌then◌else◌, ◌==◌, [], ◌∷◌}
+use Rattle.std.specs.Prelude.{ℕ, ◌-◌, ◌^◌, min, ◌&&◌, nat_le, List, Bool, true, false, Option, Some, None, if◌then◌else◌, ◌==◌, [], ◌∷◌, codes}
 use Rattle.std.specs.List.{list_all}
+use Rattle.std.specs.Str.{bytes_eq}
 use Rattle.std.specs.Str.Parse.{digits_value}
 use Rattle.hl_base.specs.Ascii.{digit_zero}
 use Rattle.hl_num.specs.Reading.{is_digit}
@@ -31,6 +32,14 @@ most_limit = 1099511627776
 -- the limit that a text writes
 abbrev pub limit_in : List ℕ → Option ℕ
 limit_in text = number_in most_limit text
+
+-- the greatest revision of a store
+abbrev pub last_revision : ℕ
+last_revision = 4611686018427387904
+
+-- the revision that a text writes: 0, or a number
+abbrev pub base_in : List ℕ → Option ℕ
+base_in text = if bytes_eq text (codes "0") then Some 0 else number_in last_revision text
 
 -- the most entries of a sample
 abbrev pub most_entries : ℕ

@@ -14,7 +14,7 @@ use Rattle.hl_time.specs.declared.fault.TimeFault.{TimeFault}
 use Rattle.report_options.specs.Items.{Piece, after_equals, before_equals, has_value, is_end, is_long, option, piece_of, words}
 use Rattle.desk.specs.declared.request.Allow.{Allow}
 use Rattle.command_words.specs.Chores.{allow_named, check_named, has_option, name_of, takes_value}
-use Rattle.command_words.specs.Limits.{limit_in}
+use Rattle.command_words.specs.Limits.{base_in, limit_in}
 use Rattle.command_words.specs.Usage.{misplaced}
 use Rattle.command_words.specs.declared.chores.Chore.{Chore}
 use Rattle.command_words.specs.declared.chores.Chore.TheVariants as chores
@@ -78,6 +78,11 @@ abbrev pub limit_item : Option ℕ → Option Item
 limit_item (Some limit) = Some (items.Limit limit)
 limit_item None = None
 
+-- the revision that a text is to follow
+abbrev pub base_item : Option ℕ → Option Item
+base_item (Some revision) = Some (items.Base revision)
+base_item None = None
+
 -- what requests may do
 abbrev pub allow_item : Option Allow → Option Item
 allow_item (Some allow) = Some (items.Allow allow)
@@ -95,6 +100,7 @@ valued names.Store word value = store_item word value
 valued names.On word value = day_item value
 valued names.Into word value = account_item value
 valued names.Limit word value = limit_item (limit_in value)
+valued names.Base word value = base_item (base_in value)
 valued names.Rules word value = Some (items.Rules value)
 valued names.Remembered word value = Some (items.Remembered value)
 valued names.Allow word value = allow_item (allow_named value)
@@ -169,7 +175,7 @@ plain_items chore those = all_said (map (plain_item chore) those)
 -- ---- all of it
 
 abbrev pub unsaid : Said
-unsaid = record { dot = false; journal = named.Unnamed; on = None; into = None; limit = None; rules = None; remembered = None; dry = false; allow = None; checks = []; words = [] }
+unsaid = record { dot = false; journal = named.Unnamed; on = None; into = None; limit = None; base = None; rules = None; remembered = None; dry = false; allow = None; checks = []; words = [] }
 
 -- the journal that is named where a file is named too, or a store: the first two words that exclude each other stay
 abbrev pub with_file : Named → List ℕ → Named
@@ -192,6 +198,7 @@ with_item said (items.Store word name) = record said { journal = with_store said
 with_item said (items.On day) = record said { on = Some day }
 with_item said (items.Into account) = record said { into = Some account }
 with_item said (items.Limit limit) = record said { limit = Some limit }
+with_item said (items.Base revision) = record said { base = Some revision }
 with_item said (items.Rules name) = record said { rules = Some name }
 with_item said (items.Remembered name) = record said { remembered = Some name }
 with_item said items.DryRun = record said { dry = true }

@@ -96,6 +96,17 @@ abbrev pub import_task : Bool → Option (List ℕ) → Option (List ℕ) → Li
 import_task dry rules name [] = missing
 import_task dry rules name (store ∷ words) = import_of dry store rules name (plain_name words)
 
+-- a text that is to take the place of a store's
+abbrev pub replacing : Origin → Option ℕ → List ℕ → Task
+replacing source base store = task.Stored (stored.Replace (record { store = store; source = source; base = base }))
+
+abbrev pub replacing_of : Origin → Option ℕ → Result (List ℕ) UsageFault → Result Task UsageFault
+replacing_of source base (Ok store) = Ok (replacing source base store)
+replacing_of source base (Err fault) = Err fault
+
+abbrev pub replace_task : Origin → Option ℕ → List (List ℕ) → Result Task UsageFault
+replace_task source base words = replacing_of source base (plain_name words)
+
 -- ---- frames
 
 -- the frames of a store

@@ -7,7 +7,9 @@ ghost use Rattle.command_words.specs.Usage.{usage_cause};
 
 use crate::chores::Chore;
 use crate::said::{Named, Said, read_said};
-use crate::store_words::{add_task, export_task, feed_task, follow_task, import_task, init_task};
+use crate::store_words::{
+    add_task, export_task, feed_task, follow_task, import_task, init_task, replace_task,
+};
 use crate::talk_words::{sample_task, talk_task};
 use crate::task::{Origin, Task, TextTask};
 use crate::usage::UsageFault;
@@ -149,6 +151,7 @@ fn task_said(alloc: Global, chore: Chore, said: Said) -> Result<Task, UsageFault
         on,
         into,
         limit,
+        base,
         rules,
         remembered,
         dry,
@@ -168,6 +171,7 @@ fn task_said(alloc: Global, chore: Chore, said: Said) -> Result<Task, UsageFault
         Chore::Init => init_task(alloc, origin, limit, words.as_slice()),
         Chore::Add => add_task(alloc, words.as_slice()),
         Chore::Import => import_task(alloc, dry, rules, remembered, words.as_slice()),
+        Chore::Replace => replace_task(alloc, origin, base, words.as_slice()),
         Chore::Talk => Ok(talk_task(origin, allow)),
         Chore::Sample => sample_task(alloc, words.as_slice()),
         Chore::Export => export_task(alloc, words.as_slice()),

@@ -25,6 +25,8 @@ pub enum Chore {
     Talk,
     /// A sample.
     Sample,
+    /// A text in the place of a store's.
+    Replace,
     /// The text of a store.
     Export,
     /// The frames of a store.
@@ -42,6 +44,7 @@ pub(crate) enum Name {
     On,
     Into,
     Limit,
+    Base,
     Rules,
     Remembered,
     DryRun,
@@ -75,6 +78,8 @@ pub(crate) fn chore_named(word: &[u8]) -> Option<Chore>
         Some(Chore::Talk)
     } else if is_same(word, b"sample") {
         Some(Chore::Sample)
+    } else if is_same(word, b"replace") {
+        Some(Chore::Replace)
     } else if is_same(word, b"export") {
         Some(Chore::Export)
     } else if is_same(word, b"feed") {
@@ -139,6 +144,8 @@ pub(crate) fn name_of(word: &[u8]) -> Option<Name>
         Some(Name::Into)
     } else if is_same(word, b"--limit") {
         Some(Name::Limit)
+    } else if is_same(word, b"--base") {
+        Some(Name::Base)
     } else if is_same(word, b"--rules") {
         Some(Name::Rules)
     } else if is_same(word, b"--name") {
@@ -164,6 +171,7 @@ pub(crate) fn takes_value(name: Name) -> bool
         | Name::On
         | Name::Into
         | Name::Limit
+        | Name::Base
         | Name::Rules
         | Name::Remembered
         | Name::Allow => true,
@@ -177,12 +185,13 @@ pub(crate) fn has_option(chore: Chore, name: Name) -> bool
     match name {
         Name::File => matches!(
             chore,
-            Chore::Hours | Chore::Strict | Chore::Close | Chore::Init | Chore::Talk
+            Chore::Hours | Chore::Strict | Chore::Close | Chore::Init | Chore::Replace | Chore::Talk
         ),
         Name::Dot => matches!(chore, Chore::Hours),
         Name::Store => matches!(chore, Chore::Strict | Chore::Close | Chore::Talk),
         Name::On | Name::Into => matches!(chore, Chore::Close),
         Name::Limit => matches!(chore, Chore::Init | Chore::Follow),
+        Name::Base => matches!(chore, Chore::Replace),
         Name::Rules | Name::Remembered | Name::DryRun => matches!(chore, Chore::Import),
         Name::Allow => matches!(chore, Chore::Talk),
     }

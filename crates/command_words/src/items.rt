@@ -4,12 +4,12 @@ ghost use Rattle.std.specs.List.{starts_with};
 ghost use Rattle.std.specs.Str.{bytes_eq};
 ghost use Rattle.hl_base.specs.Gives.{Gives};
 ghost use Rattle.report_options.specs.Items as cut;
-ghost use Rattle.command_words.specs.Limits.{limit_in};
+ghost use Rattle.command_words.specs.Limits.{base_in, limit_in};
 ghost use Rattle.command_words.specs.Said as spec;
 ghost use Rattle.command_words.specs.Usage.{usage_cause};
 
 use crate::chores::{Chore, Name, allow_named, check_named, has_option, name_of, takes_value};
-use crate::limit::limit_of;
+use crate::limit::{base_of, limit_of};
 use crate::usage::UsageFault;
 use book::Side;
 use book_care::Check;
@@ -36,6 +36,8 @@ pub(crate) enum Item {
     Into(Text),
     /// The most bytes of each file of a store.
     Limit(u64),
+    /// The revision that a text is to follow.
+    Base(u64),
     /// The name of the file of the rules.
     Rules(Text),
     /// The name under which an import is remembered.
@@ -194,6 +196,16 @@ fn limit_item(text: &[u8]) -> Option<Item>
     }
 }
 
+/// The revision that a text writes.
+fn base_item(text: &[u8]) -> Option<Item>
+    ensures { result ≡ spec.base_item (base_in text.now) }
+{
+    match base_of(text) {
+        Some(revision) => Some(Item::Base(revision)),
+        None => None,
+    }
+}
+
 /// What requests may do, if a word says that.
 fn allow_item(allow: Option<Allow>) -> Option<Item>
     ensures { result ≡ spec.allow_item allow }
@@ -224,6 +236,7 @@ fn valued(alloc: Global, name: Name, word: &Text, value: &str) -> Result<Option<
         Name::On => Ok(day_item(value.as_bytes())),
         Name::Into => account_item(alloc, value.as_bytes()),
         Name::Limit => Ok(limit_item(value.as_bytes())),
+        Name::Base => Ok(base_item(value.as_bytes())),
         Name::Rules => Ok(Some(Item::Rules(Text::copied(alloc, value)?))),
         Name::Remembered => Ok(Some(Item::Remembered(Text::copied(alloc, value)?))),
         Name::Allow => Ok(allow_item(allow_named(value.as_bytes()))),
@@ -242,6 +255,7 @@ fn bare(name: Name) -> Option<Item>
         | Name::On
         | Name::Into
         | Name::Limit
+        | Name::Base
         | Name::Rules
         | Name::Remembered
         | Name::Allow => None,
@@ -316,6 +330,7 @@ pub(crate) fn plain_item(alloc: Global, chore: Chore, word: &Text) -> Result<Ite
         | Chore::Init
         | Chore::Add
         | Chore::Import
+        | Chore::Replace
         | Chore::Sample
         | Chore::Export
         | Chore::Feed

@@ -14,6 +14,8 @@ mod usage;
 mod words;
 
 pub use chores::Chore;
-pub use task::{Following, Importing, Making, Origin, StoreTask, Subject, Talking, Task, TextTask};
+pub use task::{
+    Following, Importing, Making, Origin, Replacing, StoreTask, Subject, Talking, Task, TextTask,
+};
 pub use usage::UsageFault;
 pub use words::{read_words, refuse_words};

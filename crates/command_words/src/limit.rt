@@ -1,6 +1,7 @@
 //! Numbers as words write them, and the limit of a store.
-ghost use Rattle.std.specs.Prelude.{◌≡◌, ◌≤◌, true, min, IfSome};
+ghost use Rattle.std.specs.Prelude.{◌≡◌, ◌≤◌, true, min, IfSome, codes};
 ghost use Rattle.std.specs.List.{list_all};
+ghost use Rattle.std.specs.Str.{bytes_eq};
 ghost use Rattle.std.specs.Str.Parse.{digits_value};
 ghost use Rattle.hl_num.specs.Reading.{is_digit};
 ghost use Rattle.command_words.specs.Limits as spec;
@@ -9,6 +10,9 @@ use hl_base::are_digits;
 
 /// The greatest limit of a store, in bytes.
 pub(crate) const MOST_LIMIT: u64 = 1_099_511_627_776;
+
+/// The greatest revision of a store.
+const LAST_REVISION: u64 = 4_611_686_018_427_387_904;
 
 /// The number of some digits, or the greatest that is told.
 fn digits_number(text: &[u8]) -> u64
@@ -74,4 +78,22 @@ pub(crate) fn limit_of(text: &[u8]) -> Option<u64>
     ensures { result ≡ spec.limit_in text.now }
 {
     number_of(MOST_LIMIT, text)
+}
+
+/// Whether a text is 0.
+fn is_zero(text: &[u8]) -> bool
+    ensures { result ≡ bytes_eq text.now (codes "0") }
+{
+    text == b"0".as_slice()
+}
+
+/// The revision that a text writes: 0, or a number up to 2^62.
+pub(crate) fn base_of(text: &[u8]) -> Option<u64>
+    ensures { result ≡ spec.base_in text.now }
+{
+    if is_zero(text) {
+        Some(0)
+    } else {
+        number_of(LAST_REVISION, text)
+    }
 }

@@ -6,7 +6,7 @@ ghost use Rattle.command_words.specs.StoreWords as spec;
 ghost use Rattle.command_words.specs.Usage.{usage_cause};
 
 use crate::limit::MOST_LIMIT;
-use crate::task::{Following, Importing, Making, Origin, StoreTask, Task, TextTask};
+use crate::task::{Following, Importing, Making, Origin, Replacing, StoreTask, Task, TextTask};
 use crate::usage::UsageFault;
 use book_commands::Work;
 use hl_base::{Memory, Text};
@@ -211,6 +211,33 @@ pub(crate) fn import_task(
         [] => Err(UsageFault::Missing),
         [store, rest @ ..] => import_into(alloc, dry, store, rules, name, rest),
     }
+}
+
+/// A text that is to take the place of the one of the store of this name.
+fn replacing(store: Text, source: Origin, base: Option<u64>) -> Task
+    ensures task { result ≡ spec.replacing source base store }
+    ensures valid { IsReadable result }
+{
+    Task::Stored(StoreTask::Replace(Replacing {
+        store,
+        source,
+        base,
+    }))
+}
+
+/// A text that is to take the place of the one of the store that the words name.
+pub(crate) fn replace_task(
+    alloc: Global,
+    source: Origin,
+    base: Option<u64>,
+    words: &[Text],
+) -> Result<Task, UsageFault>
+    ensures answer { Gives (λ task.
+        task) usage_cause result (spec.replace_task source base words.now) }
+    ensures valid { IfOk result IsReadable }
+{
+    let store = plain_name(alloc, words)?;
+    Ok(replacing(store, source, base))
 }
 
 /// The frames of the store of this name.

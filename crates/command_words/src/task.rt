@@ -50,6 +50,17 @@ pub struct Importing {
     pub name: Text,
 }
 
+/// A text that is to take the place of a store's.
+#[derive(Drop)]
+pub struct Replacing {
+    /// The name of the store.
+    pub store: Text,
+    /// Where the text is.
+    pub source: Origin,
+    /// The revision that the store has to have, where one is given.
+    pub base: Option<u64>,
+}
+
 /// A replica that is to follow the frames of a store, which are the input.
 #[derive(Drop)]
 pub struct Following {
@@ -70,6 +81,8 @@ pub enum StoreTask {
     Import(Importing),
     /// What an import would add.
     Preview(Importing),
+    /// A text in the place of a store's.
+    Replace(Replacing),
     /// The frames of the store of this name.
     Feed(Text),
     /// That a replica follows.

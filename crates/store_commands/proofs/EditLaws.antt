@@ -14,6 +14,7 @@ use Rattle.text_store.specs.Stores.{Tell, fault_count}
 use Rattle.desk.specs.declared.desk.Desk.{Desk}
 use Rattle.desk.specs.declared.reply.Reply.{Reply}
 use Rattle.desk.specs.declared.request.Request.{Request}
+use Rattle.desk.specs.declared.request.Request.TheVariants as requests
 use Rattle.desk.specs.Desks.{faults_of, shown_by, state_of}
 use Rattle.desk.specs.States.{State, answer_to, deed_in}
 use Rattle.desk.specs.Steps.{is_fault, next_of}
@@ -28,6 +29,7 @@ use Rattle.store_making.specs.Refusals.{of_store}
 use Rattle.store_making.specs.declared.refusal.JournalRefusal.{JournalRefusal}
 use Rattle.store_making.specs.declared.refusal.JournalRefusal.TheVariants as journal
 use Rattle.store_commands.specs.Asking.{AsksDisks, EditsStore, HasFault, IsAsked, IsOfOpening, IsRefusedBy, IsReplied, IsUnopened, OpensAs, Outcome, Patterns, PatternsStay, ShowsAfter, WereTaken, limit_under, size_under, state_under}
+use Rattle.store_commands.specs.Replacing.{ReplacesDisks, ReplacesStore, base_or, revision_of}
 use Rattle.store_commands.specs.Replies.{IsEdit, IsEditReply}
 use Rattle.store_commands.proofs.AskingLaws.{is_step, kind_is, no_read, reads_after, refused_by, reply_kind, reply_rose, rose_is, state_so}
 use Rattle.store_commands.proofs.ReplyLaws.{gives_same}
@@ -332,6 +334,12 @@ module _ {S D : Type 0} (s : Shelves S D) (g : Disks D) (name : List ℕ) (reque
           tells = back_tells s g name beside out new back returns (apart name) ∙ out_tells s g false name beside old out lent takes;
         }
 
+    -- the revision of the machine that was opened is that of the files
+    revision_so : (desk : Desk D g) → OpensAs g lent desk → IsTrue ((s.tells old).files) → revision_of (image_under (s.file old) name) ≡ desk.live.revision
+    revision_so desk opens told =
+        ap revision_of (image_old told)
+        ∙ ap (λ (x : Result Image NoImage). revision_of (Some x)) (opens.shown (there told).0 second_bytes (there told).2 (reads_second told)).0
+
     -- it wasn't opened
     unopened : (e : JournalRefusal) → IsUnopened g lent back e → PatternsStay p → Edits new (refused e)
     unopened e is quiet = common (refused e) (
@@ -460,7 +468,54 @@ module _ {S D : Type 0} (s : Shelves S D) (g : Disks D) (name : List ℕ) (reque
       through out new lent back (subst (λ (x : List ℕ). AreTaken s g false name x old out lent) is takes)
       (subst (λ (x : List ℕ). CameBack s g name x out new back) is returns) is_edit result asks
 
+  pub revision_at : (b : List ℕ) → b ≡ beside → (out new : S) (lent back : D × D) → AreTaken s g false name b old out lent → CameBack s g name b out new back
+      → (desk : Desk D g) → OpensAs g lent desk → IsTrue ((s.tells old).files) → revision_of (image_under (s.file old) name) ≡ desk.live.revision
+  revision_at b is out new lent back takes returns desk opens told =
+      revision_so out new lent back (subst (λ (x : List ℕ). AreTaken s g false name x old out lent) is takes)
+      (subst (λ (x : List ℕ). CameBack s g name x out new back) is returns) desk opens told
+
   -- what a store that was asked replies is a reply to an edit
   pub edits_kind : (new : S) (result : Result Reply JournalRefusal) → Edits new result → IfOk result IsEditReply
   edits_kind new (Ok r) edits = edits.outcome.kind
   edits_kind new (Err e) edits = tt
+
+-- ---- a text in the place of a store's
+
+-- what is asked of a store with a revision
+abbrev asks_at : Option ℕ → List ℕ → ℕ → Request
+asks_at base text revision = requests.Replace (base_or base revision) text
+
+module _ {S D : Type 0} (s : Shelves S D) (g : Disks D) (name text : List ℕ) (base : Option ℕ) (day : Day) (p : Patterns) (old : S) where
+  abbrev pub Replaces : S → Result Reply JournalRefusal → Type 0
+  Replaces new result = ReplacesStore s g name text base day p old new result
+
+  -- the revision that the files have
+  abbrev of_files : ℕ
+  of_files = revision_of (image_under (s.file old) name)
+
+  pub uncalled_replaces : PatternsStay p → Replaces old (refused journal.Memory)
+  uncalled_replaces quiet = record { revision = of_files; is = λ told. refl; edits = uncalled s g name (asks_at base text of_files) day p old quiet }
+
+  pub untaken_replaces : (new : S) (r : StoreRefusal) → PatternsStay p → (b : List ℕ) → b ≡ second_name name → AreUntaken s g false name b old new r
+      → Replaces new (refused (of_store r))
+  untaken_replaces new r quiet b is untaken =
+      record { revision = of_files; is = λ told. refl; edits = untaken_at s g name (asks_at base text of_files) day p old new r quiet b is untaken }
+
+  pub replaces_at : (b : List ℕ) → b ≡ second_name name → (out new : S) (lent back : D × D) → AreTaken s g false name b old out lent → CameBack s g name b out new back
+      → (result : Result Reply JournalRefusal) → ReplacesDisks g lent back text base day p result → Replaces new result
+  replaces_at b is out new lent back takes returns (Ok r) replaces =
+      let desk = replaces.0 in
+      let asked : Request = asks_at base text desk.live.revision in
+      record {
+        revision = desk.live.revision;
+        is = λ told. sym (revision_at s g name asked day p old b is out new lent back takes returns desk replaces.1 told);
+        edits = through_at s g name asked day p old b is out new lent back takes returns tt (Ok r) (desk, replaces.1, replaces.2);
+      }
+  replaces_at b is out new lent back takes returns (Err e) replaces = record {
+    revision = of_files;
+    is = λ told. refl;
+    edits = through_at s g name (asks_at base text of_files) day p old b is out new lent back takes returns tt (Err e) replaces;
+  }
+
+  pub replaces_kind : (new : S) (result : Result Reply JournalRefusal) → Replaces new result → IfOk result IsEditReply
+  replaces_kind new result replaces = edits_kind s g name (asks_at base text replaces.revision) day p old new result replaces.edits

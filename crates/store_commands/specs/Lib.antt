@@ -1,3 +1,4 @@
 pub mod Asking
 pub mod Previews
+pub mod Replacing
 pub mod Replies

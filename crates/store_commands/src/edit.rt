@@ -3,11 +3,12 @@ ghost use Rattle.std.specs.Prelude.{◌≡◌, IfOk};
 ghost use Rattle.hl_time.specs.Calendar.{IsDay};
 ghost use Rattle.store_text.specs.Shelved.{second_name as second_name_of};
 ghost use Rattle.store_commands.specs.Asking.{EditsStore, told_by};
+ghost use Rattle.store_commands.specs.Replacing.{ReplacesStore};
 ghost use Rattle.store_commands.specs.Replies.{IsEdit, IsEditReply};
 
-use crate::asking::ask_disks;
+use crate::asking::{ask_disks, replace_in_disks};
 use desk::{Reply, Request};
-use hl_base::{Shelf, Steps, Text};
+use hl_base::{Bytes, Shelf, Steps, Text};
 use hl_time::Day;
 use query::Maker;
 use std::alloc::Global;
@@ -69,4 +70,57 @@ pub fn edit_store<S: Shelf, M: Maker, L: Ledger>(
         return Err(JournalRefusal::Memory);
     };
     edit_beside(alloc, edit, &beside, shelf, maker, steps)
+}
+
+/// A text that replaces a store's, on a day. Its base is the revision that the sender saw; where none is given it is the store's.
+#[derive(Drop)]
+pub struct Replacement {
+    pub text: Bytes,
+    pub base: Option<u64>,
+    pub day: Day,
+}
+
+/// Replaces the text of the store, whose second file has the other name.
+fn replace_beside<S: Shelf, M: Maker, L: Ledger>(
+    alloc: Global,
+    store: &Text,
+    what: Replacement,
+    beside: &Text,
+    shelf: &mut S,
+    maker: &mut M,
+    steps: &mut Steps<L>,
+) -> Result<Reply, JournalRefusal>
+    requires day { IsDay what.day.0 }
+    requires name { beside.now ≡ second_name_of store.now }
+    ensures { ReplacesStore S.Shelf S.Disk.Disk store.now what.text what.base what.day
+        (told_by M.Maker maker.old maker.new) shelf.old shelf.new result }
+{
+    match take_disks(alloc, shelf, store, beside, false) {
+        Ok((first, second)) => {
+            let (first, second, asked) = replace_in_disks(alloc, first, second, what, maker, steps);
+            give_back_disks(shelf, store, beside, first, second);
+            asked
+        }
+        Err(refusal) => Err(of_store(refusal)),
+    }
+}
+
+/// Replaces the text of a store, as `edit_store` makes an edit. With a base it is refused where the store has another revision.
+pub fn replace_store<S: Shelf, M: Maker, L: Ledger>(
+    alloc: Global,
+    store: &Text,
+    what: Replacement,
+    shelf: &mut S,
+    maker: &mut M,
+    steps: &mut Steps<L>,
+) -> Result<Reply, JournalRefusal>
+    requires { IsDay what.day.0 }
+    ensures replaces { ReplacesStore S.Shelf S.Disk.Disk store.now what.text what.base what.day
+        (told_by M.Maker maker.old maker.new) shelf.old shelf.new result }
+    ensures kind { IfOk result IsEditReply }
+{
+    let Ok(beside) = second_name(alloc, store) else {
+        return Err(JournalRefusal::Memory);
+    };
+    replace_beside(alloc, store, what, &beside, shelf, maker, steps)
 }

@@ -6,6 +6,6 @@ mod edit;
 mod lines;
 mod preview;
 
-pub use edit::{StoreEdit, edit_store};
+pub use edit::{Replacement, StoreEdit, edit_store, replace_store};
 pub use lines::{reply_line, reply_status};
 pub use preview::{Preview, preview_edit};
