@@ -11,13 +11,17 @@ use query::{Maker, RegexMaker};
 use shared_desk::Kit;
 use std::net::{Net, TcpListener, TcpStream};
 use std::rt::Clock;
+use std::sync::Wait;
+use waiting_room::Entrance;
 
 /// A listener's address on this machine, with a door for each worker.
 #[derive(Drop)]
 pub struct SocketHouse<'a, R> {
     rt: &'a R,
     zone: &'a Zone,
-    listener: Option<TcpListener>,
+    /// Whether connections wait for their next message in a room, or are each served to its end.
+    has_room: bool,
+    entrance: Option<Entrance>,
     binds: u64,
     last: Option<(Text, u16)>,
     faults: u64,
@@ -25,15 +29,17 @@ pub struct SocketHouse<'a, R> {
 }
 
 impl<'a, R> SocketHouse<'a, R> {
-    /// A house that wasn't asked to bind yet, whose clocks are in a zone.
-    pub fn new(rt: &'a R, zone: &'a Zone) -> SocketHouse<'a, R>
+    /// A house that wasn't asked to bind yet, whose clocks are in a zone. With a room a worker has a connection for one message
+    /// at a time; without one it has it to its end.
+    pub fn new(rt: &'a R, zone: &'a Zone, has_room: bool) -> SocketHouse<'a, R>
         ensures binds { (result.binds ≡ 0) × (result.last ≡ None) }
         ensures counts { (result.faults ≡ 0) × (result.refusals ≡ 0) }
     {
         SocketHouse {
             rt,
             zone,
-            listener: None,
+            has_room,
+            entrance: None,
             binds: 0,
             last: None,
             faults: 0,
@@ -42,10 +48,10 @@ impl<'a, R> SocketHouse<'a, R> {
     }
 }
 
-/// One more handle of a listener, where there is one.
-fn handle_of(listener: &Option<TcpListener>) -> Option<TcpListener> {
-    match listener {
-        Some(listener) => listener.try_clone().ok(),
+/// The entrance of one more worker, where there is one.
+fn entrance_for_one_more<R: Wait>(rt: &R, entrance: &Option<Entrance>) -> Option<Entrance> {
+    match entrance {
+        Some(entrance) => entrance.for_one_more(rt),
         None => None,
     }
 }
@@ -68,9 +74,11 @@ fn with_maker(refusals: u64, more: u64) -> u64
     refusals.saturating_add(more)
 }
 
-impl<'a, R: Net<Listener = TcpListener, Stream = TcpStream> + Clock + Sync> House
-    for SocketHouse<'a, R> {
-    type Door = SocketDoor;
+impl<
+    'a,
+    R: Net<Listener = TcpListener, Stream = TcpStream> + Clock + Wait + Sync + AllocGlobal,
+> House for SocketHouse<'a, R> {
+    type Door = SocketDoor<'a, R>;
 
     type Clock = SystemClock<'a, R>;
 
@@ -82,12 +90,12 @@ impl<'a, R: Net<Listener = TcpListener, Stream = TcpStream> + Clock + Sync> Hous
     ghost told = { λ h. silent (bound_of h.binds h.last) h.faults h.refusals };
 
     fn bind(&mut self, host: Text, port: u16) -> Result<(), Failed> {
-        let outcome = TcpListener::bind(self.rt, (host.as_str(), port));
+        let outcome = Entrance::open(self.rt, host.as_str(), port, self.has_room);
         self.binds = self.binds.saturating_add(1);
         self.last = Some((host, port));
         match outcome {
-            Ok(listener) => {
-                self.listener = Some(listener);
+            Ok(entrance) => {
+                self.entrance = Some(entrance);
                 Ok(())
             }
             Err(_) => {
@@ -97,10 +105,10 @@ impl<'a, R: Net<Listener = TcpListener, Stream = TcpStream> + Clock + Sync> Hous
         }
     }
 
-    fn worker(&mut self) -> Result<Kit<SocketDoor, SystemClock<'a, R>, RegexMaker>, Failed> {
-        match handle_of(&self.listener) {
-            Some(listener) => Ok(Kit {
-                door: SocketDoor::new(listener),
+    fn worker(&mut self) -> Result<Kit<SocketDoor<'a, R>, SystemClock<'a, R>, RegexMaker>, Failed> {
+        match entrance_for_one_more(self.rt, &self.entrance) {
+            Some(entrance) => Ok(Kit {
+                door: SocketDoor::new(self.rt, entrance),
                 clock: SystemClock::new(self.rt, self.zone),
                 maker: RegexMaker::new(),
             }),
@@ -111,7 +119,7 @@ impl<'a, R: Net<Listener = TcpListener, Stream = TcpStream> + Clock + Sync> Hous
         }
     }
 
-    fn give_back(&mut self, kit: Kit<SocketDoor, SystemClock<'a, R>, RegexMaker>)
+    fn give_back(&mut self, kit: Kit<SocketDoor<'a, R>, SystemClock<'a, R>, RegexMaker>)
         ensures { TakesBack
             (silent (bound_of self.old.binds self.old.last) self.old.faults self.old.refusals)
             (silent (bound_of self.new.binds self.new.last) self.new.faults self.new.refusals)

@@ -80,7 +80,7 @@ pub fn run_process<
                     shelf: FileShelf::new(rt),
                     maker: RegexMaker::new(),
                 },
-                house: SocketHouse::new(rt, &zone),
+                house: SocketHouse::new(rt, &zone, !limits_connections(words.as_slice())),
             };
             let Status(status) = counted::<Brand, _, _, _, _, _, _, _>(
                 rt,
@@ -115,6 +115,13 @@ fn words<R: Env + AllocGlobal>(rt: &R) -> Result<Vec<Text>, NoWords> {
         }
     }
     Ok(words)
+}
+
+/// Whether the words limit the connections that each worker serves.
+fn limits_connections(words: &[Text]) -> bool {
+    words
+        .iter()
+        .any(|word| word.as_bytes().starts_with(b"--connections"))
 }
 
 /// Says why the program doesn't begin: a word that isn't UTF-8 is a faulty command line, with status 2, and for want of

@@ -1,105 +1,35 @@
-//! Connections over sockets, and the doors at which they come. They tell nothing of their bytes.
-ghost use Rattle.std.specs.Prelude.{◌≡◌, ◌≤◌, IfOk, length};
+//! Connections over sockets, and the doors at which they come. Their clauses say nothing of the bytes.
+ghost use Rattle.std.specs.Prelude.{◌≡◌};
 
 use hl_base::{Door, Failed, Knock, Link};
-use std::io::{self, ErrorKind, Read, Write};
-use std::net::{Shutdown, TcpListener, TcpStream};
-use std::time::Duration;
-
-/// How long a read or a write of a connection waits for its peer, in seconds.
-const PATIENCE: u64 = 30;
-
-/// How long a read waits for what a peer still sends to a connection that is closed, in seconds.
-const PARTING: u64 = 1;
-
-/// How often such a read is made before the connection is dropped.
-const PARTING_READS: u64 = 64;
-
-/// How many connections that are broken off before they are served one call of a door passes over.
-const BROKEN_OFF: u64 = 64;
-
-/// How often a read or a write that a signal breaks off is made again.
-const AGAIN: u64 = 64;
+use std::rt::Clock;
+use std::sync::Wait;
+use waiting_room::{Caller, Entrance};
 
 /// A connection over a socket.
 #[derive(Drop)]
-pub struct SocketLink {
-    stream: TcpStream,
+pub struct SocketLink<'a, R> {
+    rt: &'a R,
+    caller: Caller,
     read_faults: u64,
     write_faults: u64,
 }
 
-impl SocketLink {
+impl<'a, R> SocketLink<'a, R> {
     /// A connection of which no call has failed.
-    fn new(stream: TcpStream) -> SocketLink
+    fn new(rt: &'a R, caller: Caller) -> SocketLink<'a, R>
         ensures { (result.read_faults ≡ 0) × (result.write_faults ≡ 0) }
     {
         SocketLink {
-            stream,
+            rt,
+            caller,
             read_faults: 0,
             write_faults: 0,
         }
     }
-
-    /// Ends the connection in order: says that no more is sent, and takes for a moment what the peer still sends, so that what was
-    /// sent reaches it.
-    fn part(self) {
-        let SocketLink { stream, .. } = self;
-        let mut stream = stream;
-        if stream.shutdown(Shutdown::Write).is_err() {
-            return;
-        }
-        if stream
-            .set_read_timeout(Some(Duration::from_secs(PARTING)))
-            .is_err()
-        {
-            return;
-        }
-        let mut room = [0u8; 16384];
-        for _read in 0..PARTING_READS {
-            match read_some(&mut stream, &mut room) {
-                Ok(count) if count > 0 => {}
-                _ => return,
-            }
-        }
-    }
 }
 
-/// Whether a signal broke the call off, as one that stops the process and has it go on.
-fn is_interrupted(told: &io::Result<usize>) -> bool {
-    match told {
-        Ok(_) => false,
-        Err(error) => matches!(error.kind(), ErrorKind::Interrupted),
-    }
-}
-
-/// Reads some bytes, and again where a signal breaks the call off.
-fn read_some(stream: &mut TcpStream, room: &mut [u8]) -> io::Result<usize>
-    ensures { IfOk result (λ count. count ≤ length room.old) }
-{
-    for _broken in 0..AGAIN {
-        let told = stream.read(room);
-        if !is_interrupted(&told) {
-            return told;
-        }
-    }
-    stream.read(room)
-}
-
-/// Writes some bytes, and again where a signal breaks the call off.
-fn write_some(stream: &mut TcpStream, piece: &[u8]) -> io::Result<usize>
-    ensures { IfOk result (λ count. count ≤ length piece.now) }
-{
-    for _broken in 0..AGAIN {
-        let told = stream.write(piece);
-        if !is_interrupted(&told) {
-            return told;
-        }
-    }
-    stream.write(piece)
-}
-
-impl Link for SocketLink {
+impl<R: Wait + Clock> Link for SocketLink<'_, R> {
     ghost use Rattle.std.specs.Prelude.{None};
 
     ghost coming = { λ _. None };
@@ -113,7 +43,7 @@ impl Link for SocketLink {
     ghost HasRoom = { λ _ _. ⊥ };
 
     fn read(&mut self, room: &mut [u8]) -> Result<usize, Failed> {
-        match read_some(&mut self.stream, room) {
+        match self.caller.read(self.rt, room) {
             Ok(count) => Ok(count),
             Err(_) => {
                 self.read_faults = self.read_faults.saturating_add(1);
@@ -123,7 +53,7 @@ impl Link for SocketLink {
     }
 
     fn write(&mut self, piece: &[u8]) -> Result<usize, Failed> {
-        match write_some(&mut self.stream, piece) {
+        match self.caller.write(self.rt, piece) {
             Ok(count) if count > 0 || piece.is_empty() => Ok(count),
             _ => {
                 self.write_faults = self.write_faults.saturating_add(1);
@@ -133,68 +63,36 @@ impl Link for SocketLink {
     }
 }
 
-/// A connection waits for its peer no longer than its time limit, and sends each reply at once.
-fn set_patience(stream: &TcpStream) -> io::Result<()> {
-    stream.set_read_timeout(Some(Duration::from_secs(PATIENCE)))?;
-    stream.set_write_timeout(Some(Duration::from_secs(PATIENCE)))?;
-    stream.set_nodelay(true)
-}
-
-/// Whether a connection was broken off by its peer before it was taken.
-fn is_broken_off(error: &io::Error) -> bool {
-    matches!(
-        error.kind(),
-        ErrorKind::ConnectionAborted | ErrorKind::ConnectionReset | ErrorKind::Interrupted
-    )
-}
-
-/// Waits for the next connection that isn't broken off at once, or for a fault of the listener.
-fn accept(listener: &TcpListener) -> Option<TcpStream> {
-    for _broken in 0..BROKEN_OFF {
-        match listener.accept() {
-            Ok((stream, _)) => {
-                if set_patience(&stream).is_ok() {
-                    return Some(stream);
-                }
-            }
-            Err(error) => {
-                if !is_broken_off(&error) {
-                    return None;
-                }
-            }
-        }
-    }
-    None
-}
-
-/// One worker's door on a listener that it shares with others.
+/// One worker's door at an entrance that it shares with others.
 #[derive(Drop)]
-pub struct SocketDoor {
-    listener: TcpListener,
+pub struct SocketDoor<'a, R> {
+    rt: &'a R,
+    entrance: Entrance,
     faults: u64,
 }
 
-impl SocketDoor {
+impl<'a, R> SocketDoor<'a, R> {
     /// A door of which no call has failed.
-    pub(crate) fn new(listener: TcpListener) -> SocketDoor
+    pub(crate) fn new(rt: &'a R, entrance: Entrance) -> SocketDoor<'a, R>
         ensures { result.faults ≡ 0 }
     {
         SocketDoor {
-            listener,
+            rt,
+            entrance,
             faults: 0,
         }
     }
 
     /// How many calls have failed.
     pub(crate) fn faults(&self) -> u64
-        ensures { result ≡ ⟦<SocketDoor as Door>⟧.faults self.now }
+        ensures { result ≡ self.now.faults }
     {
         self.faults
     }
 }
 
-impl Door for SocketDoor {
-    type Link = SocketLink;
+impl<'a, R: Wait + Clock + Sync> Door for SocketDoor<'a, R> {
+    type Link = SocketLink<'a, R>;
 
     ghost use Rattle.std.specs.Prelude.{None};
 
@@ -206,9 +104,9 @@ impl Door for SocketDoor {
 
     ghost IsSound = { λ _. ⊥ };
 
-    fn next(&mut self) -> Knock<SocketLink> {
-        match accept(&self.listener) {
-            Some(stream) => Knock::Link(SocketLink::new(stream)),
+    fn next(&mut self) -> Knock<SocketLink<'a, R>> {
+        match self.entrance.next(self.rt) {
+            Some(caller) => Knock::Link(SocketLink::new(self.rt, caller)),
             None => {
                 self.faults = self.faults.saturating_add(1);
                 Knock::Failed
@@ -216,7 +114,13 @@ impl Door for SocketDoor {
         }
     }
 
-    fn give_back(&mut self, link: SocketLink) {
-        link.part();
+    fn give_back(&mut self, link: SocketLink<'a, R>) {
+        let SocketLink {
+            caller,
+            read_faults,
+            write_faults,
+            ..
+        } = link;
+        caller.leave(self.rt, read_faults, write_faults);
     }
 }
