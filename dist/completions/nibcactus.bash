@@ -2,7 +2,7 @@
 _nibcactus() {
     local word=${COMP_WORDS[COMP_CWORD]} before=${COMP_WORDS[COMP_CWORD - 1]} options='' plain=''
     if [ "$COMP_CWORD" = 1 ]; then
-        mapfile -t COMPREPLY < <(compgen -W 'balance bal register reg incomestatement is balancesheet bs print accounts check strict close hours init add import export serve feed follow talk sample --help --version' -- "$word")
+        mapfile -t COMPREPLY < <(compgen -W 'balance bal register reg incomestatement is balancesheet bs print accounts check strict close hours init add import export replace serve feed follow talk sample --help --version' -- "$word")
         return
     fi
     # The value of an option stands behind `=`, which bash takes for a word, or is the next word.
@@ -24,8 +24,9 @@ _nibcactus() {
         hours) options='--dot -f' plain='' ;;
         init) options='-f --limit=' plain='' ;;
         add) options='' plain='' ;;
-        import) options='--rules=' plain='' ;;
+        import) options='--rules= --name= --dry-run' plain='' ;;
         export) options='' plain='' ;;
+        replace) options='-f --base=' plain='' ;;
         serve) options='--host= --port= --allow= --workers= --connections=' plain='' ;;
         feed) options='' plain='' ;;
         follow) options='--limit=' plain='' ;;

@@ -17,12 +17,13 @@ complete -c nibcactus -n __fish_use_subcommand -f -a init -d 'a store of the jou
 complete -c nibcactus -n __fish_use_subcommand -f -a add -d 'adds the entry on standard input'
 complete -c nibcactus -n __fish_use_subcommand -f -a import -d 'adds a bank\'s file; --rules=NAME, else FILE.rules'
 complete -c nibcactus -n __fish_use_subcommand -f -a export -d 'the text of a store'
+complete -c nibcactus -n __fish_use_subcommand -f -a replace -d 'replaces its text with the journal; --base=N: only at that revision'
 complete -c nibcactus -n __fish_use_subcommand -f -a serve -d 'over HTTP, to several people; --host, --port, --workers=N, --connections=N, --allow=LEVEL: view, add (the default) or edit'
 complete -c nibcactus -n __fish_use_subcommand -f -a feed -d 'its records, as frames'
 complete -c nibcactus -n __fish_use_subcommand -f -a follow -d 'a store that keeps the frames on standard input; --limit=N'
 complete -c nibcactus -n __fish_use_subcommand -f -a talk -d 'one HTTP connection over standard input and output --allow=LEVEL: view, add (the default) or edit'
 complete -c nibcactus -n __fish_use_subcommand -f -a sample -d 'loads a journal of N entries, and says how long it is'
-complete -c nibcactus -n __fish_use_subcommand -l help -d 'this text'
+complete -c nibcactus -n __fish_use_subcommand -l help -d 'this text, or the help of a command'
 complete -c nibcactus -n __fish_use_subcommand -l version -d 'the version'
 complete -c nibcactus -n '__fish_seen_subcommand_from balance bal' -s l -l flat -d 'a list'
 complete -c nibcactus -n '__fish_seen_subcommand_from balance bal' -s t -l tree -d 'a tree'
@@ -167,6 +168,10 @@ complete -c nibcactus -n '__fish_seen_subcommand_from hours' -s f -r -d 'read it
 complete -c nibcactus -n '__fish_seen_subcommand_from init' -s f -r -d 'read it from a file; - is standard input, the default'
 complete -c nibcactus -n '__fish_seen_subcommand_from init' -l limit -r
 complete -c nibcactus -n '__fish_seen_subcommand_from import' -l rules -r
+complete -c nibcactus -n '__fish_seen_subcommand_from import' -l name -r -d 'the name under which a file is remembered; else FILE'
+complete -c nibcactus -n '__fish_seen_subcommand_from import' -l dry-run -d 'writes the entries that would be added, and stores nothing'
+complete -c nibcactus -n '__fish_seen_subcommand_from replace' -s f -r -d 'read it from a file; - is standard input, the default'
+complete -c nibcactus -n '__fish_seen_subcommand_from replace' -l base -r
 complete -c nibcactus -n '__fish_seen_subcommand_from serve' -l host -r
 complete -c nibcactus -n '__fish_seen_subcommand_from serve' -l port -r
 complete -c nibcactus -n '__fish_seen_subcommand_from serve' -l allow -x -a 'view add edit'
