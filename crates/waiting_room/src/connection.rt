@@ -155,11 +155,16 @@ impl Connection {
 
     /// Receives what is there, up to a whole message.
     fn receive(&mut self, alloc: Global, paths: &Paths, now: Moment) -> Turn {
+        let begun = self.phase;
         let mut piece = [0u8; PIECE];
         for _read in 0..READS {
             match self.receive_piece(&mut piece) {
                 Reading::Some(_) | Reading::End => match self.settle(alloc, paths, now) {
-                    Turn::Waits => {}
+                    Turn::Waits => {
+                        if self.begins_body(begun) {
+                            return Turn::Again;
+                        }
+                    }
                     turn => return turn,
                 },
                 Reading::Later => return Turn::Waits,
@@ -167,6 +172,11 @@ impl Connection {
             }
         }
         Turn::Again
+    }
+
+    /// Whether a body follows a head that came in this turn. The rest of it is received in a turn of its own, where bodies may be.
+    fn begins_body(&self, begun: Phase) -> bool {
+        begun != Phase::Body && self.phase == Phase::Body
     }
 
     /// Receives one piece.
