@@ -3,10 +3,9 @@ use Rattle.std.specs.Prelude.{ℕ, ◌-◌, ◌==◌, List, [], ◌∷◌, ◌++
 use Rattle.std.specs.List.{flat_map, position}
 use Rattle.std.specs.Str.{bytes_eq}
 use Rattle.hl_base.specs.Ascii.{percent}
-use Rattle.hl_time.specs.Words.{is_word}
 use Rattle.csv_entries.specs.Spaces.{stripped}
 use Rattle.csv_rules.specs.Columns.{pieces}
-use Rattle.csv_rules.specs.Words.{name_at, after_name, are_digits, value_of}
+use Rattle.csv_rules.specs.Words.{column_name, after_column_name, is_same_name, are_digits, value_of}
 use Rattle.csv_rules.specs.declared.kinds.Value.{Value}
 use Rattle.csv_rules.specs.declared.kinds.Value.TheVariants as values
 
@@ -21,7 +20,7 @@ column number columns = column_at (number - 1) columns
 -- the first name that is this one, with case ignored, names its column
 abbrev pub column_named : List ℕ → List (List ℕ) → List (List ℕ) → Option (List ℕ)
 column_named name names columns =
-    option_map (λ place. column_at place columns) (position (λ other. is_word other name) names)
+    option_map (λ place. column_at place columns) (position (λ other. is_same_name other name) names)
 
 abbrev pub column_numbered : ℕ → List (List ℕ) → Option (List ℕ)
 column_numbered number columns = if number == 0 then None else Some (column number columns)
@@ -35,19 +34,19 @@ referred run names columns =
     else column_named run names columns
 
 abbrev pub put_column : List ℕ → Option (List ℕ) → List ℕ
-put_column piece (Some text) = text ++ after_name piece
+put_column piece (Some text) = text ++ after_column_name piece
 put_column piece None = percent ∷ piece
 
 -- what stands for a `%` and the text up to the next one
 abbrev pub piece_text : List (List ℕ) → List (List ℕ) → List ℕ → List ℕ
-piece_text names columns piece = put_column piece (referred (name_at piece) names columns)
+piece_text names columns piece = put_column piece (referred (column_name piece) names columns)
 
 abbrev pub filled : List (List ℕ) → List (List ℕ) → List (List ℕ) → List ℕ
 filled names columns [] = []
 filled names columns (first ∷ more) = first ++ flat_map (piece_text names columns) more
 
--- A written value with its columns put in: `%N` and `%NAME` by the longest run of the bytes of a name; any other `%`
--- stays.
+-- A written value with its columns put in: `%N` and `%NAME` by the longest run of letters, digits, `_` and `-`; any
+-- other `%` stays.
 abbrev pub expanded : List (List ℕ) → List (List ℕ) → List ℕ → List ℕ
 expanded names columns written = filled names columns (pieces percent written)
 

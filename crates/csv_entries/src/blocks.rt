@@ -9,6 +9,7 @@ use crate::values::{referred, value_text};
 use csv_rules::{Action, Assignment, Block, Condition, EntryField, Sheet, Value};
 use hl_base::{Memory, Text};
 use query_terms::Finder;
+use query_terms::cutting::bytes_of;
 use std::alloc::Global;
 
 /// A record: the names of columns, its columns without white space at their ends, and these between
@@ -26,7 +27,7 @@ fn looked_at<'a>(column: &Option<Text>, row: Row<'a>) -> &'a str
     ensures { result.now ≡ spec.looked_at column.now row.entry.names.now row.entry.columns.now }
 {
     match column {
-        Some(name) => match referred(name.as_bytes(), row.names, row.columns) {
+        Some(name) => match referred(bytes_of(name.as_str()), row.names, row.columns) {
             Some(text) => text,
             None => "",
         },

@@ -3,16 +3,16 @@ ghost use Rattle.std.specs.Prelude.{◌≡◌, ◌++◌, true, map, option_map, 
 ghost use Rattle.std.specs.List.{position};
 ghost use Rattle.std.specs.Str.{is_utf8};
 ghost use Rattle.std.specs.String.{string_bytes};
-ghost use Rattle.hl_time.specs.Words.{is_word};
 ghost use Rattle.csv_entries.specs.Values as spec;
+ghost use Rattle.csv_rules.specs.Words.{is_same_name};
 
 use crate::spaces::stripped;
 use csv_rules::Value;
-use csv_rules::words::{are_digits, cut_name, is_same_word, value_of};
+use csv_rules::words::{are_digits, cut_column, is_same_name, value_of};
 use entry_reader::comment::append;
 use entry_reader::scan::{after, before, has};
 use hl_base::{Memory, Text};
-use query_terms::cutting::{bytes_of, text_of};
+use query_terms::cutting::{bytes_of, str_of, text_of};
 use std::alloc::Global;
 
 /// A column by its place; empty past the record.
@@ -44,21 +44,21 @@ fn column_numbered(number: u64, columns: &[Text]) -> Option<&str>
 }
 
 /// Whether a column has a name, with case ignored.
-fn is_named(other: &Text, name: &[u8]) -> bool
-    ensures { result ≡ is_word other.now name.now }
+fn is_named(other: &Text, name: &str) -> bool
+    ensures { result ≡ is_same_name other.now name.now }
 {
-    is_same_word(other.as_bytes(), name)
+    is_same_name(other.as_str(), name)
 }
 
 /// The place of the first name that is this one, with case ignored.
-fn place_of(name: &[u8], names: &[Text]) -> Option<usize>
-    ensures { result ≡ position (λ other. is_word other name.now) names.now }
+fn place_of(name: &str, names: &[Text]) -> Option<usize>
+    ensures { result ≡ position (λ other. is_same_name other name.now) names.now }
 {
     names.iter().position(|other| is_named(other, name))
 }
 
 /// The column of a name.
-fn column_named<'a>(name: &[u8], names: &[Text], columns: &'a [Text]) -> Option<&'a str>
+fn column_named<'a>(name: &str, names: &[Text], columns: &'a [Text]) -> Option<&'a str>
     ensures { option_map (λ x. x.now) result ≡ spec.column_named name.now names.now columns.now }
 {
     match place_of(name, names) {
@@ -69,6 +69,7 @@ fn column_named<'a>(name: &[u8], names: &[Text], columns: &'a [Text]) -> Option<
 
 /// The column that a reference means.
 pub(crate) fn referred<'a>(run: &[u8], names: &[Text], columns: &'a [Text]) -> Option<&'a str>
+    requires { is_utf8 run.now ≡ true }
     ensures { option_map (λ x. x.now) result ≡ spec.referred run.now names.now columns.now }
 {
     if run.is_empty() {
@@ -76,7 +77,7 @@ pub(crate) fn referred<'a>(run: &[u8], names: &[Text], columns: &'a [Text]) -> O
     } else if are_digits(run) {
         column_numbered(value_of(run), columns)
     } else {
-        column_named(run, names, columns)
+        column_named(str_of(run), names, columns)
     }
 }
 
@@ -91,7 +92,7 @@ fn push_piece(
     ensures { OnOk result (string_bytes text.new ≡ string_bytes text.old
         ++ spec.piece_text names.now columns.now piece.now) }
 {
-    let (run, rest) = cut_name(piece);
+    let (run, rest) = cut_column(piece);
     match referred(run, names, columns) {
         Some(found) => {
             text.push_str(found)?;

@@ -1,9 +1,8 @@
 -- Names cut at commas, and the fields that columns assign.
-use Rattle.std.proofs.Common.{◌≡◌, ℕ, suc, ◌+◌, ◌<◌, ◌≤◌, ◌==◌, ◌||◌, Bool, true, false, cond, not, List, [], ◌∷◌, ◌++◌, length, get_or, take, drop, map, refl, sym, ap, ◌∙◌, append_assoc, arith}
-use Rattle.std.specs.List.{prefix_len, before_first, after_first}
+use Rattle.std.proofs.Common.{◌≡◌, ℕ, suc, ◌+◌, ◌<◌, ◌≤◌, ◌==◌, ◌||◌, Bool, true, false, cond, not, List, [], ◌∷◌, ◌++◌, length, get_or, drop, refl, sym, append_assoc, arith}
+use Rattle.std.specs.List.{prefix_len}
 use Rattle.std.proofs.lemmas.List.{append-nil, drop_all, length-drop}
 use Rattle.query_terms.proofs.Walks.{left_here}
-use Rattle.hl_base.specs.Lines.{onto}
 use Rattle.entry_reader.specs.Lines.{trimmed, has_byte, before_byte, after_byte}
 use Rattle.csv_rules.specs.Columns.{pieces, names_of, column, columns_from}
 use Rattle.csv_rules.specs.declared.kinds.Assignment.{Assignment}

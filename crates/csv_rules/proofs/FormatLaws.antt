@@ -1,12 +1,11 @@
 -- The parts of a format, byte by byte.
-use Rattle.std.proofs.Common.{◌≡◌, ℕ, ◌+◌, ◌<◌, ◌≤◌, true, false, List, [], ◌∷◌, ◌++◌, length, get_or, drop, Option, Some, None, refl, sym, ap, ◌∙◌, append_assoc}
+use Rattle.std.proofs.Common.{◌≡◌, ℕ, ◌+◌, ◌<◌, ◌≤◌, true, false, List, [], ◌∷◌, ◌++◌, length, get_or, drop, Option, Some, None, refl, sym, ap, append_assoc}
 use Rattle.std.proofs.lemmas.List.{append-nil, drop_all}
 use Rattle.query_terms.proofs.Walks.{left_here}
 use Rattle.csv_rules.specs.Formats.{format_from, next_part, with_next, is_done}
 use Rattle.csv_rules.specs.declared.kinds.DatePart.{DatePart}
 use Rattle.csv_rules.specs.declared.formats.Before.{Before}
 use Rattle.csv_rules.specs.declared.formats.Before.TheVariants as before
-use Rattle.csv_rules.specs.declared.formats.Next.{Next}
 use Rattle.csv_rules.specs.declared.formats.Next.TheVariants as next
 
 -- parts before those that are read

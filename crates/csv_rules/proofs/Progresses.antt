@@ -1,5 +1,5 @@
 -- Lines that are read one after another, and the sources of their patterns.
-use Rattle.std.proofs.Common.{◌≡◌, ℕ, ◌+◌, List, [], ◌∷◌, ◌++◌, length, Option, Some, None, Result, Ok, Err, refl, sym, ap, ◌∙◌, subst, arith, append_assoc}
+use Rattle.std.proofs.Common.{◌≡◌, ℕ, ◌+◌, List, [], ◌∷◌, ◌++◌, length, Option, Some, None, Ok, Err, refl, sym, ap, ◌∙◌, subst, arith, append_assoc}
 use Rattle.std.specs.List.{flat_map}
 use Rattle.std.proofs.lemmas.List.{append-nil}
 use Rattle.query_terms.specs.Making.{Stays}
@@ -7,9 +7,9 @@ use Rattle.query_terms.specs.Reading.{source_of}
 use Rattle.entry_reader.specs.Lines.{contents_of}
 use Rattle.regex.specs.declared.string.regex.Regex.{Regex}
 use Rattle.csv_rules.specs.Building.{AreBuilt, block_sources, condition_sources, progress_sources, sheet_sources, form_sources, first_sources}
-use Rattle.csv_rules.specs.Drafts.{Progress, start, put, closed, closed_at, with_rule, opened, with_condition, without_block, block_of, finished, finished_at, sheet_of}
+use Rattle.csv_rules.specs.Drafts.{Progress, start, put, closed, closed_at, opened, with_condition, without_block, block_of, finished, finished_at, sheet_of}
 use Rattle.csv_rules.specs.Forms.{form_of}
-use Rattle.csv_rules.specs.Reading.{or_line, read_from, sheet_at, sheet_in, rules_of, ended, Reads, TakesLine, IsTaken, IsRefusedAt, IsRefusedLine, IsBadLine, AreBefore}
+use Rattle.csv_rules.specs.Reading.{or_line, read_from, sheet_in, ended, Reads, TakesLine, IsTaken, IsRefusedAt, IsRefusedLine, IsBadLine, AreBefore}
 use Rattle.csv_rules.specs.declared.faults.RulesFault.{RulesFault}
 use Rattle.csv_rules.specs.declared.faults.RulesFault.TheVariants as rules_fault
 use Rattle.csv_rules.specs.declared.forms.Form.{Form}

@@ -1,7 +1,6 @@
 -- How the regexes of a file of rules are built, and what is told where one is refused.
-use Rattle.std.specs.Prelude.{◌≡◌, ◌++◌, ◌≤◌, ℕ, List, [], ◌∷◌, map, Option, Some, None, Result, Ok, Err}
+use Rattle.std.specs.Prelude.{◌≡◌, ◌++◌, ℕ, List, [], ◌∷◌, map, Option, Some, None, Result, Ok, Err}
 use Rattle.std.specs.List.{All, flat_map}
-use Rattle.hl_base.specs.Causes.{Rose}
 use Rattle.regex.specs.Strings.{regex_source, regex_config, IsReadFromSource}
 use Rattle.regex.specs.declared.string.regex.Regex.{Regex}
 use Rattle.query_terms.specs.Making.{caseless, Stays, IsRefusal}

@@ -1,5 +1,5 @@
 -- The names of columns, and the fields that they assign.
-use Rattle.std.specs.Prelude.{ℕ, Bool, true, ◌+◌, ◌==◌, List, [], ◌∷◌, ◌++◌, map, Option, Some, None, if◌then◌else◌}
+use Rattle.std.specs.Prelude.{ℕ, true, ◌+◌, ◌==◌, List, [], ◌∷◌, ◌++◌, map, Option, Some, None, if◌then◌else◌}
 use Rattle.hl_base.specs.Ascii.{comma}
 use Rattle.hl_base.specs.Lines.{onto}
 use Rattle.entry_reader.specs.Lines.{trimmed}

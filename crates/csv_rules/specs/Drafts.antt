@@ -1,5 +1,5 @@
 -- What the lines of a file of rules say together.
-use Rattle.std.specs.Prelude.{ℕ, Bool, true, false, List, [], ◌∷◌, ◌++◌, Option, Some, None}
+use Rattle.std.specs.Prelude.{ℕ, true, false, List, [], ◌∷◌, ◌++◌, Option, Some, None}
 use Rattle.hl_base.specs.Ascii.{comma}
 use Rattle.csv_rules.specs.Columns.{columns_from}
 use Rattle.csv_rules.specs.declared.drafts.Draft.{Draft}

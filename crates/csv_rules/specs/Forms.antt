@@ -1,6 +1,5 @@
 -- How one line of a file of rules reads. A line's content has no white space at its end.
-use Rattle.std.specs.Prelude.{ℕ, Bool, true, false, ◌&&◌, ◌||◌, not, ◌==◌, List, [], ◌∷◌, drop, codes, Option, Some, None, option_map, if◌then◌else◌}
-use Rattle.std.specs.Option.{option_and_then}
+use Rattle.std.specs.Prelude.{ℕ, Bool, false, ◌&&◌, ◌||◌, not, List, [], ◌∷◌, drop, codes, Option, Some, None, option_map, if◌then◌else◌}
 use Rattle.std.specs.Str.{is_utf8, bytes_eq}
 use Rattle.hl_base.specs.Ascii.{asterisk, colon, comma, dot, exclamation, hash, percent, semicolon, space, tab}
 use Rattle.hl_base.specs.Items.{is_white}
@@ -8,7 +7,7 @@ use Rattle.entry_reader.specs.Lines.{begins, first_is, after_white}
 use Rattle.query_terms.specs.Patterns.{pattern_of}
 use Rattle.csv_rules.specs.Columns.{names_of, assignment}
 use Rattle.csv_rules.specs.Formats.{format_of}
-use Rattle.csv_rules.specs.Words.{name_at, after_name, are_digits, value_of, field_named, word_of}
+use Rattle.csv_rules.specs.Words.{name_at, after_name, column_name, after_column_name, are_digits, value_of, field_named, word_of}
 use Rattle.csv_rules.specs.declared.forms.Form.{Form}
 use Rattle.csv_rules.specs.declared.forms.Form.TheVariants as forms
 use Rattle.csv_rules.specs.declared.forms.Setting.{Setting}
@@ -92,15 +91,19 @@ assignment_of field rest = if begins_value rest then Some (assignment field (val
 abbrev pub assign_form : EntryField → List ℕ → Option Form
 assign_form field rest = option_map (λ a. forms.Assign a) (assignment_of field rest)
 
+-- it begins with a column's name
+abbrev pub begins_column : List ℕ → Bool
+begins_column text = not (bytes_eq (column_name text) [])
+
 -- a pattern looks at one column alone where `%` and a name stand before it
 abbrev pub names_column : List ℕ → Bool
-names_column text = begins text percent && not (bytes_eq (name_at (drop 1 text)) [])
+names_column text = begins text percent && begins_column (drop 1 text)
 
 abbrev pub column_at : List ℕ → Option (List ℕ)
-column_at text = if names_column text then Some (name_at (drop 1 text)) else None
+column_at text = if names_column text then Some (column_name (drop 1 text)) else None
 
 abbrev pub after_column : List ℕ → List ℕ
-after_column text = if names_column text then after_white (after_name (drop 1 text)) else text
+after_column text = if names_column text then after_white (after_column_name (drop 1 text)) else text
 
 abbrev pub condition : Bool → Bool → Option (List ℕ) → List ℕ → Condition
 condition joined negated column pattern =

@@ -1,5 +1,5 @@
 -- What an import adds to a journal, and what it remembers.
-use Rattle.std.specs.Prelude.{ℕ, ◌==◌, nat_lt, nat_le, max, Bool, true, not, ◌&&◌, ◌||◌, List, [], ◌∷◌, ◌++◌, filter, length, drop, Option, Some, None}
+use Rattle.std.specs.Prelude.{ℕ, ◌==◌, nat_lt, nat_le, max, Bool, true, ◌&&◌, List, [], ◌∷◌, ◌++◌, filter, length, drop, Option, Some, None}
 use Rattle.std.specs.List.{fold, list_all}
 use Rattle.hl_base.specs.declared.change.Latest.{Latest}
 use Rattle.book.specs.declared.transaction.Txn.{Txn}

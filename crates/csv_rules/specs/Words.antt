@@ -1,10 +1,14 @@
 -- The words that lines of rules begin with, and the names of fields.
-use Rattle.std.specs.Prelude.{ℕ, ◌-◌, ◌^◌, min, Bool, false, ◌&&◌, ◌||◌, not, ◌==◌, nat_le, List, [], take, drop, codes, Option, Some, None, if◌then◌else◌}
+use Rattle.std.specs.Prelude.{ℕ, ◌+◌, ◌-◌, ◌^◌, min, Bool, false, ◌&&◌, ◌||◌, not, ◌==◌, nat_le, List, [], ◌∷◌, take, drop, chars, codes, Option, Some, None, if◌then◌else◌}
+use Rattle.std.specs.Char.{len_utf8}
+use Rattle.std.specs.Char.Unicode.Alphabetic.{is_alphabetic}
+use Rattle.std.specs.Char.Unicode.Numeric.{is_numeric}
 use Rattle.std.specs.List.{prefix_len, list_all}
 use Rattle.std.specs.Str.{bytes_eq}
 use Rattle.std.specs.Str.Parse.{digits_value}
 use Rattle.hl_base.specs.Ascii.{minus, underscore}
 use Rattle.hl_time.specs.Words.{is_word}
+use Rattle.query_terms.specs.Patterns.{folded}
 use Rattle.csv_rules.specs.declared.kinds.EntryField.{EntryField}
 use Rattle.csv_rules.specs.declared.kinds.EntryField.TheVariants as fields
 use Rattle.csv_rules.specs.declared.forms.Word.{Word}
@@ -15,17 +19,42 @@ pub use Rattle.hl_num.specs.Reading.{is_digit}
 abbrev pub is_letter : ℕ → Bool
 is_letter b = (nat_le 65 b && nat_le b 90) || (nat_le 97 b && nat_le b 122)
 
--- what may stand in the name of a column or a field: an ASCII letter or digit, `_` or `-`
+-- a byte of the word that a rule begins with: an ASCII letter or digit, `_` or `-`
 abbrev pub is_name_byte : ℕ → Bool
 is_name_byte b = is_digit b || is_letter b || (b == underscore) || (b == minus)
 
--- the name that a text begins with, which may be empty
+-- the word that a rule begins with, which may be empty
 abbrev pub name_at : List ℕ → List ℕ
 name_at text = take (prefix_len is_name_byte text) text
 
 -- what follows it
 abbrev pub after_name : List ℕ → List ℕ
 after_name text = drop (prefix_len is_name_byte text) text
+
+-- a character of a column's name, where a rule refers to it: a letter or a digit of any script, `_` or `-`
+unfoldable pub is_name_char : ℕ → Bool
+is_name_char c = is_alphabetic c || is_numeric c || (c == underscore) || (c == minus)
+
+-- the bytes that the longest run of such characters takes with which some characters begin
+abbrev pub run_len : List ℕ → ℕ
+run_len [] = 0
+run_len (c ∷ cs) = if is_name_char c then len_utf8 c + run_len cs else 0
+
+-- the bytes of the column's name that a text begins with
+unfoldable pub column_len : List ℕ → ℕ
+column_len text = run_len (chars text)
+
+-- the column's name that a text begins with, which may be empty
+abbrev pub column_name : List ℕ → List ℕ
+column_name text = take (column_len text) text
+
+-- what follows it
+abbrev pub after_column_name : List ℕ → List ℕ
+after_column_name text = drop (column_len text) text
+
+-- the names are the same by simple folding, as patterns are found
+abbrev pub is_same_name : List ℕ → List ℕ → Bool
+is_same_name name other = bytes_eq (folded other) (folded name)
 
 -- one digit or more, and nothing else
 abbrev pub are_digits : List ℕ → Bool

@@ -8,7 +8,7 @@ use crate::columns::read_names;
 use crate::formats::read_format;
 use crate::forms::{Form, Setting, Stage, Word};
 use crate::kinds::{Action, Assignment, Condition, EntryField, Value};
-use crate::words::{are_digits, cut_name, field_named, is_same, value_of, word_of};
+use crate::words::{are_digits, cut_column, cut_name, field_named, is_same, value_of, word_of};
 use entry_reader::scan::{after_white, begins, begins_white, is_utf8, past_first, text_of};
 use hl_base::{Memory, Text};
 use query_terms::{Pattern, read_pattern};
@@ -192,13 +192,22 @@ fn read_assign(alloc: Global, field: EntryField, rest: &[u8]) -> Result<Option<F
     }
 }
 
+/// Whether a text begins with the name of a column.
+fn begins_column(text: &[u8]) -> bool
+    requires { is_utf8 text.now ≡ true }
+    ensures { result ≡ spec.begins_column text.now }
+{
+    let (name, _) = cut_column(text);
+    !is_same(name, b"")
+}
+
 /// Whether a pattern is to look at one column alone.
 fn names_column(text: &[u8]) -> bool
+    requires { is_utf8 text.now ≡ true }
     ensures value { result ≡ spec.names_column text.now }
     ensures ascii { result ≡ true → starts_ascii text.now ≡ true }
 {
-    let (name, _) = cut_name(past_first(text));
-    begins(text, b'%') && !is_same(name, b"")
+    begins(text, b'%') && begins_column(past_first(text))
 }
 
 /// The name or number of the column that a pattern looks at alone.
@@ -207,7 +216,7 @@ fn read_column(alloc: Global, text: &[u8]) -> Result<Option<Text>, Memory>
     ensures { IfOk result (λ column. column ≡ spec.column_at text.now) }
 {
     if names_column(text) {
-        let (name, _) = cut_name(past_first(text));
+        let (name, _) = cut_column(past_first(text));
         Ok(Some(text_of(alloc, name)?))
     } else {
         Ok(None)
@@ -216,11 +225,12 @@ fn read_column(alloc: Global, text: &[u8]) -> Result<Option<Text>, Memory>
 
 /// What stands behind the column that a pattern looks at alone.
 fn after_column(text: &[u8]) -> &[u8]
+    requires { is_utf8 text.now ≡ true }
     ensures value { result.now ≡ spec.after_column text.now }
-    ensures utf8 { is_utf8 text.now ≡ true → is_utf8 result.now ≡ true }
+    ensures utf8 { is_utf8 result.now ≡ true }
 {
     if names_column(text) {
-        let (_, rest) = cut_name(past_first(text));
+        let (_, rest) = cut_column(past_first(text));
         after_white(rest)
     } else {
         text

@@ -1,5 +1,5 @@
 //! The words that lines of rules begin with, and the names of fields.
-ghost use Rattle.std.specs.Prelude.{◌≡◌, ◌≤◌, true, IfOk, length, take, drop, codes};
+ghost use Rattle.std.specs.Prelude.{◌≡◌, ◌-◌, ◌≤◌, true, IfOk, length, take, drop, codes};
 ghost use Rattle.std.specs.List.{prefix_len, list_all};
 ghost use Rattle.std.specs.Str.{is_utf8, bytes_eq};
 ghost use Rattle.std.specs.Str.Parse.{digits_value};
@@ -9,6 +9,8 @@ ghost use Rattle.csv_rules.specs.Words as spec;
 use crate::forms::Word;
 use crate::kinds::EntryField;
 use hl_base::is_digit;
+use query_terms::cutting::{bytes_of, str_of};
+use unicode::case::simple_fold;
 
 /// Whether two texts are the same.
 pub(crate) fn is_same(a: &[u8], b: &[u8]) -> bool
@@ -30,8 +32,8 @@ fn is_letter(byte: u8) -> bool
     (b'A' <= byte && byte <= b'Z') || (b'a' <= byte && byte <= b'z')
 }
 
-/// Whether a byte may stand in the name of a column or a field.
-pub fn is_name_byte(byte: u8) -> bool
+/// Whether a byte may be in the word that a rule begins with.
+fn is_name_byte(byte: u8) -> bool
     ensures { result ≡ spec.is_name_byte byte }
 {
     is_digit(byte) || is_letter(byte) || byte == b'_' || byte == b'-'
@@ -45,15 +47,93 @@ fn name_length(text: &[u8]) -> usize
     text.iter().take_while(|byte| is_name_byte(**byte)).count()
 }
 
-/// The name that a text begins with, which may be empty, and what follows it.
+/// The word that a rule begins with, which may be empty, and what follows it.
 #[tactic(auto, using(crate::proofs::Names::name_utf8, crate::proofs::Names::after_name_utf8))]
-pub fn cut_name(text: &[u8]) -> (&[u8], &[u8])
+pub(crate) fn cut_name(text: &[u8]) -> (&[u8], &[u8])
     ensures name { result.0.now ≡ spec.name_at text.now }
     ensures rest { result.1.now ≡ spec.after_name text.now }
     ensures utf8 { is_utf8 text.now ≡ true → (is_utf8 result.0.now ≡ true)
         × (is_utf8 result.1.now ≡ true) }
 {
     text.split_at(name_length(text))
+}
+
+/// Whether a character may be in the name of a column, where a rule refers to it: a letter or a digit
+/// of any script, `_` or `-`.
+#[tactic(auto, unfolding(crate::specs::Words::is_name_char))]
+fn is_name_char(c: char) -> bool
+    ensures { result ≡ spec.is_name_char c }
+{
+    c.is_alphabetic() || c.is_numeric() || c == '_' || c == '-'
+}
+
+/// What follows the longest name of a column that a text begins with.
+fn past_column(text: &str) -> &str
+    ensures { result.now ≡ spec.after_column_name text.now }
+{
+    let mut rest = text.chars();
+    loop {
+        let here = rest.as_str();
+        match rest.next() {
+            Some(c) => {
+                if !is_name_char(c) {
+                    return here;
+                }
+            }
+            None => return here,
+        }
+    }
+}
+
+/// What follows the longest name of a column, as bytes.
+fn after_column_name(text: &[u8]) -> &[u8]
+    requires { is_utf8 text.now ≡ true }
+    ensures value { result.now ≡ spec.after_column_name text.now }
+    ensures utf8 { is_utf8 result.now ≡ true }
+{
+    bytes_of(past_column(str_of(text)))
+}
+
+/// How many bytes of a text stand before the rest of it.
+fn length_before(text: &[u8], rest: &[u8]) -> usize
+    ensures count { result ≡ length text.now - length rest.now }
+    ensures bound { result ≤ length text.now }
+{
+    text.len().saturating_sub(rest.len())
+}
+
+/// The name of a column that a text begins with, which may be empty, and what follows it.
+#[tactic(auto, using(crate::proofs::ColumnNames::name_is, crate::proofs::ColumnNames::name_utf8))]
+pub fn cut_column(text: &[u8]) -> (&[u8], &[u8])
+    requires { is_utf8 text.now ≡ true }
+    ensures name { result.0.now ≡ spec.column_name text.now }
+    ensures rest { result.1.now ≡ spec.after_column_name text.now }
+    ensures utf8 { (is_utf8 result.0.now ≡ true) × (is_utf8 result.1.now ≡ true) }
+{
+    let rest = after_column_name(text);
+    let (name, _) = text.split_at(length_before(text, rest));
+    (name, rest)
+}
+
+/// Whether two names of columns are the same by simple folding.
+pub fn is_same_name(name: &str, other: &str) -> bool
+    ensures { result ≡ spec.is_same_name name.now other.now }
+{
+    let mut rest = name.chars();
+    for c in other.chars() {
+        match rest.next() {
+            Some(d) => {
+                if simple_fold(c) != simple_fold(d) {
+                    return false;
+                }
+            }
+            None => return false,
+        }
+    }
+    match rest.next() {
+        Some(_) => false,
+        None => true,
+    }
 }
 
 /// Whether a text is digits alone.

@@ -1,5 +1,4 @@
-use Rattle.std.proofs.Common.{◌≡◌, ◌≤◌, ◌+◌, ℕ, min, length, List, drop, sym, ap, ◌∙◌, subst, arith}
-use Rattle.book.specs.declared.transaction.Txn.{Txn}
+use Rattle.std.proofs.Common.{◌≡◌, ◌+◌, ℕ, min, length, drop, ap, ◌∙◌, arith}
 use Rattle.csv_rules.specs.Importing.{before_day, on_day}
 use Rattle.csv_rules.proofs.NewOnes.{skipped-within, skipped-is}
 use Rattle.csv_rules.proofs.importing.skipped.Goals as goal

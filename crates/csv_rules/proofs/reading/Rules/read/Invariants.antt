@@ -1,4 +1,4 @@
-use Rattle.std.proofs.Common.{◌≡◌, ◌+◌, ◌≤◌, length}
+use Rattle.std.proofs.Common.{◌+◌, ◌≤◌, length}
 use Rattle.query_terms.specs.Making.{Stays}
 use Rattle.csv_rules.specs.Building.{AreBuilt, progress_sources}
 use Rattle.csv_rules.specs.Drafts.{progress_of}
