@@ -3,9 +3,9 @@ ghost use Rattle.std.specs.Prelude.{◌≡◌, Ok, IfOk, OnErr, IsOk};
 ghost use Rattle.hl_base.specs.Causes.{HasCause};
 
 use hl_base::{Disk, Failed};
-use std::fs::{self, File, OpenFile, OpenOptions};
-use std::io;
-use std::os::unix::fs::FileExt;
+use std::fs::{self, File, Metadata, OpenFile, OpenOptions};
+use std::io::{self, ErrorKind};
+use std::os::unix::fs::{FileExt, MetadataExt};
 use std::path::Path;
 use std::rt::Files;
 
@@ -13,31 +13,48 @@ use std::rt::Files;
 #[derive(Drop)]
 pub struct FileDisk {
     file: File,
+    made: bool,
     reach: u64,
     faults: u64,
 }
 
 impl FileDisk {
     /// Opens a file at a path and takes it, until the disk is dropped or its process ends. It is refused while another
-    /// open of the file has taken it. With `make` an absent one is made, and its folder is synced, so that its name lasts.
+    /// open of the file has taken it, and where the file was removed before it could be taken. With `make` an absent one is
+    /// made, and its folder is synced, so that its name lasts.
     pub fn open<R: Files<File = File>>(files: &R, path: &str, make: bool) -> io::Result<FileDisk>
         ensures reach { IfOk result (λ disk. ⟦<FileDisk as Disk>⟧.reach disk ≡ 0) }
         ensures faults { IfOk result (λ disk. ⟦<FileDisk as Disk>⟧.failures disk ≡ 0) }
     {
-        let file = OpenOptions::new()
-            .read(true)
-            .write(true)
-            .create(make)
-            .open(files, path)?;
+        let (file, made) = open_or_make(files, path, make)?;
         file.try_lock()?;
+        if !is_same_file(&fs::metadata(files, path)?, &file.metadata()?) {
+            return Err(io::Error::from(ErrorKind::WouldBlock));
+        }
         if make {
             sync_folder(files, path)?;
         }
         Ok(FileDisk {
             file,
+            made,
             reach: 0,
             faults: 0,
         })
+    }
+
+    /// Ends the use of the file at this path. Where `open` made it and nothing was ever written to it, it is removed, unless it
+    /// is to be kept. Answers whether something was written to it, or it was cut to a length, since it was opened. A removal
+    /// that fails leaves the file.
+    ///
+    /// The lock is held until the file is removed. Another process may have opened the file before, but it can take the lock
+    /// only afterwards, and `open` then finds that the path no longer names the file. So nobody goes on to write to a file
+    /// that has no name.
+    pub(crate) fn give_up<R: Files<File = File>>(self, files: &R, path: &str, keep: bool) -> bool {
+        let written = self.reach > 0;
+        if self.made && !written && !keep && has_no_bytes(&self.file) {
+            remove_held(files, path, &self.file).ok();
+        }
+        written
     }
 
     // Counts a fault, if the call failed.
@@ -112,6 +129,48 @@ impl Disk for FileDisk {
     fn faults(&self) -> u64 {
         self.faults
     }
+}
+
+// The file at a path, open for reading and writing, and whether it was made now.
+fn open_or_make<R: Files<File = File>>(
+    files: &R,
+    path: &str,
+    make: bool,
+) -> io::Result<(File, bool)> {
+    if make {
+        match File::create_new(files, path) {
+            Ok(file) => return Ok((file, true)),
+            Err(error) if error.kind() == ErrorKind::AlreadyExists => {}
+            Err(error) => return Err(error),
+        }
+    }
+    let file = OpenOptions::new()
+        .read(true)
+        .write(true)
+        .create(make)
+        .open(files, path)?;
+    Ok((file, false))
+}
+
+// Whether two files are the same one.
+fn is_same_file(one: &Metadata, other: &Metadata) -> bool {
+    one.dev() == other.dev() && one.ino() == other.ino()
+}
+
+// Whether a file is known to be empty.
+fn has_no_bytes(file: &File) -> bool {
+    match length_of(file) {
+        Ok(len) => len == 0,
+        Err(_) => false,
+    }
+}
+
+// Removes an open file, where it is the one that the path names.
+fn remove_held<R: Files<File = File>>(files: &R, path: &str, file: &File) -> io::Result<()> {
+    if is_same_file(&fs::symlink_metadata(files, path)?, &file.metadata()?) {
+        fs::remove_file(files, path)?;
+    }
+    Ok(())
 }
 
 // The folder of a path.

@@ -10,13 +10,16 @@ use std::fs::{self, File};
 use std::io::{self, ErrorKind, Read};
 use std::rt::Files;
 
-/// The files of the operating system. A name is a path.
+/// The files of the operating system. A name is a path. A file that `take` made and to which nothing was written is removed
+/// when it is given back, so a command that is refused leaves no empty files. It is kept where something was written to the
+/// file that was given back just before: the second file of a new store is empty until the first checkpoint.
 #[derive(Drop)]
 pub struct FileShelf<'a, R: Files<File = File>> {
     files: &'a R,
     faults: u64,
     disk_faults: u64,
     last_failed: Option<Text>,
+    keeps_next: bool,
 }
 
 impl<'a, R: Files<File = File>> FileShelf<'a, R> {
@@ -29,6 +32,7 @@ impl<'a, R: Files<File = File>> FileShelf<'a, R> {
             faults: 0,
             disk_faults: 0,
             last_failed: None,
+            keeps_next: false,
         }
     }
 
@@ -92,8 +96,9 @@ impl<R: Files<File = File>> Shelf for FileShelf<'_, R> {
         }
     }
 
-    fn give_back(&mut self, _name: &Text, disk: FileDisk) {
+    fn give_back(&mut self, name: &Text, disk: FileDisk) {
         self.disk_faults = self.disk_faults.saturating_add(disk.faults());
+        self.keeps_next = disk.give_up(self.files, name.as_str(), self.keeps_next);
     }
 }
 
@@ -129,6 +134,69 @@ mod tests {
     use super::*;
     use std::test::Fail;
     use std::time::{SystemTime, UNIX_EPOCH};
+
+    // A new path.
+    fn path(rt: &HostRuntime, name: &str) -> Result<Text, Fail> {
+        let now = SystemTime::now(rt)?.duration_since(UNIX_EPOCH);
+        let nanos = now.ok().ok_or("clock")?.as_nanos();
+        let path = format!(in rt.alloc(); "/tmp/real_shelf_{name}_{nanos}")?;
+        Ok(Text::copied(rt.alloc(), path.as_str())?)
+    }
+
+    #[test]
+    fn an_empty_file_that_was_made_is_removed(rt: HostRuntime) -> Result<(), Fail> {
+        let name = path(&rt, "made")?;
+        let mut shelf = FileShelf::new(&rt);
+        let disk = shelf.take(rt.alloc(), &name, true).ok().ok_or("take")?;
+        shelf.give_back(&name, disk);
+        let absent = shelf.load(rt.alloc(), &name, 9).err();
+        assert_eq!(rt; absent, Some(ShelfFault::Absent));
+        Ok(())
+    }
+
+    #[test]
+    fn a_file_that_was_written_and_cut_stays(rt: HostRuntime) -> Result<(), Fail> {
+        let name = path(&rt, "cut")?;
+        let mut shelf = FileShelf::new(&rt);
+        let mut disk = shelf.take(rt.alloc(), &name, true).ok().ok_or("take")?;
+        disk.write_at(0, b"abc")?;
+        disk.cut(0)?;
+        shelf.give_back(&name, disk);
+        let loaded = shelf.load(rt.alloc(), &name, 9).ok().ok_or("load")?;
+        assert_eq!(rt; loaded.as_slice(), b"".as_slice());
+        fs::remove_file(&rt, name.as_str())?;
+        Ok(())
+    }
+
+    #[test]
+    fn an_empty_file_that_was_there_stays(rt: HostRuntime) -> Result<(), Fail> {
+        let name = path(&rt, "there")?;
+        fs::create(&rt, name.as_str())?;
+        let mut shelf = FileShelf::new(&rt);
+        let disk = shelf.take(rt.alloc(), &name, true).ok().ok_or("take")?;
+        shelf.give_back(&name, disk);
+        let loaded = shelf.load(rt.alloc(), &name, 9).ok().ok_or("load")?;
+        assert_eq!(rt; loaded.as_slice(), b"".as_slice());
+        fs::remove_file(&rt, name.as_str())?;
+        Ok(())
+    }
+
+    #[test]
+    fn an_empty_file_after_a_new_one_stays(rt: HostRuntime) -> Result<(), Fail> {
+        let name = path(&rt, "first")?;
+        let second = path(&rt, "second")?;
+        let mut shelf = FileShelf::new(&rt);
+        let mut disk = shelf.take(rt.alloc(), &name, true).ok().ok_or("take")?;
+        let beside = shelf.take(rt.alloc(), &second, true).ok().ok_or("take")?;
+        disk.write_at(0, b"abc")?;
+        shelf.give_back(&name, disk);
+        shelf.give_back(&second, beside);
+        let loaded = shelf.load(rt.alloc(), &second, 9).ok().ok_or("load")?;
+        assert_eq!(rt; loaded.as_slice(), b"".as_slice());
+        fs::remove_file(&rt, name.as_str())?;
+        fs::remove_file(&rt, second.as_str())?;
+        Ok(())
+    }
 
     #[test]
     fn the_files_are_a_shelf(rt: HostRuntime) -> Result<(), Fail> {
