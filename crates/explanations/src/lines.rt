@@ -1,0 +1,31 @@
+//! One line of a text, by its number.
+ghost use Rattle.std.specs.Prelude.{◌≡◌, nat_le};
+ghost use Rattle.entry_reader.specs.Lines.{contents_of};
+ghost use Rattle.explanations.specs.Explained as spec;
+
+use entry_reader::scan::cut_line;
+
+/// Whether a line is the one that is looked for, where so many are left up to it.
+fn is_here(left: u64) -> bool
+    ensures { result ≡ nat_le left 1 }
+{
+    left <= 1
+}
+
+/// What the line of a number says, counted from 1; nothing where there is no such line.
+#[tactic(auto, using(crate::proofs::Numbering::line_more, crate::proofs::Numbering::line_here, crate::proofs::Numbering::line_none))]
+pub(crate) fn line_numbered(text: &[u8], number: u64) -> &[u8]
+    ensures { result.now ≡ spec.numbered number (contents_of text.now) }
+{
+    let mut rest = text;
+    let mut left = number;
+    while !rest.is_empty() {
+        let (content, after) = cut_line(rest);
+        if is_here(left) {
+            return content;
+        }
+        left = left.saturating_sub(1);
+        rest = after;
+    }
+    rest
+}
