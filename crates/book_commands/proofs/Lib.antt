@@ -2,4 +2,5 @@ pub mod Answering
 mod Checking
 mod Closings
 mod Contexts
+mod Explaining
 mod Loading

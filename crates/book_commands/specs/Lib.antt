@@ -4,5 +4,6 @@ pub mod Days
 pub mod FaultLines
 pub mod Journals
 pub mod Reported
+pub mod TextFaults
 pub mod Texts
 pub mod Works

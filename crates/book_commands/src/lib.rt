@@ -1,10 +1,11 @@
-//! What the commands over a text answer: the reports, the hours of a time log, strict checks, and closing entries. A text
-//! goes in, and what is to be written comes out, or the line that says why there is nothing.
+//! What the commands over a text answer: the reports, the hours of a time log, strict checks, closing entries, and what is
+//! wrong with it. A text goes in, and what is to be written comes out, or the line that says why there is nothing.
 #![tactic(auto)]
 
 mod close;
 mod context_end;
 mod entries;
+mod explain;
 mod fault_lines;
 mod hours;
 mod journal;

@@ -8,6 +8,7 @@ ghost use Rattle.book_commands.specs.Days.{closing_day};
 ghost use Rattle.book_commands.specs.Works.{IsWithin, IsWorkable, judge};
 
 use crate::close::close_on;
+use crate::explain::explain_on;
 use crate::hours::hours_on;
 use crate::report::report_on;
 use crate::strict_checks::strict_on;
@@ -95,6 +96,8 @@ pub enum Work {
     Strict(List<Check>),
     /// The entries that close accounts and open them again.
     Close(CloseAsked),
+    /// What is wrong with the text, and how it is mended.
+    Explain,
 }
 
 /// A text as it is.
@@ -133,5 +136,6 @@ pub fn answer_text<R: Threads + Sync, M: Maker, L: Ledger>(
         Work::Hours(form) => hours_on(alloc, *form, text),
         Work::Strict(checks) => strict_on(rt, alloc, checks.as_slice(), text, today.year, steps),
         Work::Close(asked) => close_on(rt, alloc, asked, text, today, maker, steps),
+        Work::Explain => explain_on(rt, alloc, text, today.year, steps),
     }
 }

@@ -84,6 +84,7 @@ plain_over : (chore : Chore) (said : Said) (origin : Origin) → (chore ≡ chor
 plain_over chores.Hours said origin h = tt
 plain_over chores.Strict said origin h = plain_strict origin said.checks
 plain_over chores.Close said origin h = plain_close origin said.on (into_or_default said.into) (words_or_default said.words)
+plain_over chores.Explain said origin h = tt
 plain_over chores.Init said origin h = plain_making origin said.limit (plain_name said.words)
 plain_over chores.Add said origin h = plain_adding (plain_name said.words)
 plain_over chores.Import said origin h = plain_import said.dry said.rules said.remembered said.words
@@ -126,6 +127,7 @@ other_named word e =
     other_if (bytes_eq word (codes "hours")) chores.Hours _ (λ x. cc)
     (other_if (bytes_eq word (codes "strict")) chores.Strict _ (λ x. cc)
     (other_if (bytes_eq word (codes "close")) chores.Close _ (λ x. cc)
+    (other_if (bytes_eq word (codes "explain")) chores.Explain _ (λ x. cc)
     (other_if (bytes_eq word (codes "init")) chores.Init _ (λ x. cc)
     (other_if (bytes_eq word (codes "add")) chores.Add _ (λ x. cc)
     (other_if (bytes_eq word (codes "import")) chores.Import _ (λ x. cc)
@@ -134,7 +136,7 @@ other_named word e =
     (other_if (bytes_eq word (codes "replace")) chores.Replace _ (λ x. cc)
     (other_if (bytes_eq word (codes "export")) chores.Export _ (λ x. cc)
     (other_if (bytes_eq word (codes "feed")) chores.Feed _ (λ x. cc)
-    (other_if (bytes_eq word (codes "follow")) chores.Follow None (λ x. cc) (λ x. cc))))))))))))
+    (other_if (bytes_eq word (codes "follow")) chores.Follow None (λ x. cc) (λ x. cc)))))))))))))
 
 plain_chore : (chore : Option Chore) (day : ℕ) (word : List ℕ) (words : List (List ℕ)) → IsOther chore → IsPlainRead (chore_or_report chore day word words)
 plain_chore (Some chore) day word words h = plain_by chore (said_by chore words) (λ e. h (ap (λ (x : Chore). Some x) e))

@@ -16,6 +16,7 @@ chore_named word =
     if bytes_eq word (codes "hours") then Some chores.Hours
     else if bytes_eq word (codes "strict") then Some chores.Strict
     else if bytes_eq word (codes "close") then Some chores.Close
+    else if bytes_eq word (codes "explain") then Some chores.Explain
     else if bytes_eq word (codes "init") then Some chores.Init
     else if bytes_eq word (codes "add") then Some chores.Add
     else if bytes_eq word (codes "import") then Some chores.Import
@@ -74,6 +75,7 @@ is_hours _ = false
 abbrev pub is_of_journals : Chore → Bool
 is_of_journals chores.Strict = true
 is_of_journals chores.Close = true
+is_of_journals chores.Explain = true
 is_of_journals chores.Talk = true
 is_of_journals _ = false
 
@@ -86,6 +88,7 @@ abbrev pub is_of_texts : Chore → Bool
 is_of_texts chores.Hours = true
 is_of_texts chores.Strict = true
 is_of_texts chores.Close = true
+is_of_texts chores.Explain = true
 is_of_texts chores.Init = true
 is_of_texts chores.Replace = true
 is_of_texts chores.Talk = true

@@ -111,6 +111,7 @@ abbrev pub task_over : Chore → Said → Origin → Result Task UsageFault
 task_over chores.Hours said origin = Ok (text_task origin (works.Hours (log_form said.dot)))
 task_over chores.Strict said origin = strict_task origin said.checks
 task_over chores.Close said origin = close_task origin said.on (into_or_default said.into) (words_or_default said.words)
+task_over chores.Explain said origin = Ok (text_task origin works.Explain)
 task_over chores.Init said origin = init_task origin said.limit said.words
 task_over chores.Add said origin = add_task said.words
 task_over chores.Import said origin = import_task said.dry said.rules said.remembered said.words

@@ -168,6 +168,7 @@ fn task_said(alloc: Global, chore: Chore, said: Said) -> Result<Task, UsageFault
             let words = words_or_default(alloc, words)?;
             close_task(origin, on, into, words)
         }
+        Chore::Explain => Ok(text_task(origin, Work::Explain)),
         Chore::Init => init_task(alloc, origin, limit, words.as_slice()),
         Chore::Add => add_task(alloc, words.as_slice()),
         Chore::Import => import_task(alloc, dry, rules, remembered, words.as_slice()),

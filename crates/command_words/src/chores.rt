@@ -15,6 +15,8 @@ pub enum Chore {
     Strict,
     /// Closing entries.
     Close,
+    /// What is wrong with a text.
+    Explain,
     /// A store of a text.
     Init,
     /// An entry into a store.
@@ -68,6 +70,8 @@ pub(crate) fn chore_named(word: &[u8]) -> Option<Chore>
         Some(Chore::Strict)
     } else if is_same(word, b"close") {
         Some(Chore::Close)
+    } else if is_same(word, b"explain") {
+        Some(Chore::Explain)
     } else if is_same(word, b"init") {
         Some(Chore::Init)
     } else if is_same(word, b"add") {
@@ -185,10 +189,19 @@ pub(crate) fn has_option(chore: Chore, name: Name) -> bool
     match name {
         Name::File => matches!(
             chore,
-            Chore::Hours | Chore::Strict | Chore::Close | Chore::Init | Chore::Replace | Chore::Talk
+            Chore::Hours
+                | Chore::Strict
+                | Chore::Close
+                | Chore::Explain
+                | Chore::Init
+                | Chore::Replace
+                | Chore::Talk
         ),
         Name::Dot => matches!(chore, Chore::Hours),
-        Name::Store => matches!(chore, Chore::Strict | Chore::Close | Chore::Talk),
+        Name::Store => matches!(
+            chore,
+            Chore::Strict | Chore::Close | Chore::Explain | Chore::Talk
+        ),
         Name::On | Name::Into => matches!(chore, Chore::Close),
         Name::Limit => matches!(chore, Chore::Init | Chore::Follow),
         Name::Base => matches!(chore, Chore::Replace),

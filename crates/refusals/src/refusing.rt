@@ -15,7 +15,7 @@ use report_commands::WordsFault;
 use std::alloc::Global;
 
 /// The exit status of a text with a fault: 7 where an entry is too long, else 1.
-fn status_for(cause: &Cause) -> u8
+pub fn status_for(cause: &Cause) -> u8
     ensures status { result ≡ spec.fault_status cause.now }
     ensures kind { IsJudgedStatus result }
 {
