@@ -3,4 +3,5 @@ mod Checking
 mod Closings
 mod Contexts
 mod Explaining
+mod ItemLines
 mod Loading

@@ -3,6 +3,7 @@ pub mod Closed
 pub mod Days
 pub mod FaultLines
 pub mod Journals
+pub mod Listed
 pub mod Reported
 pub mod TextFaults
 pub mod Texts

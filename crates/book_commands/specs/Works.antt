@@ -35,6 +35,7 @@ use Rattle.refusals.specs.Errors.{plan_line, plan_status, term_line}
 use Rattle.book_commands.specs.TextFaults.{explained_text}
 use Rattle.book_commands.specs.FaultLines.{close_line, log_line, log_status, strict_line}
 use Rattle.refusals.specs.Outcomes.{Judged, Outcome, refused, written}
+use Rattle.book_commands.specs.Listed.{items_made}
 use Rattle.book_commands.specs.Texts.{judged_text}
 use Rattle.book_commands.specs.declared.work.CloseAsked.{CloseAsked}
 use Rattle.book_commands.specs.declared.work.LogForm.{LogForm}
@@ -145,6 +146,7 @@ judge day year (works.Hours form) text = Ok (hours_made form text)
 judge day year (works.Strict checks) text = judged_text (strict_made checks) year text
 judge day year (works.Close asked) text = judged_text (close_made asked day) year text
 judge day year works.Explain text = explained_text year text
+judge day year works.Items text = judged_text (items_made text) year text
 
 -- the words of which a pattern may be refused
 abbrev pub words_of : Work → List (List ℕ)
@@ -154,6 +156,7 @@ words_of (works.Hours form) = []
 words_of (works.Strict checks) = []
 words_of (works.Close asked) = asked.words
 words_of works.Explain = []
+words_of works.Items = []
 
 -- the options of a report are valid
 abbrev pub IsWorkable : Work → Type 0

@@ -82,7 +82,7 @@ fn in_line(alloc: Global, line: u64, said: &[u8]) -> Result<Bytes, Memory>
 }
 
 /// Two texts, one behind the other.
-fn joined(alloc: Global, front: &[u8], back: &[u8]) -> Result<Vec<u8>, Memory>
+pub(crate) fn joined(alloc: Global, front: &[u8], back: &[u8]) -> Result<Vec<u8>, Memory>
     ensures { IfOk result (λ both. both.items ≡ front.now ++ back.now) }
 {
     let mut both = Vec::new(alloc);
@@ -100,7 +100,7 @@ fn said_of(alloc: Global, line: u64, what: &[u8], name: &[u8]) -> Result<Bytes, 
 }
 
 /// A day of the calendar; a number before or past the calendar shows its first or its last day.
-fn day_text(day: Day) -> [u8; 10]
+pub(crate) fn day_text(day: Day) -> [u8; 10]
     ensures { result ≡ calendar_text day.0 }
 {
     print_day(Day(day.0.min(DAY_END - 1).max(1)))

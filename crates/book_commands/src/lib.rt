@@ -1,5 +1,5 @@
-//! What the commands over a text answer: the reports, the hours of a time log, strict checks, closing entries, and what is
-//! wrong with it. A text goes in, and what is to be written comes out, or the line that says why there is nothing.
+//! What the commands over a text answer: the reports, the hours of a time log, strict checks, closing entries, what is
+//! wrong with it, and its items. A text goes in, and what is to be written comes out, or the line that says why there is nothing.
 #![tactic(auto)]
 
 mod close;
@@ -10,6 +10,7 @@ mod fault_lines;
 mod hours;
 mod journal;
 mod law;
+mod listing;
 mod planned;
 mod report;
 mod strict_checks;

@@ -10,6 +10,7 @@ ghost use Rattle.book_commands.specs.Works.{IsWithin, IsWorkable, judge};
 use crate::close::close_on;
 use crate::explain::explain_on;
 use crate::hours::hours_on;
+use crate::listing::items_on;
 use crate::report::report_on;
 use crate::strict_checks::strict_on;
 use crate::today::Today;
@@ -98,6 +99,8 @@ pub enum Work {
     Close(CloseAsked),
     /// What is wrong with the text, and how it is mended.
     Explain,
+    /// Its items, a line each.
+    Items,
 }
 
 /// A text as it is.
@@ -137,5 +140,6 @@ pub fn answer_text<R: Threads + Sync, M: Maker, L: Ledger>(
         Work::Strict(checks) => strict_on(rt, alloc, checks.as_slice(), text, today.year, steps),
         Work::Close(asked) => close_on(rt, alloc, asked, text, today, maker, steps),
         Work::Explain => explain_on(rt, alloc, text, today.year, steps),
+        Work::Items => items_on(rt, alloc, text, today.year, steps),
     }
 }

@@ -95,6 +95,7 @@ rule_asked (works.Hours form) day year text t line h = absurd h
 rule_asked (works.Strict checks) day year text t line h = absurd h
 rule_asked (works.Close asked) day year text t line h = absurd h
 rule_asked works.Explain day year text t line h = absurd h
+rule_asked works.Items day year text t line h = absurd h
 
 refused_pattern : (given : TextTask) (day : ℕ) (old new : Scene) (what : PatternOf) → RefusedIn given day old new what → HasPattern given.work what
 refused_pattern given day old new (pattern_of.Word word) h = one_of (words_of given.work) h.refused.earlier h.refused.later word h.refused.place

@@ -23,6 +23,7 @@ within_by (works.Hours form) text e = within_length text e
 within_by (works.Strict checks) text e = within_length text e
 within_by (works.Close asked) text e = within_length text e
 within_by works.Explain text e = within_length text e
+within_by works.Items text e = within_length text e
 
 module _ (day : ℕ) (year : Option ℕ) (work : Work) (text : List ℕ) where
   abbrev past : Judged

@@ -13,7 +13,7 @@ use Rattle.command_words.specs.Commands.{chore_or_report, close_task, into_or_de
 use Rattle.command_words.specs.HelpWords.{help_on, help_task, subject_named}
 use Rattle.command_words.specs.Limits.{most_entries, number_in}
 use Rattle.command_words.specs.Said.{said_by}
-use Rattle.command_words.specs.StoreWords.{adding_of, export_of, feeding_of, following_of, import_of, import_task, making_of, plain_name, replacing_of}
+use Rattle.command_words.specs.StoreWords.{adding_of, export_of, feeding_of, following_of, import_of, import_task, listing_of, making_of, plain_name, replacing_of}
 use Rattle.command_words.specs.TalkWords.{sample_of, sample_task, task_alone}
 use Rattle.command_words.specs.declared.chores.Chore.{Chore}
 use Rattle.command_words.specs.declared.chores.Chore.TheVariants as chores
@@ -68,6 +68,10 @@ plain_export : (name : Result (List ℕ) UsageFault) → IsPlainRead (export_of 
 plain_export (Ok name) = tt
 plain_export (Err fault) = tt
 
+plain_listing : (name : Result (List ℕ) UsageFault) → IsPlainRead (listing_of name)
+plain_listing (Ok name) = tt
+plain_listing (Err fault) = tt
+
 plain_replacing : (origin : Origin) (base : Option ℕ) (name : Result (List ℕ) UsageFault) → IsPlainRead (replacing_of origin base name)
 plain_replacing origin base (Ok name) = tt
 plain_replacing origin base (Err fault) = tt
@@ -92,6 +96,7 @@ plain_over chores.Replace said origin h = plain_replacing origin said.base (plai
 plain_over chores.Talk said origin h = absurd (h refl)
 plain_over chores.Sample said origin h = plain_sample said.words
 plain_over chores.Export said origin h = plain_export (plain_name said.words)
+plain_over chores.Items said origin h = plain_listing (plain_name said.words)
 plain_over chores.Feed said origin h = plain_feeding (plain_name said.words)
 plain_over chores.Follow said origin h = plain_following said.limit (plain_name said.words)
 
@@ -135,8 +140,9 @@ other_named word e =
     (other_if (bytes_eq word (codes "sample")) chores.Sample _ (λ x. cc)
     (other_if (bytes_eq word (codes "replace")) chores.Replace _ (λ x. cc)
     (other_if (bytes_eq word (codes "export")) chores.Export _ (λ x. cc)
+    (other_if (bytes_eq word (codes "items")) chores.Items _ (λ x. cc)
     (other_if (bytes_eq word (codes "feed")) chores.Feed _ (λ x. cc)
-    (other_if (bytes_eq word (codes "follow")) chores.Follow None (λ x. cc) (λ x. cc)))))))))))))
+    (other_if (bytes_eq word (codes "follow")) chores.Follow None (λ x. cc) (λ x. cc))))))))))))))
 
 plain_chore : (chore : Option Chore) (day : ℕ) (word : List ℕ) (words : List (List ℕ)) → IsOther chore → IsPlainRead (chore_or_report chore day word words)
 plain_chore (Some chore) day word words h = plain_by chore (said_by chore words) (λ e. h (ap (λ (x : Chore). Some x) e))

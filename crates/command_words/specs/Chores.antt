@@ -24,6 +24,7 @@ chore_named word =
     else if bytes_eq word (codes "sample") then Some chores.Sample
     else if bytes_eq word (codes "replace") then Some chores.Replace
     else if bytes_eq word (codes "export") then Some chores.Export
+    else if bytes_eq word (codes "items") then Some chores.Items
     else if bytes_eq word (codes "feed") then Some chores.Feed
     else if bytes_eq word (codes "follow") then Some chores.Follow
     else None

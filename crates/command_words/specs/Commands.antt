@@ -17,7 +17,7 @@ use Rattle.command_words.specs.Chores.{chore_named}
 use Rattle.command_words.specs.HelpWords.{help_task}
 use Rattle.command_words.specs.Limits.{most_entries}
 use Rattle.command_words.specs.Said.{said_by}
-use Rattle.command_words.specs.StoreWords.{add_task, export_task, feed_task, follow_task, import_task, init_task, replace_task}
+use Rattle.command_words.specs.StoreWords.{add_task, export_task, feed_task, follow_task, import_task, init_task, items_task, replace_task}
 use Rattle.command_words.specs.TalkWords.{sample_task, talk_task, task_alone}
 use Rattle.command_words.specs.Usage.{missing}
 use Rattle.command_words.specs.declared.chores.Chore.{Chore}
@@ -119,6 +119,7 @@ task_over chores.Replace said origin = replace_task origin said.base said.words
 task_over chores.Talk said origin = Ok (talk_task origin said.allow)
 task_over chores.Sample said origin = sample_task said.words
 task_over chores.Export said origin = export_task said.words
+task_over chores.Items said origin = items_task said.words
 task_over chores.Feed said origin = feed_task said.words
 task_over chores.Follow said origin = follow_task said.limit said.words
 

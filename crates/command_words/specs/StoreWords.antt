@@ -38,6 +38,17 @@ export_of (Err fault) = Err fault
 abbrev pub export_task : List (List ℕ) → Result Task UsageFault
 export_task words = export_of (plain_name words)
 
+-- the items of the store of a name
+abbrev pub listing : List ℕ → Task
+listing name = task.Over (record { origin = origins.Store name; work = works.Items })
+
+abbrev pub listing_of : Result (List ℕ) UsageFault → Result Task UsageFault
+listing_of (Ok name) = Ok (listing name)
+listing_of (Err fault) = Err fault
+
+abbrev pub items_task : List (List ℕ) → Result Task UsageFault
+items_task words = listing_of (plain_name words)
+
 -- ---- stores that are made or edited
 
 -- the limit of a store where none is given

@@ -8,7 +8,7 @@ ghost use Rattle.command_words.specs.Usage.{usage_cause};
 use crate::chores::Chore;
 use crate::said::{Named, Said, read_said};
 use crate::store_words::{
-    add_task, export_task, feed_task, follow_task, import_task, init_task, replace_task,
+    add_task, export_task, feed_task, follow_task, import_task, init_task, items_task, replace_task,
 };
 use crate::talk_words::{sample_task, talk_task};
 use crate::task::{Origin, Task, TextTask};
@@ -176,6 +176,7 @@ fn task_said(alloc: Global, chore: Chore, said: Said) -> Result<Task, UsageFault
         Chore::Talk => Ok(talk_task(origin, allow)),
         Chore::Sample => sample_task(alloc, words.as_slice()),
         Chore::Export => export_task(alloc, words.as_slice()),
+        Chore::Items => items_task(alloc, words.as_slice()),
         Chore::Feed => feed_task(alloc, words.as_slice()),
         Chore::Follow => follow_task(alloc, limit, words.as_slice()),
     }

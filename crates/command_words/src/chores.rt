@@ -31,6 +31,8 @@ pub enum Chore {
     Replace,
     /// The text of a store.
     Export,
+    /// The items of a store.
+    Items,
     /// The frames of a store.
     Feed,
     /// A replica that follows frames.
@@ -86,6 +88,8 @@ pub(crate) fn chore_named(word: &[u8]) -> Option<Chore>
         Some(Chore::Replace)
     } else if is_same(word, b"export") {
         Some(Chore::Export)
+    } else if is_same(word, b"items") {
+        Some(Chore::Items)
     } else if is_same(word, b"feed") {
         Some(Chore::Feed)
     } else if is_same(word, b"follow") {

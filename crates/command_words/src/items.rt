@@ -333,6 +333,7 @@ pub(crate) fn plain_item(alloc: Global, chore: Chore, word: &Text) -> Result<Ite
         | Chore::Replace
         | Chore::Sample
         | Chore::Export
+        | Chore::Items
         | Chore::Feed
         | Chore::Follow => { Ok(Item::Word(Text::copied(alloc, word.as_str())?)) }
     }

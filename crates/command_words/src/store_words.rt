@@ -60,6 +60,25 @@ pub(crate) fn export_task(alloc: Global, words: &[Text]) -> Result<Task, UsageFa
     Ok(export(name))
 }
 
+/// The items of the store of this name.
+fn listing(name: Text) -> Task
+    ensures task { result ≡ spec.listing name }
+    ensures valid { IsReadable result }
+{
+    let origin = Origin::Store(name);
+    let work = Work::Items;
+    Task::Over(TextTask { origin, work })
+}
+
+/// The items of the store that the words name.
+pub(crate) fn items_task(alloc: Global, words: &[Text]) -> Result<Task, UsageFault>
+    ensures answer { Gives (λ task. task) usage_cause result (spec.items_task words.now) }
+    ensures valid { IfOk result IsReadable }
+{
+    let name = plain_name(alloc, words)?;
+    Ok(listing(name))
+}
+
 /// The limit of a store: 2^40 bytes where none is given.
 fn limit_or_default(limit: Option<u64>) -> u64
     ensures { result ≡ spec.limit_or_default limit }

@@ -40,3 +40,11 @@ returns-in-Explain-clause-maker g c =
     let t = told_by maker now now in
     quiet_maker c.args.today.day.0 (words_of c.args.work.now) (WorkRule c.args.today.day.0 c.args.today.year c.args.work.now c.args.text.now t) t
     c.explain_on.result c.explain_on.ensures.quiet (unasked (maker.refusals now) (maker.last_refused now))
+
+pub returns-in-Items-clause-maker : goal.returns-in-Items-clause-maker
+returns-in-Items-clause-maker g c =
+    let maker = g.M.Maker in
+    let now = c.args.maker.now in
+    let t = told_by maker now now in
+    quiet_maker c.args.today.day.0 (words_of c.args.work.now) (WorkRule c.args.today.day.0 c.args.today.year c.args.work.now c.args.text.now t) t
+    c.items_on.result c.items_on.ensures.quiet (unasked (maker.refusals now) (maker.last_refused now))
