@@ -11,7 +11,7 @@ use Rattle.matchit.specs.Seek.{own, step, or_else, seek, first, param_step, has_
 use Rattle.matchit.specs.Router.{RouteOf}
 use Rattle.web_messages.specs.Paths.{resource_at, found_at, FindsEach, literal_route}
 use Rattle.web_messages.specs.declared.resource.Resource.{Resource}
-use Rattle.web_messages.specs.declared.resource.Resource.TheVariants.{Report, Download, Add, Edit, Upload, Import}
+use Rattle.web_messages.specs.declared.resource.Resource.TheVariants.{Report, Download, Add, Edit, Upload, Import, Page}
 use Rattle.report_options.specs.declared.command.Command.TheVariants.{Balance, Print, Register, IncomeStatement, BalanceSheet, Accounts}
 
 -- each route is made of bytes alone
@@ -107,6 +107,7 @@ all_routes =
     ∷ (codes "/journal", literal_route (codes "/journal") (Report Print))
     ∷ (codes "/register", literal_route (codes "/register") (Report Register))
     ∷ (codes "/upload", literal_route (codes "/upload") Upload)
+    ∷ (codes "/", literal_route (codes "/") Page)
     ∷ []
 
 -- this path finds among the routes what it names
@@ -134,6 +135,7 @@ lookup_finds path =
     by_text path (codes "/edit") refl (λ no_edit.
     by_text path (codes "/upload") refl (λ no_upload.
     by_text path (codes "/import") refl (λ no_import.
+    by_text path (codes "/") refl (λ no_home.
     rw (
       same_flip (codes "/accounts") path,
       same_flip (codes "/add") path,
@@ -146,6 +148,7 @@ lookup_finds path =
       same_flip (codes "/journal") path,
       same_flip (codes "/register") path,
       same_flip (codes "/upload") path,
+      same_flip (codes "/") path,
       no_balance,
       no_journal,
       no_register,
@@ -157,7 +160,8 @@ lookup_finds path =
       no_edit,
       no_upload,
       no_import,
-    ) refl)))))))))))
+      no_home,
+    ) refl))))))))))))
 
 -- none of them has a parameter
 all_literal : AreLiteral all_routes
@@ -193,6 +197,7 @@ no_text path h =
       differs (codes "/edit") (search rules),
       differs (codes "/upload") (search rules),
       differs (codes "/import") (search rules),
+      differs (codes "/") (search rules),
     ) refl
   where
     differs : (text : List ℕ) → AreAscii text → bytes_eq path text ≡ false

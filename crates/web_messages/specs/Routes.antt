@@ -6,6 +6,8 @@ use Rattle.web_messages.specs.declared.refusal.Refusal.{Refusal}
 use Rattle.web_messages.specs.declared.refusal.Refusal.TheVariants as refusal
 use Rattle.web_messages.specs.declared.resource.Resource.{Resource}
 use Rattle.web_messages.specs.declared.resource.Resource.TheVariants as resource
+use Rattle.web_messages.specs.declared.route.PageRoute.{PageRoute}
+use Rattle.web_messages.specs.declared.route.PageRoute.TheVariants as page
 use Rattle.web_messages.specs.declared.route.Route.{Route}
 use Rattle.web_messages.specs.declared.route.Route.TheVariants as route
 use Rattle.httparse.specs.Grammar.{RequestHead}
@@ -24,6 +26,10 @@ query_of target = after_first (λ b. b == 63) target
 abbrev pub by_method : List ℕ → List ℕ → Route → Refusal → Route
 by_method method wanted found refused = if bytes_eq method wanted then found else route.Refused refused
 
+-- where a method leads at the page's path, if the server has a page
+abbrev pub page_by_method : List ℕ → List ℕ → PageRoute
+page_by_method method wanted = if bytes_eq method wanted then page.Home else page.Refused refusal.GetOnly
+
 -- where a method leads at what a path names
 abbrev pub route_at : List ℕ → Option Resource → Route
 route_at method None = route.Refused refusal.Path
@@ -33,6 +39,7 @@ route_at method (Some resource.Add) = by_method method (codes "POST") route.Add 
 route_at method (Some resource.Edit) = by_method method (codes "POST") route.Edit refusal.PostOnly
 route_at method (Some resource.Upload) = by_method method (codes "POST") route.Upload refusal.PostOnly
 route_at method (Some resource.Import) = by_method method (codes "POST") route.Import refusal.PostOnly
+route_at method (Some resource.Page) = route.Page (page_by_method method (codes "GET"))
 
 -- where a method and a path lead
 abbrev pub route_of : List ℕ → List ℕ → Route

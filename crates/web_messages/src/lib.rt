@@ -8,6 +8,7 @@ pub mod form;
 pub mod head;
 pub mod incoming;
 mod origin;
+pub mod page;
 pub mod paths;
 mod reading;
 pub mod receive;

@@ -73,6 +73,7 @@ impl Paths {
         add(&mut router, "/edit", Resource::Edit)?;
         add(&mut router, "/upload", Resource::Upload)?;
         add(&mut router, "/import", Resource::Import)?;
+        add(&mut router, "/", Resource::Page)?;
         Ok(Paths { router })
     }
 

@@ -17,4 +17,6 @@ pub enum Resource {
     Upload,
     /// The file of a bank.
     Import,
+    /// The page, which not every server has.
+    Page,
 }

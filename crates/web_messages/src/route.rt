@@ -1,6 +1,6 @@
 //! Where the method and the target of a head lead.
 ghost use Rattle.std.specs.Prelude.{◌≡◌};
-ghost use Rattle.web_messages.specs.Routes.{path_of, query_of, by_method, route_of, from_elsewhere, route_from};
+ghost use Rattle.web_messages.specs.Routes.{path_of, query_of, by_method, page_by_method, route_of, from_elsewhere, route_from};
 
 use crate::paths::Paths;
 use crate::refusal::Refusal;
@@ -22,6 +22,17 @@ pub enum Route {
     Upload,
     /// To the entries of a file.
     Import,
+    /// To the page's path, which leads nowhere where the server has no page.
+    Page(PageRoute),
+    /// Nowhere.
+    Refused(Refusal),
+}
+
+/// Where the page's path leads, if the server has a page.
+#[derive(Clone, Copy, Debug, PartialEq, Eq)]
+pub enum PageRoute {
+    /// To the page.
+    Home,
     /// Nowhere.
     Refused(Refusal),
 }
@@ -48,6 +59,17 @@ fn by_one_method(method: &[u8], wanted: &[u8], found: Route, refusal: Refusal) -
     }
 }
 
+/// Where a method leads at the page's path, which is taken by one method alone.
+fn page_by_one_method(method: &[u8], wanted: &[u8]) -> PageRoute
+    ensures { result ≡ page_by_method method.now wanted.now }
+{
+    if method == wanted {
+        PageRoute::Home
+    } else {
+        PageRoute::Refused(Refusal::GetOnly)
+    }
+}
+
 /// Where a method and a path lead.
 pub fn find_route(paths: &Paths, method: &[u8], path: &[u8]) -> Route
     ensures { result ≡ route_of method.now path.now }
@@ -69,6 +91,7 @@ pub fn find_route(paths: &Paths, method: &[u8], path: &[u8]) -> Route
         Some(Resource::Edit) => by_one_method(method, b"POST", Route::Edit, Refusal::PostOnly),
         Some(Resource::Upload) => by_one_method(method, b"POST", Route::Upload, Refusal::PostOnly),
         Some(Resource::Import) => by_one_method(method, b"POST", Route::Import, Refusal::PostOnly),
+        Some(Resource::Page) => Route::Page(page_by_one_method(method, b"GET")),
         None => Route::Refused(Refusal::Path),
     }
 }
