@@ -2,8 +2,8 @@
 use Rattle.std.proofs.Common.{◌≡◌, ℕ, ◌≤◌, Bool, List, [], ◌∷◌, ◌++◌, length, take, drop, Option, Some, None, IfSome, Result, Ok, Err, IfErr, refl, ap, sym, ◌∙◌, subst, inr, append-nil, take-append-drop}
 use Rattle.web_desk.specs.declared.conn_end.ConnEnd.{ConnEnd}
 use Rattle.web_desk.specs.declared.conn_end.ConnEnd.TheVariants as conn
-use Rattle.web_messages.specs.declared.refusal.Refusal.{Refusal}
-use Rattle.web_desk.specs.Answers.{entry_message, refusal_message}
+use Rattle.web_desk.specs.declared.own_reply.OwnReply.{OwnReply}
+use Rattle.web_desk.specs.Answers.{entry_message, own_message}
 use Rattle.desk.specs.Entries.{Entry}
 use Rattle.web_messages.specs.declared.broken.Broken.{Broken}
 use Rattle.web_messages.specs.declared.broken.Broken.TheVariants as broken
@@ -37,18 +37,18 @@ unsent sent result end whole is =
 pub front_by : (n : ℕ) (whole : List ℕ) → IsFrontOf (take n whole) whole
 front_by n whole = (drop n whole, sym (take-append-drop n whole))
 
-pub refusal_answers : (result : Result (Unit {0}) ConnEnd) (closing : Bool) (refused : Refusal) (text : List ℕ) → IfErr result IsBroken
-    → SentSo result (refusal_message closing refused) text → AnswersSo closing (Err refused) result [] text
-refusal_answers (Ok done) closing refused text b s = (None, tt, refl, s)
-refusal_answers (Err (conn.LinkFault way)) closing refused text b s = inr (None, tt, refl, s)
-refusal_answers (Err conn.Memory) closing refused text b s = inr (None, tt, refl, s)
-refusal_answers (Err conn.Closed) closing refused text b s = absurd b
-refusal_answers (Err (conn.BadHead at)) closing refused text b s = absurd b
-refusal_answers (Err conn.HeadTooLong) closing refused text b s = absurd b
-refusal_answers (Err (conn.BodyTooLong said)) closing refused text b s = absurd b
-refusal_answers (Err (conn.CutOff had said)) closing refused text b s = absurd b
-refusal_answers (Err conn.Spent) closing refused text b s = absurd b
-refusal_answers (Err (conn.HeadCut had)) closing refused text b s = absurd b
+pub own_answers : (result : Result (Unit {0}) ConnEnd) (closing : Bool) (own_reply : OwnReply) (text : List ℕ) → IfErr result IsBroken
+    → SentSo result (own_message closing own_reply) text → AnswersSo closing (Err own_reply) result [] text
+own_answers (Ok done) closing own_reply text b s = (None, tt, refl, s)
+own_answers (Err (conn.LinkFault way)) closing own_reply text b s = inr (None, tt, refl, s)
+own_answers (Err conn.Memory) closing own_reply text b s = inr (None, tt, refl, s)
+own_answers (Err conn.Closed) closing own_reply text b s = absurd b
+own_answers (Err (conn.BadHead at)) closing own_reply text b s = absurd b
+own_answers (Err conn.HeadTooLong) closing own_reply text b s = absurd b
+own_answers (Err (conn.BodyTooLong said)) closing own_reply text b s = absurd b
+own_answers (Err (conn.CutOff had said)) closing own_reply text b s = absurd b
+own_answers (Err conn.Spent) closing own_reply text b s = absurd b
+own_answers (Err (conn.HeadCut had)) closing own_reply text b s = absurd b
 
 pub entry_answers : (result : Result (Unit {0}) ConnEnd) (closing : Bool) (entry : Entry) (text : List ℕ) → IfErr result IsBroken
     → SentSo result (entry_message closing entry) text → AnswersSo closing (Ok entry.request) result (entry ∷ []) text

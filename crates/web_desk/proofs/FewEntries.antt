@@ -7,7 +7,7 @@ use Rattle.web_desk.specs.declared.conn_end.ConnEnd.{ConnEnd}
 use Rattle.web_desk.specs.declared.conn_end.ConnEnd.TheVariants as conn
 use Rattle.web_desk.specs.Sent.{Sends}
 use Rattle.web_desk.specs.Turns.{BreaksIn, FailsSo, AnswersSo}
-use Rattle.web_messages.specs.declared.refusal.Refusal.{Refusal}
+use Rattle.web_desk.specs.declared.own_reply.OwnReply.{OwnReply}
 use Rattle.web_messages.specs.Streams.{most_messages}
 
 option_few : (entry : Option Entry) → length (option_to_list entry) ≤ 1
@@ -29,12 +29,12 @@ of_none entries is =
     let none : length entries ≡ 0 = ap (λ (es : List Entry). length es) is in
     omega (arith, none)
 
-breaks_few : (closing : Bool) (call : Result Request Refusal) (entries : List Entry) (text : List ℕ) → BreaksIn closing call entries text
+breaks_few : (closing : Bool) (call : Result Request OwnReply) (entries : List Entry) (text : List ℕ) → BreaksIn closing call entries text
     → length entries ≤ 1
 breaks_few closing call entries text (inl p) = of_none entries p.0
 breaks_few closing call entries text (inr p) = of_option p.0 entries p.2
 
-fails_few : (closing : Bool) (call : Result Request Refusal) (end : ConnEnd) (entries : List Entry) (text : List ℕ)
+fails_few : (closing : Bool) (call : Result Request OwnReply) (end : ConnEnd) (entries : List Entry) (text : List ℕ)
     → FailsSo closing call end entries text → length entries ≤ 1
 fails_few closing call (conn.LinkFault way) entries text p = breaks_few closing call entries text p
 fails_few closing call conn.Memory entries text p = breaks_few closing call entries text p
@@ -46,13 +46,13 @@ fails_few closing call (conn.BodyTooLong said) entries text p = absurd p
 fails_few closing call (conn.CutOff had said) entries text p = absurd p
 fails_few closing call (conn.HeadCut had) entries text p = absurd p
 
-answers_few : (closing : Bool) (call : Result Request Refusal) (result : Result (Unit {0}) ConnEnd) (entries : List Entry) (text : List ℕ)
+answers_few : (closing : Bool) (call : Result Request OwnReply) (result : Result (Unit {0}) ConnEnd) (entries : List Entry) (text : List ℕ)
     → AnswersSo closing call result entries text → length entries ≤ 1
 answers_few closing call (Ok done) entries text p = of_option p.0 entries p.2
 answers_few closing call (Err end) entries text p = fails_few closing call end entries text p
 
 -- a message has at most one entry, whatever the link tells
-pub one_at_most : (sent sent_now : Option (List ℕ)) (closing : Bool) (call : Result Request Refusal) (result : Result (Unit {0}) ConnEnd)
+pub one_at_most : (sent sent_now : Option (List ℕ)) (closing : Bool) (call : Result Request OwnReply) (result : Result (Unit {0}) ConnEnd)
     (entries : List Entry) → Sends sent sent_now (λ text. AnswersSo closing call result entries text) → length entries ≤ 1
 one_at_most sent sent_now closing call result entries told = answers_few closing call result entries told.0 told.2
 

@@ -25,6 +25,8 @@ use Rattle.web_messages.specs.declared.refusal.Refusal.{Refusal}
 use Rattle.web_messages.specs.declared.refusal.Refusal.TheVariants as refusal
 use Rattle.desk.specs.Entries.{Entry}
 use Rattle.web_desk.specs.Lines.{ended, body_of}
+use Rattle.web_desk.specs.declared.own_reply.OwnReply.{OwnReply}
+use Rattle.web_desk.specs.declared.own_reply.OwnReply.TheVariants as own
 
 abbrev pub crlf : List ℕ
 crlf = carriage_return ∷ line_feed ∷ []
@@ -61,6 +63,26 @@ head_text status revision allow closing size =
 abbrev pub message : ℕ → Option ℕ → List ℕ → Bool → List ℕ → List ℕ
 message status revision allow closing body = head_text status revision allow closing (length body) ++ body
 
+-- ---- the page
+
+-- what a browser may load for the page
+abbrev pub policy_field : List ℕ → List ℕ
+policy_field policy = codes "Content-Security-Policy: " ++ policy ++ crlf
+
+-- the reply with the page, up to its length
+abbrev pub page_opening : List ℕ → Bool → List ℕ
+page_opening policy closing = status_line 200 ++ codes "Content-Type: text/html; charset=utf-8\r\n" ++ policy_field policy ++ closing_field closing
+
+-- up to the page
+abbrev pub page_head : List ℕ → Bool → ℕ → List ℕ
+page_head policy closing size = page_opening policy closing ++ codes "Content-Length: " ++ decimal size ++ codes "\r\n\r\n"
+
+-- the whole reply
+abbrev pub page_message : Bool → List ℕ → List ℕ → List ℕ
+page_message closing text policy = page_head policy closing (length text) ++ text
+
+-- ---- refusals
+
 -- what the status of a refusal is, its line, and the methods that a path has
 abbrev pub refusal_status : Refusal → ℕ
 refusal_status refusal.Form = 400
@@ -95,6 +117,13 @@ allow_field refusal.Body = []
 -- the reply that refuses without the desk
 abbrev pub refusal_message : Bool → Refusal → List ℕ
 refusal_message closing r = message (refusal_status r) None (allow_field r) closing (refusal_line r)
+
+-- the reply that is sent without the desk
+abbrev pub own_message : Bool → OwnReply → List ℕ
+own_message closing (own.Refused refused) = refusal_message closing refused
+own_message closing (own.Page text policy) = page_message closing text policy
+
+-- ---- replies of the desk
 
 abbrev pub report_status : ReportFault → ℕ
 report_status (report.Range symbol) = 400
@@ -169,7 +198,7 @@ abbrev pub entry_message : Bool → Entry → List ℕ
 entry_message closing entry = reply_message closing entry.reply entry.revision
 
 -- what a message is answered: by the desk, or without it
-abbrev pub answer_to : Bool → Result Request Refusal → Option Entry → List ℕ
+abbrev pub answer_to : Bool → Result Request OwnReply → Option Entry → List ℕ
 answer_to closing (Ok request) None = []
 answer_to closing (Ok request) (Some entry) = entry_message closing entry
-answer_to closing (Err refused) entry = refusal_message closing refused
+answer_to closing (Err own_reply) entry = own_message closing own_reply

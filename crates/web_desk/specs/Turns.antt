@@ -3,6 +3,8 @@ use Rattle.std.specs.Prelude.{◌≡◌, ◌⊎◌, ℕ, ◌+◌, ◌<◌, Bool,
 use Rattle.desk.specs.declared.request.Request.{Request}
 use Rattle.web_desk.specs.declared.conn_end.ConnEnd.{ConnEnd}
 use Rattle.web_desk.specs.declared.conn_end.ConnEnd.TheVariants as conn
+use Rattle.web_desk.specs.declared.own_reply.OwnReply.{OwnReply}
+use Rattle.web_messages.specs.declared.page.Page.{Page}
 use Rattle.web_messages.specs.declared.receive.Stop.{Stop}
 use Rattle.web_messages.specs.declared.receive.Stop.TheVariants as stop
 use Rattle.web_messages.specs.declared.refusal.Refusal.{Refusal}
@@ -38,20 +40,20 @@ ClosesSo at s end text =
     ⊎ (IsBroken end × IsFrontOf text (ending_text (ending_of s)))
 
 -- a fault before the message had an entry, or while its answer was sent
-abbrev pub BreaksIn : Bool → Result Request Refusal → List Entry → List ℕ → Type 0
+abbrev pub BreaksIn : Bool → Result Request OwnReply → List Entry → List ℕ → Type 0
 BreaksIn closing call entries text =
     ((entries ≡ []) × (text ≡ []))
     ⊎ ((entry : Option Entry) × FitsCall call entry × (entries ≡ option_to_list entry) × IsFrontOf text (answer_to closing call entry))
 
 -- why a message wasn't answered
-abbrev pub FailsSo : Bool → Result Request Refusal → ConnEnd → List Entry → List ℕ → Type 0
+abbrev pub FailsSo : Bool → Result Request OwnReply → ConnEnd → List Entry → List ℕ → Type 0
 FailsSo closing call (conn.LinkFault way) entries text = BreaksIn closing call entries text
 FailsSo closing call conn.Memory entries text = BreaksIn closing call entries text
 FailsSo closing call conn.Spent entries text = (request : Request) × (call ≡ Ok request) × (entries ≡ []) × (text ≡ [])
 FailsSo closing call other entries text = ⊥
 
 -- a message was answered, with its entry if it asked, or why not
-abbrev pub AnswersSo : Bool → Result Request Refusal → Result (Unit {0}) ConnEnd → List Entry → List ℕ → Type 0
+abbrev pub AnswersSo : Bool → Result Request OwnReply → Result (Unit {0}) ConnEnd → List Entry → List ℕ → Type 0
 AnswersSo closing call (Ok done) entries text =
     (entry : Option Entry) × FitsCall call entry × (entries ≡ option_to_list entry) × (text ≡ answer_to closing call entry)
 AnswersSo closing call (Err end) entries text = FailsSo closing call end entries text
@@ -64,14 +66,14 @@ IsFailure conn.Spent = Unit {0}
 IsFailure other = ⊥
 
 -- One more message was answered, and the stream goes on from these bytes; or the connection ends.
-abbrev pub StepSo : ℕ → ℕ → List ℕ → List ℕ → Result ℕ ConnEnd → List Entry → List ℕ → Type 0
-StepSo at count rest rest_now (Ok size) entries text =
-    (x : Exchange) × IsServed x × (rest ≡ exchanged x ++ rest_now) × (size ≡ length (exchanged x))
-    × (entries ≡ entry_of x) × (text ≡ answer_of false x) × (count + 1 < most_messages)
-StepSo at count rest rest_now (Err end) entries text = Finishes at count rest end entries text
+abbrev pub StepSo : Page → ℕ → ℕ → List ℕ → List ℕ → Result ℕ ConnEnd → List Entry → List ℕ → Type 0
+StepSo page at count rest rest_now (Ok size) entries text =
+    (x : Exchange) × IsServed page x × (rest ≡ exchanged x ++ rest_now) × (size ≡ length (exchanged x))
+    × (entries ≡ entry_of x) × (text ≡ answer_of page false x) × (count + 1 < most_messages)
+StepSo page at count rest rest_now (Err end) entries text = Finishes page at count rest end entries text
 
 -- The same, with what was sent, and with the rest of the stream as it is to come then.
-abbrev pub Turned : Option (List ℕ) → Option (List ℕ) → Option (List ℕ) → Unread → ℕ → ℕ → List ℕ → Result ℕ ConnEnd → List Entry → Type 0
-Turned sent sent_now coming_now u_now at count rest result entries =
+abbrev pub Turned : Page → Option (List ℕ) → Option (List ℕ) → Option (List ℕ) → Unread → ℕ → ℕ → List ℕ → Result ℕ ConnEnd → List Entry → Type 0
+Turned page sent sent_now coming_now u_now at count rest result entries =
     (rest_now : List ℕ) × OnOk result (IsStream coming_now u_now rest_now)
-    × Sends sent sent_now (λ text. StepSo at count rest rest_now result entries text)
+    × Sends sent sent_now (λ text. StepSo page at count rest rest_now result entries text)

@@ -1,9 +1,10 @@
 //! The bytes of replies.
 ghost use Rattle.std.specs.Prelude.{◌≡◌, ◌++◌, IfOk, None, []};
 ghost use Rattle.std.specs.String.{string_bytes};
-ghost use Rattle.web_desk.specs.Answers.{message, phrase_of, status_line, opening_text, head_text, revision_field, closing_field, refusal_status, refusal_line, allow_field, refusal_message, report_status, words_status, gen_status, plan_status, rules_status, convert_status, csv_status, status_of, said_revision, reply_message};
+ghost use Rattle.web_desk.specs.Answers.{message, phrase_of, status_line, opening_text, head_text, revision_field, closing_field, policy_field, page_opening, page_head, page_message, own_message, refusal_status, refusal_line, allow_field, refusal_message, report_status, words_status, gen_status, plan_status, rules_status, convert_status, csv_status, status_of, said_revision, reply_message};
 
 use crate::lines::{line_of, plan_fault_line};
+use crate::own_reply::OwnReply;
 use book::print_fault;
 use csv_entries::ConvertFault;
 use csv_rules::RulesFault;
@@ -170,6 +171,59 @@ pub fn refusal_reply(alloc: Global, refusal: Refusal, closing: bool) -> Result<B
         closing,
         line.as_bytes(),
     )
+}
+
+/// The field Content-Security-Policy.
+fn policy_line(alloc: Global, policy: &str) -> Result<String, Memory>
+    ensures { IfOk result (λ line. string_bytes line ≡ policy_field policy.now) }
+{
+    let mut line = String::from_str(alloc, "Content-Security-Policy: ")?;
+    line.push_str(policy)?;
+    line.push_str("\r\n")?;
+    Ok(line)
+}
+
+/// The reply with the page up to its length.
+fn page_start(alloc: Global, policy: &str, closing: bool) -> Result<String, Memory>
+    ensures { IfOk result (λ text. string_bytes text ≡ page_opening policy.now closing) }
+{
+    let mut text = start_line(alloc, StatusCode::OK)?;
+    text.push_str("Content-Type: text/html; charset=utf-8\r\n")?;
+    text.push_str(policy_line(alloc, policy)?.as_str())?;
+    text.push_str(closing_line(closing))?;
+    Ok(text)
+}
+
+/// The reply with the page up to its body.
+fn page_front(alloc: Global, policy: &str, closing: bool, size: usize) -> Result<String, Memory>
+    ensures { IfOk result (λ text. string_bytes text ≡ page_head policy.now closing size) }
+{
+    let mut text = page_start(alloc, policy, closing)?;
+    text.push_str("Content-Length: ")?;
+    text.push_str(size.to_string(alloc)?.as_str())?;
+    text.push_str("\r\n\r\n")?;
+    Ok(text)
+}
+
+/// The reply with the page.
+fn page_bytes(alloc: Global, text: &[u8], policy: &str, closing: bool) -> Result<Bytes, Memory>
+    ensures { IfOk result (λ bytes. bytes ≡ page_message closing text.now policy.now) }
+{
+    let mut bytes = page_front(alloc, policy, closing, text.len())?.into_bytes();
+    bytes.extend_from_slice(text)?;
+    Ok(Bytes::from_vec(bytes))
+}
+
+/// The bytes of a reply for which the journal isn't asked.
+pub fn own_bytes(alloc: Global, own: OwnReply, closing: bool) -> Result<Bytes, Memory>
+    ensures { IfOk result (λ bytes. bytes ≡ own_message closing own) }
+{
+    match own {
+        OwnReply::Refused(refusal) => refusal_reply(alloc, refusal, closing),
+        OwnReply::Page { text, policy } => {
+            page_bytes(alloc, text.as_slice(), policy.as_str(), closing)
+        }
+    }
 }
 
 /// The status of a report that isn't made.

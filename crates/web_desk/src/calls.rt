@@ -1,15 +1,18 @@
-//! What a message asks, by where its head leads and what its parameters say.
+//! What a message asks, by where its head leads and what its parameters say, or how it is answered without the journal.
 ghost use Rattle.std.specs.Prelude.{◌≡◌, IfOk, []};
-ghost use Rattle.web_desk.specs.Calls.{call_at, word_of};
+ghost use Rattle.web_desk.specs.Calls.{call_at, or_own, page_at, page_route_in, request_at, shown_at, word_of};
+ghost use Rattle.web_messages.specs.Forms.{parameters_of};
 
 use crate::edits::{edit_of, import_of};
+use crate::own_reply::OwnReply;
 use desk::Request;
 use hl_base::{Bytes, Memory, Text};
 use report_options::Command;
 use std::alloc::Global;
 use web_messages::form::{all_named, only_number, parameters, take_only, take_values};
+use web_messages::page::Page;
 use web_messages::refusal::Refusal;
-use web_messages::route::Route;
+use web_messages::route::{PageRoute, Route};
 
 /// The word of a report.
 fn command_word(command: Command) -> &'static str
@@ -28,7 +31,7 @@ fn command_word(command: Command) -> &'static str
 
 /// The report that a query asks for.
 fn report(alloc: Global, command: Command, query: &[u8]) -> Result<Result<Request, Refusal>, Memory>
-    ensures { IfOk result (λ call. call ≡ call_at (Route.Report command) query.now []) }
+    ensures { IfOk result (λ asked. asked ≡ request_at (Route.Report command) query.now []) }
 {
     let all = parameters(alloc, query)?;
     if !all_named(all.as_slice(), b"q") {
@@ -40,7 +43,7 @@ fn report(alloc: Global, command: Command, query: &[u8]) -> Result<Result<Reques
 
 /// The text of the journal, where the query has no parameter.
 fn download(alloc: Global, query: &[u8]) -> Result<Result<Request, Refusal>, Memory>
-    ensures { IfOk result (λ call. call ≡ call_at Route.Download query.now []) }
+    ensures { IfOk result (λ asked. asked ≡ request_at Route.Download query.now []) }
 {
     if parameters(alloc, query)?.is_empty() {
         Ok(Ok(Request::Download))
@@ -51,7 +54,7 @@ fn download(alloc: Global, query: &[u8]) -> Result<Result<Request, Refusal>, Mem
 
 /// The entry that a form adds.
 fn addition(alloc: Global, query: &[u8], body: &[u8]) -> Result<Result<Request, Refusal>, Memory>
-    ensures { IfOk result (λ call. call ≡ call_at Route.Add query.now body.now) }
+    ensures { IfOk result (λ asked. asked ≡ request_at Route.Add query.now body.now) }
 {
     if !parameters(alloc, query)?.is_empty() {
         return Ok(Err(Refusal::Form));
@@ -66,7 +69,7 @@ fn addition(alloc: Global, query: &[u8], body: &[u8]) -> Result<Result<Request, 
 
 /// The edit that a form asks for.
 fn edit(alloc: Global, query: &[u8], body: &[u8]) -> Result<Result<Request, Refusal>, Memory>
-    ensures { IfOk result (λ call. call ≡ call_at Route.Edit query.now body.now) }
+    ensures { IfOk result (λ asked. asked ≡ request_at Route.Edit query.now body.now) }
 {
     if !parameters(alloc, query)?.is_empty() {
         return Ok(Err(Refusal::Form));
@@ -76,7 +79,7 @@ fn edit(alloc: Global, query: &[u8], body: &[u8]) -> Result<Result<Request, Refu
 
 /// The text that a body puts in the place of the journal's, from a revision that the query names.
 fn upload(alloc: Global, query: &[u8], body: &[u8]) -> Result<Result<Request, Refusal>, Memory>
-    ensures { IfOk result (λ call. call ≡ call_at Route.Upload query.now body.now) }
+    ensures { IfOk result (λ asked. asked ≡ request_at Route.Upload query.now body.now) }
 {
     match only_number(parameters(alloc, query)?, b"base") {
         Some(base) => Ok(Ok(Request::Replace {
@@ -89,7 +92,7 @@ fn upload(alloc: Global, query: &[u8], body: &[u8]) -> Result<Result<Request, Re
 
 /// The import that a form asks for.
 fn import(alloc: Global, query: &[u8], body: &[u8]) -> Result<Result<Request, Refusal>, Memory>
-    ensures { IfOk result (λ call. call ≡ call_at Route.Import query.now body.now) }
+    ensures { IfOk result (λ asked. asked ≡ request_at Route.Import query.now body.now) }
 {
     if !parameters(alloc, query)?.is_empty() {
         return Ok(Err(Refusal::Form));
@@ -97,14 +100,14 @@ fn import(alloc: Global, query: &[u8], body: &[u8]) -> Result<Result<Request, Re
     import_of(alloc, parameters(alloc, body)?.as_slice())
 }
 
-/// What a message asks, or why it is refused.
-pub fn call(
+/// What a message asks of the journal, or why it is refused.
+fn request(
     alloc: Global,
     route: Route,
     query: &[u8],
     body: &[u8],
 ) -> Result<Result<Request, Refusal>, Memory>
-    ensures { IfOk result (λ call. call ≡ call_at route query.now body.now) }
+    ensures { IfOk result (λ asked. asked ≡ request_at route query.now body.now) }
 {
     match route {
         Route::Report(command) => report(alloc, command, query),
@@ -113,6 +116,98 @@ pub fn call(
         Route::Edit => edit(alloc, query, body),
         Route::Upload => upload(alloc, query, body),
         Route::Import => import(alloc, query, body),
+        Route::Page(_) => Ok(Err(Refusal::Path)),
         Route::Refused(refusal) => Ok(Err(refusal)),
+    }
+}
+
+/// A request of the journal, or the reply that refuses it.
+fn or_own(asked: Result<Request, Refusal>) -> Result<Request, OwnReply>
+    ensures { result ≡ or_own asked }
+{
+    match asked {
+        Ok(request) => Ok(request),
+        Err(refusal) => Err(OwnReply::Refused(refusal)),
+    }
+}
+
+/// Where the page's path leads, of a message that goes there.
+fn page_route_in(route: Route) -> Option<PageRoute>
+    ensures { result ≡ page_route_in route }
+{
+    match route {
+        Route::Page(found) => Some(found),
+        Route::Report(_)
+        | Route::Download
+        | Route::Add
+        | Route::Edit
+        | Route::Upload
+        | Route::Import
+        | Route::Refused(_) => None,
+    }
+}
+
+/// The reply with a page, where the query has no parameter.
+fn page_reply(alloc: Global, text: &Bytes, policy: &Text, query: &[u8]) -> Result<OwnReply, Memory>
+    ensures { IfOk result (λ own. own ≡ shown_at text.now policy.now (parameters_of query.now)) }
+{
+    if !parameters(alloc, query)?.is_empty() {
+        return Ok(OwnReply::Refused(Refusal::Form));
+    }
+    let text = Bytes::copied(alloc, text.as_slice())?;
+    let policy = Text::copied(alloc, policy.as_str())?;
+    Ok(OwnReply::Page { text, policy })
+}
+
+/// The reply at the path of a page that is there.
+fn shown_reply(
+    alloc: Global,
+    text: &Bytes,
+    policy: &Text,
+    found: PageRoute,
+    query: &[u8],
+) -> Result<OwnReply, Memory>
+    ensures { IfOk result (λ own. own ≡ page_at (Page.Shown text.now policy.now) found query.now) }
+{
+    match found {
+        PageRoute::Home => page_reply(alloc, text, policy, query),
+        PageRoute::Refused(refusal) => Ok(OwnReply::Refused(refusal)),
+    }
+}
+
+/// The reply at the page's path.
+fn page_path_reply(
+    alloc: Global,
+    page: &Page,
+    found: PageRoute,
+    query: &[u8],
+) -> Result<OwnReply, Memory>
+    ensures { IfOk result (λ own. own ≡ page_at page.now found query.now) }
+{
+    match page {
+        Page::Absent => Ok(OwnReply::Refused(Refusal::Path)),
+        Page::Shown { text, policy } => shown_reply(alloc, text, policy, found, query),
+    }
+}
+
+/// What a message asks of the journal, or its reply where it asks nothing. Only the replies at `/` depend on the page.
+pub fn call(
+    alloc: Global,
+    page: &Page,
+    route: Route,
+    query: &[u8],
+    body: &[u8],
+) -> Result<Result<Request, OwnReply>, Memory>
+    ensures { IfOk result (λ call. call ≡ call_at page.now route query.now body.now) }
+{
+    match page_route_in(route) {
+        Some(found) => {
+            let own = page_path_reply(alloc, page, found, query)?;
+            Ok(Err(own))
+        }
+        None => {
+            let asked = request(alloc, route, query, body)?;
+            Ok(or_own(asked))
+        }
     }
 }

@@ -9,6 +9,7 @@ pub mod calls;
 pub mod conn_end;
 mod edits;
 pub mod lines;
+pub mod own_reply;
 mod reading;
 pub mod serve;
 

@@ -12,10 +12,11 @@ ghost use Rattle.web_desk.specs.Ends.{EndsWell, IsBroken, end_of, end_of_broken}
 ghost use Rattle.web_desk.specs.Sent.{Sends};
 ghost use Rattle.web_desk.specs.Turns.{refusal_at, SentSo, ClosesSo, AnswersSo, IsFailure, Turned};
 
-use crate::answer::{desk_reply, refusal_reply};
+use crate::answer::{desk_reply, own_bytes, refusal_reply};
 use crate::ask::Ask;
 use crate::calls::call;
 use crate::conn_end::{ConnEnd, Way};
+use crate::own_reply::OwnReply;
 use desk::Request;
 use hl_base::{Bytes, Clock, Link, Steps, send_all};
 use hl_time::Day;
@@ -25,6 +26,7 @@ use std::sync::ledger::Ledger;
 use web_messages::Broken;
 use web_messages::head::Head;
 use web_messages::incoming::Incoming;
+use web_messages::page::Page;
 use web_messages::paths::Paths;
 use web_messages::receive::{Next, Stop, next_message};
 use web_messages::refusal::Refusal;
@@ -135,27 +137,28 @@ fn answer_request<A: Ask, K: Link, C: Clock, M: Maker, L: Ledger>(
     send(link, &text)
 }
 
-/// Refuses a message, after which the connection may go on.
-fn answer_refusal<K: Link>(
+/// Answers a message without asking anybody, after which the connection may go on.
+fn answer_own<K: Link>(
     alloc: Global,
     link: &mut K,
-    refusal: Refusal,
+    own: OwnReply,
     closing: bool,
 ) -> Result<(), ConnEnd>
     ensures answered { Sends (K.sent link.old) (K.sent link.new)
-        (λ text. AnswersSo closing (Err refusal) result [] text) }
+        (λ text. AnswersSo closing (Err own) result [] text) }
     ensures coming { K.coming link.new ≡ K.coming link.old }
     ensures kind { IfErr result IsBroken }
     ensures counted { CountedIn result (K.read_faults link.old) (K.read_faults link.new)
         (K.write_faults link.old) (K.write_faults link.new) }
 {
-    let text = refusal_reply(alloc, refusal, closing)?;
+    let text = own_bytes(alloc, own, closing)?;
     send(link, &text)
 }
 
 /// Answers a message.
 fn answer<A: Ask, K: Link, C: Clock, M: Maker, L: Ledger>(
     alloc: Global,
+    page: &Page,
     ask: &mut A,
     link: &mut K,
     clock: &mut C,
@@ -169,8 +172,8 @@ fn answer<A: Ask, K: Link, C: Clock, M: Maker, L: Ledger>(
         × AreAsked (C.always clock.old) (M.refusals maker.old) (M.refusals maker.new)
         (M.last_refused maker.old) (M.last_refused maker.new) entries
         × Sends (K.sent link.old) (K.sent link.new)
-        (λ text. AnswersSo closing (call_at head.now.route head.now.query body.now) result entries
-        text) }
+        (λ text. AnswersSo closing (call_at page.now head.now.route head.now.query body.now) result
+        entries text) }
     ensures spent { result ≡ Err ConnEnd.Spent → A.IsSpent ask.new }
     ensures always { C.always clock.new ≡ C.always clock.old }
     ensures coming { K.coming link.new ≡ K.coming link.old }
@@ -178,9 +181,9 @@ fn answer<A: Ask, K: Link, C: Clock, M: Maker, L: Ledger>(
     ensures counted { CountedIn result (K.read_faults link.old) (K.read_faults link.new)
         (K.write_faults link.old) (K.write_faults link.new) }
 {
-    match call(alloc, head.route, head.query.as_slice(), body)? {
+    match call(alloc, page, head.route, head.query.as_slice(), body)? {
         Ok(request) => answer_request(alloc, ask, link, clock, maker, steps, &request, closing),
-        Err(refusal) => answer_refusal(alloc, link, refusal, closing),
+        Err(own) => answer_own(alloc, link, own, closing),
     }
 }
 
@@ -227,6 +230,7 @@ fn read_next<K: Link>(
 fn serve_one<A: Ask, K: Link, C: Clock, M: Maker, L: Ledger>(
     alloc: Global,
     paths: &Paths,
+    page: &Page,
     ask: &mut A,
     link: &mut K,
     clock: &mut C,
@@ -241,8 +245,8 @@ fn serve_one<A: Ask, K: Link, C: Clock, M: Maker, L: Ledger>(
         × AreAsked (C.always clock.old) (M.refusals maker.old) (M.refusals maker.new)
         (M.last_refused maker.old) (M.last_refused maker.new) entries
         × ((rest : List ℕ) → IsStream (K.coming link.old) incoming.old rest
-        → Turned (K.sent link.old) (K.sent link.new) (K.coming link.new) incoming.new at count rest
-        result entries)
+        → Turned page.now (K.sent link.old) (K.sent link.new) (K.coming link.new) incoming.new at
+        count rest result entries)
         × length entries ≤ 1 }
     ensures size { IfOk result (λ size. size ≤ 8404992) }
     ensures few { OnOk result (count + 1 < most_messages) }
@@ -257,7 +261,9 @@ fn serve_one<A: Ask, K: Link, C: Clock, M: Maker, L: Ledger>(
             let closing = closes_after(&head, count);
             let (message, _) = incoming.as_slice().split_at(total);
             let (_, body) = message.split_at(head.length);
-            answer(alloc, ask, link, clock, maker, steps, &head, body, closing)?;
+            answer(
+                alloc, page, ask, link, clock, maker, steps, &head, body, closing,
+            )?;
             if closing {
                 return Err(ConnEnd::Closed);
             }
@@ -268,9 +274,11 @@ fn serve_one<A: Ask, K: Link, C: Clock, M: Maker, L: Ledger>(
 }
 
 /// Answers the messages that come over a link, one after another, up to the end of the connection. A message's day is
-/// the clock's, and the patterns of its words are built by the maker.
+/// the clock's, and the patterns of its words are built by the maker. Where there is a page, GET / is answered with it, and
+/// nobody is asked.
 pub fn serve_link<A: Ask, K: Link, C: Clock, M: Maker, L: Ledger>(
     alloc: Global,
+    page: &Page,
     ask: &mut A,
     link: &mut K,
     clock: &mut C,
@@ -286,7 +294,7 @@ pub fn serve_link<A: Ask, K: Link, C: Clock, M: Maker, L: Ledger>(
         (M.last_refused maker.old) (M.last_refused maker.new) entries
         × IfSome (K.coming link.old)
         (λ bytes. Sends (K.sent link.old) (K.sent link.new) (λ text.
-        Served bytes result entries text))
+        Served page.now bytes result entries text))
         × length entries ≤ most_messages }
     ensures counted { Counted result (K.read_faults link.old) (K.read_faults link.new)
         (K.write_faults link.old) (K.write_faults link.new) }
@@ -307,6 +315,7 @@ pub fn serve_link<A: Ask, K: Link, C: Clock, M: Maker, L: Ledger>(
         match serve_one(
             alloc,
             &paths,
+            page,
             ask,
             link,
             clock,

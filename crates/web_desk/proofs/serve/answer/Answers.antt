@@ -3,7 +3,7 @@ use Rattle.std.proofs.lemmas.Result.{err_from_is_err_and}
 use Rattle.desk.specs.declared.request.Request.{Request}
 use Rattle.web_desk.specs.declared.conn_end.ConnEnd.{ConnEnd}
 use Rattle.web_desk.specs.declared.conn_end.ConnEnd.TheVariants as conn
-use Rattle.web_messages.specs.declared.refusal.Refusal.{Refusal}
+use Rattle.web_desk.specs.declared.own_reply.OwnReply.{OwnReply}
 use Rattle.web_desk.specs.Calls.{call_at}
 use Rattle.web_desk.specs.Turns.{AnswersSo}
 use Rattle.web_desk.specs.Sent.{Sends}
@@ -15,7 +15,7 @@ pub returns-in_err-request-clause-answered : goal.returns-in_err-request-clause-
 returns-in_err-request-clause-answered g c =
     let sent = g.K.Link.sent c.args.link.now in
     let head = c.args.head.now in
-    let call = call_at head.route head.query c.args.body.now in
+    let call = call_at c.args.page.now head.route head.query c.args.body.now in
     let p = err_from_is_err_and c.from_residual.result c.from_residual.ensures.1 in
     let e : c.from_residual.result ≡ Err conn.Memory = p.1 ∙ ap Err p.2 in
     let R : Result (Unit {0}) ConnEnd → Type 0 = λ r. AnswersSo c.args.closing call r [] [] in (
@@ -28,10 +28,10 @@ returns-in_err-request-clause-answered g c =
 pub returns-in-Err-clause-answered : goal.returns-in-Err-clause-answered
 returns-in-Err-clause-answered g c =
     let sent = g.K.Link.sent c.args.link.now in
-    let sent_now = g.K.Link.sent c.answer_refusal.new.link in
-    let P : Result Request Refusal → Type 0 = λ call. Sends sent sent_now (λ text. AnswersSo c.args.closing call c.answer_refusal.result [] text) in
+    let sent_now = g.K.Link.sent c.answer_own.new.link in
+    let P : Result Request OwnReply → Type 0 = λ call. Sends sent sent_now (λ text. AnswersSo c.args.closing call c.answer_own.result [] text) in
     let head = c.args.head.now in
     let body = c.args.body.now in
-    let e : Err c.in-Err.refusal ≡ call_at head.route head.query body =
-    sym c.in-Err.is ∙ (c.in_ok-request.ensures ∙ ap (λ q. call_at head.route q body) c.as_slice.ensures) in
-    ([], g.met.A.Ask.none c.args.ask.now, none_asked (g.C.Clock.always c.args.clock.now) (g.M.Maker.refusals c.args.maker.now) (g.M.Maker.last_refused c.args.maker.now), subst P e c.answer_refusal.ensures.answered)
+    let e : Err c.in-Err.own ≡ call_at c.args.page.now head.route head.query body =
+    sym c.in-Err.is ∙ (c.in_ok-request.ensures ∙ ap (λ q. call_at c.args.page.now head.route q body) c.as_slice.ensures) in
+    ([], g.met.A.Ask.none c.args.ask.now, none_asked (g.C.Clock.always c.args.clock.now) (g.M.Maker.refusals c.args.maker.now) (g.M.Maker.last_refused c.args.maker.now), subst P e c.answer_own.ensures.answered)

@@ -9,26 +9,26 @@ use Rattle.web_desk.proofs.serve.serve_link.Goals as goal
 pub returns-in_default-clause-served : goal.returns-in_default-clause-served
 returns-in_default-clause-served g c =
     let link = g.K.Link in
-    ([], g.met.A.Ask.none c.args.ask.now, none_asked (g.C.Clock.always c.args.clock.now) (g.M.Maker.refusals c.args.maker.now) (g.M.Maker.last_refused c.args.maker.now), served_nothing (link.coming c.args.link.now) (link.sent c.args.link.now), omega arith)
+    ([], g.met.A.Ask.none c.args.ask.now, none_asked (g.C.Clock.always c.args.clock.now) (g.M.Maker.refusals c.args.maker.now) (g.M.Maker.last_refused c.args.maker.now), served_nothing c.args.page.now (link.coming c.args.link.now) (link.sent c.args.link.now), omega arith)
 
 pub returns-in_default-new-clause-served : goal.returns-in_default-new-clause-served
 returns-in_default-new-clause-served g c =
     let link = g.K.Link in
-    ([], g.met.A.Ask.none c.args.ask.now, none_asked (g.C.Clock.always c.args.clock.now) (g.M.Maker.refusals c.args.maker.now) (g.M.Maker.last_refused c.args.maker.now), served_nothing (link.coming c.args.link.now) (link.sent c.args.link.now), omega arith)
+    ([], g.met.A.Ask.none c.args.ask.now, none_asked (g.C.Clock.always c.args.clock.now) (g.M.Maker.refusals c.args.maker.now) (g.M.Maker.last_refused c.args.maker.now), served_nothing c.args.page.now (link.coming c.args.link.now) (link.sent c.args.link.now), omega arith)
 
 pub messages-init : goal.messages-init
 messages-init g c =
     let link = g.K.Link in
     let coming = link.coming c.args.link.now in
     let sent = link.sent c.args.link.now in
-    let P : Unread → Type 0 = λ u. Ran coming sent coming sent u 0 0 [] in
+    let P : Unread → Type 0 = λ u. Ran c.args.page.now coming sent coming sent u 0 0 [] in
     record {
       few = lit< tt;
       bound = omega arith;
       always = refl;
       reads = refl;
       writes = refl;
-      run = ([], g.met.A.Ask.none c.args.ask.now, none_asked (g.C.Clock.always c.args.clock.now) (g.M.Maker.refusals c.args.maker.now) (g.M.Maker.last_refused c.args.maker.now), subst P (sym c.in-Ok-new.ensures) (ran_start coming sent), omega arith);
+      run = ([], g.met.A.Ask.none c.args.ask.now, none_asked (g.C.Clock.always c.args.clock.now) (g.M.Maker.refusals c.args.maker.now) (g.M.Maker.last_refused c.args.maker.now), subst P (sym c.in-Ok-new.ensures) (ran_start c.args.page.now coming sent), omega arith);
     }
 
 pub returns-in-Err-clause-served : goal.returns-in-Err-clause-served
@@ -41,7 +41,7 @@ returns-in-Err-clause-served g c =
       g.met.A.Ask.joined c.args.ask.now c.messages.ask c.serve_one.new.ask run.0 one.0 run.1 one.1,
       asked_more (g.C.Clock.always c.args.clock.now) (g.C.Clock.always c.messages.clock) (maker.refusals c.args.maker.now) (maker.refusals c.messages.maker) (maker.refusals c.serve_one.new.maker)
           (maker.last_refused c.args.maker.now) (maker.last_refused c.messages.maker) (maker.last_refused c.serve_one.new.maker) run.0 one.0 c.messages.invariant.always run.2 one.2,
-      served_end (link.coming c.args.link.now) (link.sent c.args.link.now) (link.coming c.messages.link) (link.sent c.messages.link)
+      served_end c.args.page.now (link.coming c.args.link.now) (link.sent c.args.link.now) (link.coming c.messages.link) (link.sent c.messages.link)
           (link.coming c.serve_one.new.link) (link.sent c.serve_one.new.link) c.messages.incoming c.serve_one.new.incoming c.messages.at c.messages.count
           c.in-Err.end run.0 one.0 run.3 one.3,
       few_in_all run.0 one.0 c.messages.count c.messages.invariant.few run.4 one.4,
@@ -64,7 +64,7 @@ messages-preserved g c =
         g.met.A.Ask.joined c.args.ask.now c.messages.ask c.serve_one.new.ask run.0 one.0 run.1 one.1,
         asked_more (g.C.Clock.always c.args.clock.now) (g.C.Clock.always c.messages.clock) (maker.refusals c.args.maker.now) (maker.refusals c.messages.maker) (maker.refusals c.serve_one.new.maker)
             (maker.last_refused c.args.maker.now) (maker.last_refused c.messages.maker) (maker.last_refused c.serve_one.new.maker) run.0 one.0 c.messages.invariant.always run.2 one.2,
-        ran_more (link.coming c.args.link.now) (link.sent c.args.link.now) (link.coming c.messages.link) (link.sent c.messages.link)
+        ran_more c.args.page.now (link.coming c.args.link.now) (link.sent c.args.link.now) (link.coming c.messages.link) (link.sent c.messages.link)
             (link.coming c.serve_one.new.link) (link.sent c.serve_one.new.link) c.messages.incoming c.serve_one.new.incoming c.messages.at c.messages.count
             c.in-Ok-serve_one.size run.0 one.0 run.3 one.3,
         few_more run.0 one.0 c.messages.count run.4 one.4,
@@ -85,7 +85,7 @@ returns-in-Err-clause-sound g c =
     let link = g.K.Link in
     let run = c.messages.invariant.run in
     let one = c.in-Err.ensures.served in
-    told_well (link.coming c.args.link.now) (link.sent c.args.link.now) (link.sent c.serve_one.new.link) c.in-Err.end (run.0 ++ one.0)
-    (served_end (link.coming c.args.link.now) (link.sent c.args.link.now) (link.coming c.messages.link) (link.sent c.messages.link)
+    told_well c.args.page.now (link.coming c.args.link.now) (link.sent c.args.link.now) (link.sent c.serve_one.new.link) c.in-Err.end (run.0 ++ one.0)
+    (served_end c.args.page.now (link.coming c.args.link.now) (link.sent c.args.link.now) (link.coming c.messages.link) (link.sent c.messages.link)
     (link.coming c.serve_one.new.link) (link.sent c.serve_one.new.link) c.messages.incoming c.serve_one.new.incoming c.messages.at c.messages.count
     c.in-Err.end run.0 one.0 run.3 one.3)

@@ -18,6 +18,6 @@ invariant-messages g l =
       run : (entries : List Entry) × g.A.Ask.leads l.fn.ask entries l.ask
           × AreAsked (g.C.Clock.always l.fn.clock) (g.M.Maker.refusals l.fn.maker) (g.M.Maker.refusals l.maker)
           (g.M.Maker.last_refused l.fn.maker) (g.M.Maker.last_refused l.maker) entries
-          × Ran (link.coming l.fn.link) (link.sent l.fn.link) (link.coming l.link) (link.sent l.link) l.incoming l.at l.count entries
+          × Ran l.fn.page (link.coming l.fn.link) (link.sent l.fn.link) (link.coming l.link) (link.sent l.link) l.incoming l.at l.count entries
           × length entries ≤ l.count;
     }

@@ -21,11 +21,11 @@ returns-in_err-stop-clause-served g c =
       g.met.A.Ask.none c.args.ask.now,
       none_asked (g.C.Clock.always c.args.clock.now) (g.M.Maker.refusals c.args.maker.now) (g.M.Maker.last_refused c.args.maker.now),
       λ rest s.
-          one_end (link.sent c.args.link.now) (link.sent c.read_next.new.link) (link.coming c.read_next.new.link) c.read_next.new.incoming
+          one_end c.args.page.now (link.sent c.args.link.now) (link.sent c.read_next.new.link) (link.coming c.read_next.new.link) c.read_next.new.incoming
           c.args.at c.args.count rest c.from_residual.result c.in_err-stop.field-0.0 [] (p.1 ∙ ap Err p.2)
           (sends_nothing (link.sent c.args.link.now) (link.sent c.read_next.new.link)
-          (λ text. Finishes c.args.at c.args.count rest c.in_err-stop.field-0.0 [] text) c.in_err-stop.ensures.sent
-          (finishes_unread c.args.at c.args.count rest c.in_err-stop.field-0.0 c.in_err-stop.ensures.broken)),
+          (λ text. Finishes c.args.page.now c.args.at c.args.count rest c.in_err-stop.field-0.0 [] text) c.in_err-stop.ensures.sent
+          (finishes_unread c.args.page.now c.args.at c.args.count rest c.in_err-stop.field-0.0 c.in_err-stop.ensures.broken)),
       omega arith,
     )
 
@@ -40,12 +40,12 @@ returns-in-Stopped-clause-served g c =
       g.met.A.Ask.none c.args.ask.now,
       none_asked (g.C.Clock.always c.args.clock.now) (g.M.Maker.refusals c.args.maker.now) (g.M.Maker.last_refused c.args.maker.now),
       λ rest s.
-          one_end (link.sent c.args.link.now) (link.sent c.finish.new.link) (link.coming c.finish.new.link) u
+          one_end c.args.page.now (link.sent c.args.link.now) (link.sent c.finish.new.link) (link.coming c.finish.new.link) u
           c.args.at c.args.count rest (Err c.finish.result) c.finish.result [] refl
           (sends_more (link.sent c.args.link.now) (link.sent c.finish.new.link)
           (λ text. ClosesSo c.args.at c.in-Stopped.stop c.finish.result text)
-          (λ text. Finishes c.args.at c.args.count rest c.finish.result [] text)
-          (λ text closes. finishes_stop c.args.at c.args.count rest c.in-Stopped.stop c.finish.result text
+          (λ text. Finishes c.args.page.now c.args.at c.args.count rest c.finish.result [] text)
+          (λ text closes. finishes_stop c.args.page.now c.args.at c.args.count rest c.in-Stopped.stop c.finish.result text
           (stops c.args.count (link.coming c.read_next.new.link) u rest c.in-Stopped.stop (c.in_ok-stop.ensures.stream rest s) stopped) closes)
           (subst S c.in_ok-stop.ensures.sent c.finish.ensures.told)),
       omega arith,
@@ -60,7 +60,7 @@ returns-in_err-answer-in-Message-clause-served g c =
     let head = c.in-Message.head in
     let body = c.split_at-in-Message.result.1.now in
     let end = c.in_err-answer-in-Message.field-0.0 in
-    let called = call_is head n.0 u.bytes body n.1 c.split_at.result.0.now c.in-Message.total n.4 n.3 n.5
+    let called = call_is c.args.page.now head n.0 u.bytes body n.1 c.split_at.result.0.now c.in-Message.total n.4 n.3 n.5
     (c.split_at.ensures.front ∙ ap (λ l. take c.in-Message.total l) c.as_slice.ensures) c.split_at-in-Message.ensures.back in
     let closing = last_is head n.0 c.args.count c.closes_after-closing.result n.4 c.closes_after-closing.ensures in
     let answered = c.in_err-answer-in-Message.ensures.answered in
@@ -72,14 +72,14 @@ returns-in_err-answer-in-Message-clause-served g c =
       answered.2,
       λ rest s.
           let stream = c.in_ok-stop.ensures.stream rest s in
-          one_end (link.sent c.args.link.now) (link.sent c.answer.new.link) (link.coming c.answer.new.link) u
+          one_end c.args.page.now (link.sent c.args.link.now) (link.sent c.answer.new.link) (link.coming c.answer.new.link) u
           c.args.at c.args.count rest c.from_residual-in_err-answer-in-Message.result end answered.0 (p.1 ∙ ap Err p.2)
           (sends_more (link.sent c.args.link.now) (link.sent c.answer.new.link)
-          (λ text. AnswersSo (is_last c.args.count n.0) (asks n.0) (Err end) answered.0 text)
-          (λ text. Finishes c.args.at c.args.count rest end answered.0 text)
-          (λ text failed. finishes_failed c.args.at c.args.count rest _ n.0 end answered.0 text n.2
+          (λ text. AnswersSo (is_last c.args.count n.0) (asks c.args.page.now n.0) (Err end) answered.0 text)
+          (λ text. Finishes c.args.page.now c.args.at c.args.count rest end answered.0 text)
+          (λ text failed. finishes_failed c.args.page.now c.args.at c.args.count rest _ n.0 end answered.0 text n.2
           (after_message n.0 u.bytes n.1 rest stream.0 c.in-Message.total n.3 n.5 stream.2) failed) told),
-      one_at_most (link.sent c.args.link.now) (link.sent c.answer.new.link) (is_last c.args.count n.0) (asks n.0) (Err end) answered.0 told,
+      one_at_most (link.sent c.args.link.now) (link.sent c.answer.new.link) (is_last c.args.count n.0) (asks c.args.page.now n.0) (Err end) answered.0 told,
     )
 
 pub returns-then-closing-clause-served : goal.returns-then-closing-clause-served
@@ -90,7 +90,7 @@ returns-then-closing-clause-served g c =
     let n = subst P c.in-Message.is c.in_ok-stop.ensures.next in
     let head = c.in-Message.head in
     let body = c.split_at-in-Message.result.1.now in
-    let called = call_is head n.0 u.bytes body n.1 c.split_at.result.0.now c.in-Message.total n.4 n.3 n.5
+    let called = call_is c.args.page.now head n.0 u.bytes body n.1 c.split_at.result.0.now c.in-Message.total n.4 n.3 n.5
     (c.split_at.ensures.front ∙ ap (λ l. take c.in-Message.total l) c.as_slice.ensures) c.split_at-in-Message.ensures.back in
     let closing = last_is head n.0 c.args.count c.closes_after-closing.result n.4 c.closes_after-closing.ensures in
     let answered = c.in_ok-answer-in-Message.ensures.answered in
@@ -101,14 +101,14 @@ returns-then-closing-clause-served g c =
       answered.2,
       λ rest s.
           let stream = c.in_ok-stop.ensures.stream rest s in
-          one_end (link.sent c.args.link.now) (link.sent c.answer.new.link) (link.coming c.answer.new.link) u
+          one_end c.args.page.now (link.sent c.args.link.now) (link.sent c.answer.new.link) (link.coming c.answer.new.link) u
           c.args.at c.args.count rest (Err conn.Closed) conn.Closed answered.0 refl
           (sends_more (link.sent c.args.link.now) (link.sent c.answer.new.link)
-          (λ text. AnswersSo true (asks n.0) (Ok tt) answered.0 text)
-          (λ text. Finishes c.args.at c.args.count rest conn.Closed answered.0 text)
-          (λ text done. finishes_last c.args.at c.args.count rest _ n.0 answered.0 text n.2
+          (λ text. AnswersSo true (asks c.args.page.now n.0) (Ok tt) answered.0 text)
+          (λ text. Finishes c.args.page.now c.args.at c.args.count rest conn.Closed answered.0 text)
+          (λ text done. finishes_last c.args.page.now c.args.at c.args.count rest _ n.0 answered.0 text n.2
           (after_message n.0 u.bytes n.1 rest stream.0 c.in-Message.total n.3 n.5 stream.2) (sym closing ∙ c.if-closing.true) done) told),
-      one_at_most (link.sent c.args.link.now) (link.sent c.answer.new.link) true (asks n.0) (Ok tt) answered.0 told,
+      one_at_most (link.sent c.args.link.now) (link.sent c.answer.new.link) true (asks c.args.page.now n.0) (Ok tt) answered.0 told,
     )
 
 pub returns-else-closing-clause-served : goal.returns-else-closing-clause-served
@@ -119,7 +119,7 @@ returns-else-closing-clause-served g c =
     let n = subst P c.in-Message.is c.in_ok-stop.ensures.next in
     let head = c.in-Message.head in
     let body = c.split_at-in-Message.result.1.now in
-    let called = call_is head n.0 u.bytes body n.1 c.split_at.result.0.now c.in-Message.total n.4 n.3 n.5
+    let called = call_is c.args.page.now head n.0 u.bytes body n.1 c.split_at.result.0.now c.in-Message.total n.4 n.3 n.5
     (c.split_at.ensures.front ∙ ap (λ l. take c.in-Message.total l) c.as_slice.ensures) c.split_at-in-Message.ensures.back in
     let closing = last_is head n.0 c.args.count c.closes_after-closing.result n.4 c.closes_after-closing.ensures in
     let answered = c.in_ok-answer-in-Message.ensures.answered in
@@ -130,13 +130,13 @@ returns-else-closing-clause-served g c =
       answered.2,
       λ rest s.
           let stream = c.in_ok-stop.ensures.stream rest s in
-          one_on (link.sent c.args.link.now) (link.sent c.answer.new.link) (link.coming c.answer.new.link) c.consume.new.self
+          one_on c.args.page.now (link.sent c.args.link.now) (link.sent c.answer.new.link) (link.coming c.answer.new.link) c.consume.new.self
           c.args.at c.args.count c.in-Message.total rest (drop c.in-Message.total u.bytes ++ stream.0) answered.0
           (after_use (link.coming c.read_next.new.link) (link.coming c.answer.new.link) u c.consume.new.self rest c.in-Message.total c.answer.ensures.coming c.consume.ensures stream)
           (sends_more (link.sent c.args.link.now) (link.sent c.answer.new.link)
-          (λ text. AnswersSo false (asks n.0) (Ok tt) answered.0 text)
-          (λ text. StepSo c.args.at c.args.count rest (drop c.in-Message.total u.bytes ++ stream.0) (Ok c.in-Message.total) answered.0 text)
-          (λ text done. step_on c.args.at c.args.count c.in-Message.total rest _ n.0 answered.0 text n.2
+          (λ text. AnswersSo false (asks c.args.page.now n.0) (Ok tt) answered.0 text)
+          (λ text. StepSo c.args.page.now c.args.at c.args.count rest (drop c.in-Message.total u.bytes ++ stream.0) (Ok c.in-Message.total) answered.0 text)
+          (λ text done. step_on c.args.page.now c.args.at c.args.count c.in-Message.total rest _ n.0 answered.0 text n.2
           (after_message n.0 u.bytes n.1 rest stream.0 c.in-Message.total n.3 n.5 stream.2) (sym closing ∙ c.if-closing.false) done n.5 c.requires) told),
-      one_at_most (link.sent c.args.link.now) (link.sent c.answer.new.link) false (asks n.0) (Ok tt) answered.0 told,
+      one_at_most (link.sent c.args.link.now) (link.sent c.answer.new.link) false (asks c.args.page.now n.0) (Ok tt) answered.0 told,
     )
