@@ -14,6 +14,7 @@ use Rattle.desk.specs.Entries.{Entry}
 use Rattle.web_desk.specs.declared.conn_end.ConnEnd.{ConnEnd}
 use Rattle.web_desk.specs.declared.conn_end.ConnEnd.TheVariants as conn
 use Rattle.web_desk.proofs.MakerLemmas.{asked_more, none_asked}
+use Rattle.web_messages.specs.declared.page.Page.{Page}
 use Rattle.shared_desk.specs.Stays.{AreBack, AreServed, AreUnspent, AskedWith, DoorTold, EndsDoor, IsSpentAtLast, IsStay, KitTold, ServesDoor, ServesGiven, Stay, Tools, end_after, is_spent, runs_of, visit_of}
 use Rattle.shared_desk.specs.declared.serving.DoorEnd.{DoorEnd}
 use Rattle.shared_desk.specs.declared.serving.DoorEnd.TheVariants as door_end
@@ -41,12 +42,12 @@ last_back (visit ∷ visits) had back are =
     ap (λ (b : Bool). if b then record visit { back = Some back } ∷ (visits ++ out ∷ []) else visit ∷ come_back back (visits ++ out ∷ [])) is
     ∙ ap (λ (vs : List Visit). visit ∷ vs) more
 
-module _ {K : Type 0} (coming sent : K → Option (List ℕ)) where
+module _ {K : Type 0} (coming sent : K → Option (List ℕ)) (page : Page) where
   -- links that came back are back
-  visits_back : (stays : List (Stay K)) → AreBack (map (visit_of coming sent) stays)
+  visits_back : (stays : List (Stay K)) → AreBack (map (visit_of coming sent page) stays)
   visits_back [] = All-nil (λ (v : Visit). is_none v.back ≡ false)
   visits_back (stay ∷ stays) =
-      All-cons (λ (v : Visit). is_none v.back ≡ false) (visit_of coming sent stay) (map (visit_of coming sent) stays) refl (visits_back stays)
+      All-cons (λ (v : Visit). is_none v.back ≡ false) (visit_of coming sent page stay) (map (visit_of coming sent page) stays) refl (visits_back stays)
 
   -- links that came, and then others
   came_more : (a b c : Option (List K)) (xs ys : List K) → a ≡ option_map (λ left. xs ++ left) b → b ≡ option_map (λ left. ys ++ left) c
@@ -59,25 +60,25 @@ module _ {K : Type 0} (coming sent : K → Option (List ℕ)) where
   none_came a None p = sym p
   none_came a (Some xs) p = sym p
 
-  none_served : (old new : DoorTold K) → new.coming ≡ old.coming → new.given ≡ old.given → AreServed coming sent old new []
+  none_served : (old new : DoorTold K) → new.coming ≡ old.coming → new.given ≡ old.given → AreServed coming sent page old new []
   none_served old new came given = record {
     came = none_came old.coming new.coming came;
     back = λ visits is are. given ∙ is ∙ ap (λ (vs : List Visit). Some vs) (sym (append-nil visits));
-    each = All-nil (IsStay coming sent);
+    each = All-nil (IsStay coming sent page);
   }
 
-  served_more : (a b c : DoorTold K) (xs ys : List (Stay K)) → AreServed coming sent a b xs → AreServed coming sent b c ys
-      → AreServed coming sent a c (xs ++ ys)
+  served_more : (a b c : DoorTold K) (xs ys : List (Stay K)) → AreServed coming sent page a b xs → AreServed coming sent page b c ys
+      → AreServed coming sent page a c (xs ++ ys)
   served_more a b c xs ys p q =
       let link : Stay K → K = λ (stay : Stay K). stay.link in
-      let visit : Stay K → Visit = visit_of coming sent in
+      let visit : Stay K → Visit = visit_of coming sent page in
       record {
         came = came_more a.coming b.coming c.coming (map link xs) (map link ys) p.came q.came
             ∙ ap (λ (ls : List K). option_map (λ left. ls ++ left) c.coming) (sym (map-append link xs ys));
         back = λ visits is are.
             q.back (visits ++ map visit xs) (p.back visits is are) (All-append (λ (v : Visit). is_none v.back ≡ false) visits (map visit xs) are (visits_back xs))
             ∙ ap (λ (vs : List Visit). Some vs) (append_assoc visits (map visit xs) (map visit ys) ∙ ap (λ (vs : List Visit). visits ++ vs) (sym (map-append visit xs ys)));
-        each = All-append (IsStay coming sent) xs ys p.each q.each;
+        each = All-append (IsStay coming sent page) xs ys p.each q.each;
       }
 
 -- the runs of some links, and then of others
@@ -127,12 +128,12 @@ module _ {K : Type 0} where
       let E : DoorEnd → Type 0 = λ e. EndsDoor 1 e old new (stay ∷ []) in
       subst E (sym is) (refl, All-cons (λ (s : Stay K). is_spent s.end ≡ false) stay [] spent (All-nil (λ (s : Stay K). is_spent s.end ≡ false)), faults)
 
-module _ {K T : Type 0} (coming sent : K → Option (List ℕ)) where
+module _ {K T : Type 0} (coming sent : K → Option (List ℕ)) (page : Page) where
   -- no link yet
-  pub serves_none : (kit : KitTold K) (pass : Standing T Entry) → ServesDoor coming sent 0 door_end.Enough kit kit pass pass
+  pub serves_none : (kit : KitTold K) (pass : Standing T Entry) → ServesDoor coming sent page 0 door_end.Enough kit kit pass pass
   serves_none kit pass = record {
     stays = [];
-    served = none_served coming sent kit.door kit.door refl refl;
+    served = none_served coming sent page kit.door kit.door refl refl;
     ends = (refl, All-nil (λ (s : Stay K). is_spent s.end ≡ false), refl);
     grown = no_calls pass;
     asked = none_asked kit.tools.day kit.tools.refusals kit.tools.last_refused;
@@ -143,10 +144,10 @@ module _ {K T : Type 0} (coming sent : K → Option (List ℕ)) where
   -- no link comes any more
   pub serves_end : (kit kit_now : KitTold K) (pass : Standing T Entry) → kit_now.door.coming ≡ kit.door.coming
       → IfSome kit.door.coming (λ left. left ≡ []) → kit_now.door.given ≡ kit.door.given → kit_now.door.faults ≡ kit.door.faults
-      → kit_now.tools ≡ kit.tools → ServesDoor coming sent 1 door_end.End kit kit_now pass pass
+      → kit_now.tools ≡ kit.tools → ServesDoor coming sent page 1 door_end.End kit kit_now pass pass
   serves_end kit kit_now pass came none given faults tools = record {
     stays = [];
-    served = none_served coming sent kit.door kit_now.door came given;
+    served = none_served coming sent page kit.door kit_now.door came given;
     ends = (
       lit< tt,
       All-nil (λ (s : Stay K). is_spent s.end ≡ false),
@@ -162,10 +163,10 @@ module _ {K T : Type 0} (coming sent : K → Option (List ℕ)) where
   -- a call of the door failed
   pub serves_failed : (kit kit_now : KitTold K) (pass : Standing T Entry) → kit_now.door.coming ≡ kit.door.coming
       → kit_now.door.given ≡ kit.door.given → Rose kit.door.faults kit_now.door.faults → kit_now.tools ≡ kit.tools
-      → ServesDoor coming sent 1 door_end.Failed kit kit_now pass pass
+      → ServesDoor coming sent page 1 door_end.Failed kit kit_now pass pass
   serves_failed kit kit_now pass came given rose tools = record {
     stays = [];
-    served = none_served coming sent kit.door kit_now.door came given;
+    served = none_served coming sent page kit.door kit_now.door came given;
     ends = (lit< tt, All-nil (λ (s : Stay K). is_spent s.end ≡ false), rose);
     grown = no_calls pass;
     asked = subst (λ (t : Tools). AskedWith kit.tools t []) (sym tools) (none_asked kit.tools.day kit.tools.refusals kit.tools.last_refused);
@@ -177,8 +178,8 @@ module _ {K T : Type 0} (coming sent : K → Option (List ℕ)) where
   pub serves_one : (end : DoorEnd) (link : K) (kit mid kit_now : KitTold K) (pass pass_now : Standing T Entry)
       → kit.door.coming ≡ option_map (λ links. link ∷ links) mid.door.coming
       → mid.door.given ≡ option_map (λ visits. visits ++ record { had = coming link; back = None } ∷ []) kit.door.given
-      → mid.door.faults ≡ kit.door.faults → mid.tools ≡ kit.tools → ServesGiven coming sent end link mid kit_now pass pass_now
-      → ServesDoor coming sent 1 end kit kit_now pass pass_now
+      → mid.door.faults ≡ kit.door.faults → mid.tools ≡ kit.tools → ServesGiven coming sent page end link mid kit_now pass pass_now
+      → ServesDoor coming sent page 1 end kit kit_now pass pass_now
   serves_one end link kit mid kit_now pass pass_now came given faults tools s =
       let stay : Stay K = s.stay in
       let out : Visit = record { had = coming link; back = None } in
@@ -194,7 +195,7 @@ module _ {K T : Type 0} (coming sent : K → Option (List ℕ)) where
               ∙ ap (option_map (come_back stay.back)) (given ∙ ap (option_map (λ (vs : List Visit). vs ++ out ∷ [])) is)
               ∙ ap (λ (vs : List Visit). Some vs) (last_back visits (coming link) stay.back are)
               ∙ ap (λ (k : K). Some (visits ++ at k ∷ [])) (sym s.given);
-          each = All-cons (IsStay coming sent) stay [] s.served (All-nil (IsStay coming sent));
+          each = All-cons (IsStay coming sent page) stay [] s.served (All-nil (IsStay coming sent page));
         };
         ends = ends_one (is_spent stay.end) end kit.door kit_now.door stay refl s.goes (s.faults ∙ faults);
         grown = subst (λ (es : List Entry). Grown pass pass_now es) (sym (append-nil run)) s.grown;
@@ -205,15 +206,15 @@ module _ {K T : Type 0} (coming sent : K → Option (List ℕ)) where
       }
 
   -- so many links were served, and then one more
-  pub serves_on : (n : ℕ) (a b c : KitTold K) (p q r : Standing T Entry) → ServesDoor coming sent n door_end.Enough a b p q
-      → ServesDoor coming sent 1 door_end.Enough b c q r → ServesDoor coming sent (n + 1) door_end.Enough a c p r
+  pub serves_on : (n : ℕ) (a b c : KitTold K) (p q r : Standing T Entry) → ServesDoor coming sent page n door_end.Enough a b p q
+      → ServesDoor coming sent page 1 door_end.Enough b c q r → ServesDoor coming sent page (n + 1) door_end.Enough a c p r
   serves_on n a b c p q r first next =
       let xs = first.stays in
       let ys = next.stays in
       let runs = sym (runs_more xs ys) in
       record {
         stays = xs ++ ys;
-        served = served_more coming sent a.door b.door c.door xs ys first.served next.served;
+        served = served_more coming sent page a.door b.door c.door xs ys first.served next.served;
         ends = ends_on n a.door b.door c.door xs ys first.ends next.ends;
         grown = subst (λ (es : List Entry). Grown p r es) runs (calls_in_a_row p q r (runs_of xs) (runs_of ys) first.grown next.grown);
         asked = subst (λ (es : List Entry). AskedWith a.tools c.tools es) runs
@@ -224,14 +225,14 @@ module _ {K T : Type 0} (coming sent : K → Option (List ℕ)) where
 
   -- so many links were served, and then the serving ended
   pub serves_stop : (n limit : ℕ) (end : DoorEnd) (a b c : KitTold K) (p q r : Standing T Entry) → n < limit → (end ≡ door_end.Enough → ⊥)
-      → ServesDoor coming sent n door_end.Enough a b p q → ServesDoor coming sent 1 end b c q r → ServesDoor coming sent limit end a c p r
+      → ServesDoor coming sent page n door_end.Enough a b p q → ServesDoor coming sent page 1 end b c q r → ServesDoor coming sent page limit end a c p r
   serves_stop n limit end a b c p q r less going first next =
       let xs = first.stays in
       let ys = next.stays in
       let runs = sym (runs_more xs ys) in
       record {
         stays = xs ++ ys;
-        served = served_more coming sent a.door b.door c.door xs ys first.served next.served;
+        served = served_more coming sent page a.door b.door c.door xs ys first.served next.served;
         ends = ends_stop n limit end a.door b.door c.door xs ys less going first.ends next.ends;
         grown = subst (λ (es : List Entry). Grown p r es) runs (calls_in_a_row p q r (runs_of xs) (runs_of ys) first.grown next.grown);
         asked = subst (λ (es : List Entry). AskedWith a.tools c.tools es) runs

@@ -16,6 +16,7 @@ use Rattle.web_desk.specs.Makers.{AreAsked}
 use Rattle.web_desk.specs.Sent.{Sends}
 use Rattle.web_desk.specs.Served.{Served}
 use Rattle.web_messages.specs.Streams.{IsOfWhole}
+use Rattle.web_messages.specs.declared.page.Page.{Page}
 use Rattle.web_desk.specs.declared.conn_end.ConnEnd.{ConnEnd}
 use Rattle.web_desk.specs.declared.conn_end.ConnEnd.TheVariants as conn
 use Rattle.shared_desk.specs.Full.{IsFull}
@@ -93,7 +94,7 @@ EndsDoor limit door_end.Failed old new stays = (length stays < limit) × AreUnsp
 EndsDoor limit door_end.Enough old new stays = (length stays ≡ limit) × AreUnspent stays × (new.faults ≡ old.faults)
 EndsDoor limit door_end.Spent old new stays = (length stays ≤ limit) × IsSpentAtLast stays × (new.faults ≡ old.faults)
 
-module _ {K : Type 0} (coming sent : K → Option (List ℕ)) where
+module _ {K : Type 0} (coming sent : K → Option (List ℕ)) (page : Page) where
   -- what a door tells of a link that came back
   abbrev pub visit_of : Stay K → Visit
   visit_of stay = record { had = coming stay.link; back = Some stay.back }
@@ -102,7 +103,7 @@ module _ {K : Type 0} (coming sent : K → Option (List ℕ)) where
   -- the link was counted where that is the end, and no other; and whole messages within the limits were answered to their end,
   -- unless it broke off before.
   pub record IsStay (stay : Stay K) : Type 0 where
-    pub served : IfSome (coming stay.link) (λ bytes. Sends (sent stay.link) stay.back.sent (λ text. Served bytes stay.end stay.run text))
+    pub served : IfSome (coming stay.link) (λ bytes. Sends (sent stay.link) stay.back.sent (λ text. Served page bytes stay.end stay.run text))
     pub counted : Counted stay.end 0 stay.back.read_faults 0 stay.back.write_faults
     pub sound : IfSome (coming stay.link) (λ bytes. IsOfWhole bytes → EndsWell stay.end)
 
@@ -112,11 +113,11 @@ module _ {K : Type 0} (coming sent : K → Option (List ℕ)) where
     pub back : (visits : List Visit) → old.given ≡ Some visits → AreBack visits → new.given ≡ Some (visits ++ map visit_of stays)
     pub each : All IsStay stays
 
-module _ {K T : Type 0} (coming sent : K → Option (List ℕ)) where
+module _ {K T : Type 0} (coming sent : K → Option (List ℕ)) (page : Page) where
   -- A worker served its door up to so many links, and that ended so: its pass grew by the runs of these links, in order.
   pub record ServesDoor (limit : ℕ) (end : DoorEnd) (kit kit_now : KitTold K) (pass pass_now : Standing T Entry) : Type 0 where
     pub stays : List (Stay K)
-    pub served : AreServed coming sent kit.door kit_now.door stays
+    pub served : AreServed coming sent page kit.door kit_now.door stays
     pub ends : EndsDoor limit end kit.door kit_now.door stays
     pub grown : Grown pass pass_now (runs_of stays)
     pub asked : AskedWith kit.tools kit_now.tools (runs_of stays)
@@ -127,7 +128,7 @@ module _ {K T : Type 0} (coming sent : K → Option (List ℕ)) where
   pub record ServesGiven (end : DoorEnd) (link : K) (kit kit_now : KitTold K) (pass pass_now : Standing T Entry) : Type 0 where
     pub stay : Stay K
     pub given : stay.link ≡ link
-    pub served : IsStay coming sent stay
+    pub served : IsStay coming sent page stay
     pub back : kit_now.door.given ≡ option_map (come_back stay.back) kit.door.given
     pub coming_stays : kit_now.door.coming ≡ kit.door.coming
     pub faults : kit_now.door.faults ≡ kit.door.faults

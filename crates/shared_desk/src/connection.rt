@@ -20,10 +20,12 @@ use std::sync::Wait;
 use std::sync::ledger::Ledger;
 use turn_lock::{Pass, Turn};
 use web_desk::{ConnEnd, serve_link};
+use web_messages::page::Page;
 
 /// Answers the messages that come over a link, from a machine that is asked with one pass all along.
 fn serve_locked<'a, D: Disk, W: Wait, K: Link, C: Clock, M: Maker, L: Ledger>(
     alloc: Global,
+    page: &Page,
     ask: &mut Locked<'a, D, W>,
     link: &mut K,
     clock: &mut C,
@@ -36,7 +38,7 @@ fn serve_locked<'a, D: Disk, W: Wait, K: Link, C: Clock, M: Maker, L: Ledger>(
         (M.last_refused maker.old) (M.last_refused maker.new) entries
         × IfSome (K.coming link.old)
         (λ bytes. Sends (K.sent link.old) (K.sent link.new) (λ text.
-        Served bytes result entries text))
+        Served page.now bytes result entries text))
         × length entries ≤ most_messages }
     ensures counted { Counted result
         (K.read_faults link.old) (K.read_faults link.new) (K.write_faults link.old)
@@ -45,15 +47,16 @@ fn serve_locked<'a, D: Disk, W: Wait, K: Link, C: Clock, M: Maker, L: Ledger>(
     ensures sound { IfSome (K.coming link.old) (λ bytes. IsOfWhole bytes → EndsWell result) }
     ensures spent { result ≡ ConnEnd.Spent → IsFull ask.new.pass.now }
 {
-    serve_link(alloc, ask, link, clock, maker, steps)
+    serve_link(alloc, page, ask, link, clock, maker, steps)
 }
 
 /// Answers the messages that come over a link, one after another, from the machine under a lock, up to the end of the
-/// connection. It ends as `serve_link` says, and `Spent` where the lock's history has no room for another entry. Whole
-/// messages within the limits end well, unless the link failed or memory ran out.
+/// connection; GET / with the page, where there is one. It ends as `serve_link` says, and `Spent` where the lock's history
+/// has no room for another entry. Whole messages within the limits end well, unless the link failed or memory ran out.
 pub fn serve_connection<D: Disk, W: Wait, K: Link, C: Clock, M: Maker, L: Ledger>(
     rt: &W,
     alloc: Global,
+    page: &Page,
     turn: &Turn<Shared<D>>,
     pass: &mut Pass<Shared<D>>,
     link: &mut K,
@@ -71,7 +74,7 @@ pub fn serve_connection<D: Disk, W: Wait, K: Link, C: Clock, M: Maker, L: Ledger
         (M.last_refused maker.old) (M.last_refused maker.new) entries
         × IfSome (K.coming link.old)
         (λ bytes. Sends (K.sent link.old) (K.sent link.new) (λ text.
-        Served bytes result entries text))
+        Served page.now bytes result entries text))
         × length entries ≤ most_messages }
     ensures counted { Counted result
         (K.read_faults link.old) (K.read_faults link.new) (K.write_faults link.old)
@@ -81,5 +84,5 @@ pub fn serve_connection<D: Disk, W: Wait, K: Link, C: Clock, M: Maker, L: Ledger
     ensures spent { result ≡ ConnEnd.Spent → IsFull pass.new }
 {
     let mut ask = Locked::new(rt, turn, pass);
-    serve_locked(alloc, &mut ask, link, clock, maker, steps)
+    serve_locked(alloc, page, &mut ask, link, clock, maker, steps)
 }

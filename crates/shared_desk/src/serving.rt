@@ -13,6 +13,7 @@ use std::sync::Wait;
 use std::sync::ledger::Ledger;
 use turn_lock::{Pass, Turn};
 use web_desk::ConnEnd;
+use web_messages::page::Page;
 
 /// How a worker's serving of a door ended.
 #[derive(Clone, Copy, Debug, PartialEq, Eq)]
@@ -51,6 +52,7 @@ fn goes_on(end: DoorEnd) -> bool
 fn serve_given<D: Disk, W: Wait, R: Door, C: Clock, M: Maker, L: Ledger>(
     rt: &W,
     alloc: Global,
+    page: &Page,
     turn: &Turn<Shared<D>>,
     pass: &mut Pass<Shared<D>>,
     kit: &mut Kit<R, C, M>,
@@ -59,7 +61,7 @@ fn serve_given<D: Disk, W: Wait, R: Door, C: Clock, M: Maker, L: Ledger>(
 ) -> DoorEnd
     requires free { IsFree turn.now pass.old }
     requires fresh { (R.Link.read_faults link ≡ 0) × (R.Link.write_faults link ≡ 0) }
-    ensures { ServesGiven R.Link.coming R.Link.sent result link
+    ensures { ServesGiven R.Link.coming R.Link.sent page.now result link
         (kit_told R.Door C.Clock M.Maker kit.old)
         (kit_told R.Door C.Clock M.Maker kit.new) pass.old pass.new }
 {
@@ -67,6 +69,7 @@ fn serve_given<D: Disk, W: Wait, R: Door, C: Clock, M: Maker, L: Ledger>(
     let end = serve_connection(
         rt,
         alloc,
+        page,
         turn,
         pass,
         &mut link,
@@ -82,18 +85,19 @@ fn serve_given<D: Disk, W: Wait, R: Door, C: Clock, M: Maker, L: Ledger>(
 fn serve_next<D: Disk, W: Wait, R: Door, C: Clock, M: Maker, L: Ledger>(
     rt: &W,
     alloc: Global,
+    page: &Page,
     turn: &Turn<Shared<D>>,
     pass: &mut Pass<Shared<D>>,
     kit: &mut Kit<R, C, M>,
     steps: &mut Steps<L>,
 ) -> DoorEnd
     requires { IsFree turn.now pass.old }
-    ensures { ServesDoor R.Link.coming R.Link.sent 1 result
+    ensures { ServesDoor R.Link.coming R.Link.sent page.now 1 result
         (kit_told R.Door C.Clock M.Maker kit.old)
         (kit_told R.Door C.Clock M.Maker kit.new) pass.old pass.new }
 {
     match kit.door.next() {
-        Knock::Link(link) => serve_given(rt, alloc, turn, pass, kit, link, steps),
+        Knock::Link(link) => serve_given(rt, alloc, page, turn, pass, kit, link, steps),
         Knock::End => DoorEnd::End,
         Knock::Failed => DoorEnd::Failed,
     }
@@ -104,6 +108,7 @@ fn serve_next<D: Disk, W: Wait, R: Door, C: Clock, M: Maker, L: Ledger>(
 pub fn serve_door<D: Disk, W: Wait, R: Door, C: Clock, M: Maker, L: Ledger>(
     rt: &W,
     alloc: Global,
+    page: &Page,
     turn: &Turn<Shared<D>>,
     pass: &mut Pass<Shared<D>>,
     kit: &mut Kit<R, C, M>,
@@ -111,12 +116,12 @@ pub fn serve_door<D: Disk, W: Wait, R: Door, C: Clock, M: Maker, L: Ledger>(
     steps: &mut Steps<L>,
 ) -> DoorEnd
     requires { IsFree turn.now pass.old }
-    ensures { ServesDoor R.Link.coming R.Link.sent limit result
+    ensures { ServesDoor R.Link.coming R.Link.sent page.now limit result
         (kit_told R.Door C.Clock M.Maker kit.old)
         (kit_told R.Door C.Clock M.Maker kit.new) pass.old pass.new }
 {
     'links: for _served in 0..limit {
-        let end = serve_next(rt, alloc, turn, pass, kit, steps);
+        let end = serve_next(rt, alloc, page, turn, pass, kit, steps);
         if !goes_on(end) {
             return end;
         }

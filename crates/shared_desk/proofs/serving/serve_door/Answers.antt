@@ -12,7 +12,7 @@ links-init g c =
     let link = g.R.Link.Link in
     record {
       free = c.requires;
-      served = serves_none link.coming link.sent (kit_told g.R.Door g.C.Clock g.M.Maker c.args.kit.now) c.args.pass.now;
+      served = serves_none link.coming link.sent c.args.page.now (kit_told g.R.Door g.C.Clock g.M.Maker c.args.kit.now) c.args.pass.now;
     }
 
 pub returns-then-not-goes_on : goal.returns-then-not-goes_on
@@ -20,7 +20,7 @@ returns-then-not-goes_on g c =
     let link = g.R.Link.Link in
     let less : c.links._served < c.args.limit = omega arith in
     let no : c.goes_on.result ≡ false = search rules in
-    serves_stop link.coming link.sent c.links._served c.args.limit c.serve_next-end.result _ _ _ c.args.pass.now c.links.pass c.serve_next-end.new.pass
+    serves_stop link.coming link.sent c.args.page.now c.links._served c.args.limit c.serve_next-end.result _ _ _ c.args.pass.now c.links.pass c.serve_next-end.new.pass
     less (λ is. false≢true (sym no ∙ c.goes_on.ensures.1 is)) c.links.invariant.served c.serve_next-end.ensures
 
 pub links-preserved : goal.links-preserved
@@ -28,11 +28,11 @@ links-preserved g c =
     let link = g.R.Link.Link in
     let kit = kit_told g.R.Door g.C.Clock g.M.Maker in
     let yes : c.goes_on.result ≡ true = search rules in
-    let E : DoorEnd → Type 0 = λ end. ServesDoor link.coming link.sent 1 end (kit c.links.kit) (kit c.serve_next-end.new.kit) c.links.pass c.serve_next-end.new.pass in
+    let E : DoorEnd → Type 0 = λ end. ServesDoor link.coming link.sent c.args.page.now 1 end (kit c.links.kit) (kit c.serve_next-end.new.kit) c.links.pass c.serve_next-end.new.pass in
     let one = c.serve_next-end.ensures in
     record {
       free = free_still c.args.turn.now c.links.pass c.serve_next-end.new.pass (runs_of one.stays) c.links.invariant.free one.grown;
-      served = serves_on link.coming link.sent c.links._served (kit c.args.kit.now) (kit c.links.kit) (kit c.serve_next-end.new.kit)
+      served = serves_on link.coming link.sent c.args.page.now c.links._served (kit c.args.kit.now) (kit c.links.kit) (kit c.serve_next-end.new.kit)
           c.args.pass.now c.links.pass c.serve_next-end.new.pass c.links.invariant.served (subst E (c.goes_on.ensures.0 yes) one);
     }
 
@@ -41,5 +41,5 @@ returns g c =
     let link = g.R.Link.Link in
     let kit = kit_told g.R.Door g.C.Clock g.M.Maker in
     let all : c.links._served ≡ c.args.limit = omega arith in
-    let S : ℕ → Type 0 = λ n. ServesDoor link.coming link.sent n door_end.Enough (kit c.args.kit.now) (kit c.links.kit) c.args.pass.now c.links.pass in
+    let S : ℕ → Type 0 = λ n. ServesDoor link.coming link.sent c.args.page.now n door_end.Enough (kit c.args.kit.now) (kit c.links.kit) c.args.pass.now c.links.pass in
     subst S all c.links.invariant.served

@@ -9,6 +9,6 @@ invariant-links g l =
     let link = g.R.Link.Link in
     record {
       free : IsFree l.turn l.pass;
-      served : ServesDoor link.coming link.sent l._served door_end.Enough (kit_told g.R.Door g.C.Clock g.M.Maker l.fn.kit)
+      served : ServesDoor link.coming link.sent l.page l._served door_end.Enough (kit_told g.R.Door g.C.Clock g.M.Maker l.fn.kit)
           (kit_told g.R.Door g.C.Clock g.M.Maker l.kit) l.fn.pass l.pass;
     }
