@@ -20,6 +20,7 @@ use Rattle.desk.specs.declared.desk.Desk.{Desk}
 use Rattle.desk.specs.Entries.{Entry}
 use Rattle.shared_desk.specs.Histories.{IsLegal}
 use Rattle.shared_desk.specs.Stays.{KitTold, kit_told, runs_of}
+use Rattle.web_messages.specs.declared.page.Page.{Page}
 use Rattle.desk_team.specs.Teams.{AllServe, AllWorked, DoneTold, ServesTeam, ServesUnder, Worked, has_failed, hired, is_failed, member_of, seated, told_of}
 use Rattle.shared_desk.specs.declared.kit.Kit.{Kit}
 use Rattle.shared_desk.specs.declared.serving.DoorEnd.TheVariants as door_end
@@ -121,22 +122,22 @@ module _ {R K C M : Type 0} (r : Doors R K) (c : Clocks C) (m : Makers M) where
   told-length [] = refl
   told-length (k ∷ ks) = ap suc (told-length ks)
 
-module _ {T R K C M : Type 0} (r : Doors R K) (c : Clocks C) (m : Makers M) (coming sent : K → Option (List ℕ)) (limit : ℕ) where
+module _ {T R K C M : Type 0} (r : Doors R K) (c : Clocks C) (m : Makers M) (coming sent : K → Option (List ℕ)) (page : Page) (limit : ℕ) where
   -- workers that worked, after the first of them
   later_worked : (o w : Worker (Standing T Entry) R C M) (os ws : List (Worker (Standing T Entry) R C M))
-      → AllWorked r c m coming sent limit (o ∷ os) (w ∷ ws) → AllWorked r c m coming sent limit os ws
+      → AllWorked r c m coming sent page limit (o ∷ os) (w ∷ ws) → AllWorked r c m coming sent page limit os ws
   later_worked o w os ws all = λ k d less. all (suc k) d (omega (arith, less))
 
   -- passes that grew hold no value
   pub worked-free : (lock : Lock T) (os ws : List (Worker (Standing T Entry) R C M)) → length ws ≡ length os
-      → AllWorked r c m coming sent limit os ws → All (λ (w : Worker (Standing T Entry) R C M). IsFree lock w.pass) os
+      → AllWorked r c m coming sent page limit os ws → All (λ (w : Worker (Standing T Entry) R C M). IsFree lock w.pass) os
       → All (λ (w : Worker (Standing T Entry) R C M). IsFree lock w.pass) ws
   worked-free lock [] [] same all free = free
   worked-free lock [] (w ∷ ws) same all free = absurd (omega (arith, same))
   worked-free lock (o ∷ os) [] same all free = absurd (omega (arith, same))
   worked-free lock (o ∷ os) (w ∷ ws) same all free =
       let Idle : Worker (Standing T Entry) R C M → Type 0 = λ v. IsFree lock v.pass in
-      let one : Worked r c m coming sent limit o w = all 0 w (omega arith) in
+      let one : Worked r c m coming sent page limit o w = all 0 w (omega arith) in
       All-cons Idle w ws (free_still lock o.pass w.pass (runs_of one.stays) (All-head Idle o os free) one.grown)
       (worked-free lock os ws (omega (arith, same)) (later_worked o w os ws all) (All-tail Idle o os free))
 
@@ -146,8 +147,8 @@ module _ {T R K C M : Type 0} (r : Doors R K) (c : Clocks C) (m : Makers M) (com
 
   -- what stands under the number of a worker
   one_served : (lock : Lock T) (n : ℕ) (history : List (Entered Entry)) (k : Kit R C M) (w : Worker (Standing T Entry) R C M)
-      → Worked r c m coming sent limit (seated lock n k) w → made_by w.pass.number history ≡ w.pass.mine → lock.done ≡ 0 → SawNoMore history w
-      → ServesUnder coming sent limit history (n + 1) (kit_told r c m k) (told_done w)
+      → Worked r c m coming sent page limit (seated lock n k) w → made_by w.pass.number history ≡ w.pass.mine → lock.done ≡ 0 → SawNoMore history w
+      → ServesUnder coming sent page limit history (n + 1) (kit_told r c m k) (told_done w)
   one_served lock n history k w one made none seen = record {
     stays = one.stays;
     served = one.served;
@@ -162,10 +163,10 @@ module _ {T R K C M : Type 0} (r : Doors R K) (c : Clocks C) (m : Makers M) (com
   }
 
   pub all_served : (lock : Lock T) (n : ℕ) (history : List (Entered Entry)) (ks : List (Kit R C M)) (ws : List (Worker (Standing T Entry) R C M))
-      → length ws ≡ length ks → AllWorked r c m coming sent limit (hired lock n ks) ws
+      → length ws ≡ length ks → AllWorked r c m coming sent page limit (hired lock n ks) ws
       → All (λ (member : Member Entry). made_by member.number history ≡ member.mine) (map member_of ws)
       → lock.done ≡ 0 → All (SawNoMore history) ws
-      → AllServe coming sent limit history n (told_of r c m ks)
+      → AllServe coming sent page limit history n (told_of r c m ks)
       (map told_done ws)
   all_served lock n history [] [] same all made none seen = tt
   all_served lock n history [] (w ∷ ws) same all made none seen = absurd (omega (arith, same))
@@ -180,13 +181,13 @@ module _ {T R K C M : Type 0} (r : Doors R K) (c : Clocks C) (m : Makers M) (com
 
   -- a number past those of all workers is none of theirs
   none_other : (lock : Lock T) (n : ℕ) (ks : List (Kit R C M)) (ws : List (Worker (Standing T Entry) R C M)) (number : ℕ)
-      → length ws ≡ length ks → AllWorked r c m coming sent limit (hired lock n ks) ws → n + length ks < number
+      → length ws ≡ length ks → AllWorked r c m coming sent page limit (hired lock n ks) ws → n + length ks < number
       → IsNone number (map member_of ws)
   none_other lock n [] [] number same all past = All-nil (λ (member : Member Entry). member.number ≢ number)
   none_other lock n [] (w ∷ ws) number same all past = absurd (omega (arith, same))
   none_other lock n (k ∷ ks) [] number same all past = absurd (omega (arith, same))
   none_other lock n (k ∷ ks) (w ∷ ws) number same all past =
-      let one : Worked r c m coming sent limit (seated lock n k) w = all 0 w (omega arith) in
+      let one : Worked r c m coming sent page limit (seated lock n k) w = all 0 w (omega arith) in
       let is : w.pass.number ≡ n + 1 = one.grown.number in
       All-cons (λ (member : Member Entry). member.number ≢ number) (member_of w) (map member_of ws) (λ e. omega (arith, e, is, past))
       (none_other lock (n + 1) ks ws number (omega (arith, same)) (later_worked (seated lock n k) w (hired lock (n + 1) ks) ws all) (omega (arith, past)))
@@ -206,9 +207,9 @@ module _ {T R K C M : Type 0} (r : Doors R K) (c : Clocks C) (m : Makers M) (com
   pub team_served : {D : Type 0} {g : Ghosts D} (lock : Lock T) (opening last : Desk D g) (history : List (Entered Entry)) (ks : List (Kit R C M))
       (ws : List (Worker (Standing T Entry) R C M)) (kits : List (Kit R C M)) (failed : Bool) (mine : List Entry) (joined : List (Member Entry))
       → kits ≡ map (λ (w : Worker (Standing T Entry) R C M). w.kit) ws → failed ≡ list_any has_failed ws → length ws ≡ length ks
-      → AllWorked r c m coming sent limit (hired lock 0 ks) ws → mine ≡ [] → joined ≡ map member_of ws
+      → AllWorked r c m coming sent page limit (hired lock 0 ks) ws → mine ≡ [] → joined ≡ map member_of ws
       → IsLegal opening history last → IsOf history mine joined → lock.done ≡ 0 → All (SawNoMore history) ws
-      → ServesTeam coming sent limit opening (told_of r c m ks) (told_of r c m kits) failed history last
+      → ServesTeam coming sent page limit opening (told_of r c m ks) (told_of r c m kits) failed history last
   team_served lock opening last history ks ws kits failed mine joined kits_are failed_is same all none members legal whole begins seen =
       let Of : List (Member Entry) → Type 0 = λ those. All (λ (member : Member Entry). made_by member.number history ≡ member.mine) those in
       record {

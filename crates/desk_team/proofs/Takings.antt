@@ -19,6 +19,7 @@ use Rattle.shared_desk.specs.Stays.{DoorTold, EndsDoor, KitTold, Stay, runs_of}
 use Rattle.shared_desk.specs.declared.serving.DoorEnd.{DoorEnd}
 use Rattle.shared_desk.specs.declared.serving.DoorEnd.TheVariants as door_end
 use Rattle.shared_desk.proofs.Refusing.{counted}
+use Rattle.web_messages.specs.declared.page.Page.{Page}
 use Rattle.desk_team.specs.Hostings.{AreAllOut, Hosts, IsFreshKit, Takes, TakesAll, Unserved, after_doors, after_makers, entries_in}
 use Rattle.desk_team.specs.Houses.{AreOut, Binds, HandsOut, HouseTold, TakesBack, after_door, after_maker, and_then, bound_once_more}
 use Rattle.desk_team.specs.Teams.{AllServe, DoneTold, ServesTeam, is_failed}
@@ -213,7 +214,7 @@ or_none : (a : Bool) → a ≡ (a || false)
 or_none true = refl
 or_none false = refl
 
-module _ {K : Type 0} (coming sent : K → Option (List ℕ)) where
+module _ {K : Type 0} (coming sent : K → Option (List ℕ)) (page : Page) where
   one_door : (limit : ℕ) (end : DoorEnd) (old new : DoorTold K) (stays : List (Stay K)) (before f : ℕ) (so_far : Bool)
       → EndsDoor limit end old new stays → old.faults ≡ 0 → MatchBool so_far (Rose before f) (f ≡ before)
       → MatchBool (so_far || is_failed end) (Rose before (after_door f new.faults)) (after_door f new.faults ≡ before)
@@ -224,7 +225,7 @@ module _ {K : Type 0} (coming sent : K → Option (List ℕ)) where
   one_door limit door_end.Spent old new stays before f so_far ends none so = sound_door before f new.faults so_far (ends.2 ∙ none) so
 
   doors_tell : (limit n : ℕ) (history : List (Entered Entry)) (olds : List (KitTold K)) (done : List (DoneTold K)) (before f : ℕ) (so_far : Bool)
-      → AllServe coming sent limit history n olds done → All IsFreshKit olds → MatchBool so_far (Rose before f) (f ≡ before)
+      → AllServe coming sent page limit history n olds done → All IsFreshKit olds → MatchBool so_far (Rose before f) (f ≡ before)
       → MatchBool (so_far || list_any (λ (d : DoneTold K). is_failed d.end) done)
       (Rose before (after_doors f (map (λ (d : DoneTold K). d.kit) done))) (after_doors f (map (λ (d : DoneTold K). d.kit) done) ≡ before)
   doors_tell limit n history [] [] before f so_far serve fresh so = subst (λ (b : Bool). MatchBool b (Rose before f) (f ≡ before)) (or_none so_far) so
@@ -239,7 +240,7 @@ module _ {K : Type 0} (coming sent : K → Option (List ℕ)) where
       (doors_tell limit (n + 1) history os ds before (after_door f d.kit.door.faults) (so_far || is_failed d.end) serve.1 (All-tail IsFreshKit o os fresh) here)
 
   makers_tell : (limit n : ℕ) (history : List (Entered Entry)) (olds : List (KitTold K)) (done : List (DoneTold K)) (before r sum : ℕ)
-      → AllServe coming sent limit history n olds done → All IsFreshKit olds → RoseBy before r sum
+      → AllServe coming sent page limit history n olds done → All IsFreshKit olds → RoseBy before r sum
       → RoseBy before (after_makers r (map (λ (d : DoneTold K). d.kit) done)) (sum + after history n olds)
   makers_tell limit n history [] [] before r sum serve fresh so =
       let same : sum ≡ sum + 0 = omega arith in subst (λ (m : ℕ). RoseBy before r m) same so
@@ -261,51 +262,51 @@ module _ {K : Type 0} (coming sent : K → Option (List ℕ)) where
 
 -- ---- the whole
 
-module _ {K : Type 0} (coming sent : K → Option (List ℕ)) (limit : ℕ) where
+module _ {K : Type 0} (coming sent : K → Option (List ℕ)) (page : Page) (limit : ℕ) where
   serve_long : (n : ℕ) (history : List (Entered Entry)) (olds : List (KitTold K)) (done : List (DoneTold K))
-      → AllServe coming sent limit history n olds done → length done ≡ length olds
+      → AllServe coming sent page limit history n olds done → length done ≡ length olds
   serve_long n history [] [] serve = refl
   serve_long n history [] (d ∷ ds) serve = absurd serve
   serve_long n history (o ∷ os) [] serve = absurd serve
   serve_long n history (o ∷ os) (d ∷ ds) serve = ap suc (serve_long (n + 1) history os ds serve.1)
 
-module _ {A K D : Type 0} {g : Ghosts D} (tell : A → KitTold K) (coming sent : K → Option (List ℕ)) (limit : ℕ) where
+module _ {A K D : Type 0} {g : Ghosts D} (tell : A → KitTold K) (coming sent : K → Option (List ℕ)) (page : Page) (limit : ℕ) where
   -- the same by what a function hands on
   pub served_as : {T : Type 0} (opening : Desk D g) (kits kits_now : List A) (last last_now : Desk D g) (pass pass_now : Standing T Entry)
       (failed failed_now : Bool) → last_now ≡ last → pass_now ≡ pass → failed_now ≡ failed
-      → ServesTeam coming sent limit opening (map tell kits) (map tell kits_now) failed pass.seen last
-      → ServesTeam coming sent limit opening (map tell kits) (map tell kits_now) failed_now pass_now.seen last_now
+      → ServesTeam coming sent page limit opening (map tell kits) (map tell kits_now) failed pass.seen last
+      → ServesTeam coming sent page limit opening (map tell kits) (map tell kits_now) failed_now pass_now.seen last_now
   served_as {T} opening kits kits_now last last_now pass pass_now failed failed_now l p f team =
-      let S : Bool → List (Entered Entry) → Desk D g → Type 0 = λ b h d. ServesTeam coming sent limit opening (map tell kits) (map tell kits_now) b h d in
+      let S : Bool → List (Entered Entry) → Desk D g → Type 0 = λ b h d. ServesTeam coming sent page limit opening (map tell kits) (map tell kits_now) b h d in
       subst (λ (d : Desk D g). S failed_now pass_now.seen d) (sym l)
       (subst (λ (q : Standing T Entry). S failed_now q.seen last) (sym p)
       (subst (λ (b : Bool). S b pass.seen last) (sym f) team))
 
   -- as many kits come back as were handed out
   pub still_out : (opening last : Desk D g) (house : HouseTold A) (kits kits_now : List A) (failed : Bool) (history : List (Entered Entry))
-      → ServesTeam coming sent limit opening (map tell kits) (map tell kits_now) failed history last → AreAllOut house kits → AreAllOut house kits_now
+      → ServesTeam coming sent page limit opening (map tell kits) (map tell kits_now) failed history last → AreAllOut house kits → AreAllOut house kits_now
   still_out opening last house kits kits_now failed history team out =
       let kit : DoneTold K → KitTold K = λ (d : DoneTold K). d.kit in
       let same : length kits_now ≡ length kits =
       sym (length-map kits_now tell) ∙ ap length team.kits_are ∙ length-map team.done kit
-      ∙ serve_long coming sent limit 0 history (map tell kits) team.done team.workers ∙ length-map kits tell in
+      ∙ serve_long coming sent page limit 0 history (map tell kits) team.done team.workers ∙ length-map kits tell in
       λ some. subst (λ (n : ℕ). AreOut house n) (sym same) (out (omega (arith, some, same)))
 
-module _ {A K D : Type 0} {g : Ghosts D} (tell : A → KitTold K) (coming sent : K → Option (List ℕ)) (workers limit : ℕ) where
+module _ {A K D : Type 0} {g : Ghosts D} (tell : A → KitTold K) (coming sent : K → Option (List ℕ)) (page : Page) (workers limit : ℕ) where
   -- kits were handed out, their workers served, and the kits came back
   pub hosts_of : (opening last : Desk D g) (old mid new : HouseTold A) (kits kits_now : List A) (failed : Bool) (history : List (Entered Entry))
       → Takes old mid kits → length kits ≡ workers → mid.faults ≡ old.faults → All (λ (kit : A). IsFreshKit (tell kit)) kits
-      → ServesTeam coming sent limit opening (map tell kits) (map tell kits_now) failed history last → TakesAll tell mid new kits_now
-      → Hosts tell coming sent workers limit old.bound opening old new failed history last
+      → ServesTeam coming sent page limit opening (map tell kits) (map tell kits_now) failed history last → TakesAll tell mid new kits_now
+      → Hosts tell coming sent page workers limit old.bound opening old new failed history last
   hosts_of opening last old mid new kits kits_now failed history t many same fresh team b =
       let olds = map tell kits in
       let done = team.done in
       let kit : DoneTold K → KitTold K = λ (d : DoneTold K). d.kit in
       let fresh_told = All-map IsFreshKit tell kits fresh in
-      let doors = doors_tell coming sent limit 0 history olds done old.faults mid.faults false team.workers fresh_told same in
+      let doors = doors_tell coming sent page limit 0 history olds done old.faults mid.faults false team.workers fresh_told same in
       let faults : new.faults ≡ after_doors mid.faults (map kit done) = b.faults ∙ ap (after_doors mid.faults) team.kits_are in
       let first : RoseBy old.refusals mid.refusals 0 = inl (no_less old.refusals mid.refusals t.refusals) in
-      let makers = makers_tell coming sent limit 0 history olds done old.refusals mid.refusals 0 team.workers fresh_told first in
+      let makers = makers_tell coming sent page limit 0 history olds done old.refusals mid.refusals 0 team.workers fresh_told first in
       let refusals : new.refusals ≡ after_makers mid.refusals (map kit done) = b.refusals ∙ ap (after_makers mid.refusals) team.kits_are in
       let all : pattern_refusals (entries_in history) ≡ 0 + after history 0 olds =
       all_under history olds team.others ∙ upto_is history 0 olds
@@ -329,8 +330,8 @@ module _ {A K D : Type 0} {g : Ghosts D} (tell : A → KitTold K) (coming sent :
   -- after a bind
   pub hosts_bound : {T E : Type 0} (opening last : Desk D g) (old mid new : HouseTold A) (failed : Bool) (history : List (Entered Entry))
       (host : List ℕ) (port : ℕ) (answer : T) → Binds {T = T} {E = E} old mid host port (Ok answer)
-      → Hosts tell coming sent workers limit mid.bound opening mid new failed history last
-      → Hosts tell coming sent workers limit (bound_once_more old.bound host port) opening old new failed history last
+      → Hosts tell coming sent page workers limit mid.bound opening mid new failed history last
+      → Hosts tell coming sent page workers limit (bound_once_more old.bound host port) opening old new failed history last
   hosts_bound opening last old mid new failed history host port answer b h = record {
     kits = h.kits;
     kits_now = h.kits_now;

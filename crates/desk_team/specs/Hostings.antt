@@ -7,6 +7,7 @@ use Rattle.desk.specs.declared.desk.Desk.{Desk}
 use Rattle.desk.specs.Entries.{Entry}
 use Rattle.shared_desk.specs.Histories.{RoseBy, pattern_refusals}
 use Rattle.shared_desk.specs.Stays.{KitTold}
+use Rattle.web_messages.specs.declared.page.Page.{Page}
 use Rattle.desk_team.specs.Houses.{AreOut, Bound, HouseTold, IsFresh, after_door, after_maker, and_then}
 use Rattle.desk_team.specs.Teams.{ServesTeam}
 use Rattle.desk_team.specs.declared.hosting.HouseFault.{HouseFault}
@@ -57,7 +58,7 @@ pub record TakesAll {A K : Type 0} (tell : A → KitTold K) (old new : HouseTold
 -- A house, whose binds then are these, handed out a kit for each of so many workers, these served the journal at its doors, and
 -- the kits came back. Its count rose exactly where a call of a door failed; and its refusals rose by at least the number of
 -- entries that answer that a pattern was refused, or have come to their last value.
-pub record Hosts {A K D : Type 0} {g : Ghosts D} (tell : A → KitTold K) (coming sent : K → Option (List ℕ)) (workers limit : ℕ)
+pub record Hosts {A K D : Type 0} {g : Ghosts D} (tell : A → KitTold K) (coming sent : K → Option (List ℕ)) (page : Page) (workers limit : ℕ)
     (bound : Bound) (opening : Desk D g) (old new : HouseTold A) (failed : Bool) (history : List (Entered Entry)) (last : Desk D g) : Type 0 where
   pub kits : List A
   pub kits_now : List A
@@ -66,7 +67,7 @@ pub record Hosts {A K D : Type 0} {g : Ghosts D} (tell : A → KitTold K) (comin
   pub fresh : All (FreshBy tell) kits
   pub given : new.given ≡ and_then old.given kits
   pub back : new.back ≡ and_then old.back kits_now
-  pub team : ServesTeam coming sent limit opening (map tell kits) (map tell kits_now) failed history last
+  pub team : ServesTeam coming sent page limit opening (map tell kits) (map tell kits_now) failed history last
   pub bound_is : new.bound ≡ bound
   pub faults : MatchBool failed (Rose old.faults new.faults) (new.faults ≡ old.faults)
   pub refusals : RoseBy old.refusals new.refusals (pattern_refusals (entries_in history))

@@ -17,6 +17,7 @@ use Rattle.shared_desk.specs.Stays.{AreServed, AskedWith, EndsDoor, KitTold, Ser
 use Rattle.shared_desk.specs.declared.kit.Kit.{Kit}
 use Rattle.shared_desk.specs.declared.serving.DoorEnd.{DoorEnd}
 use Rattle.shared_desk.specs.declared.serving.DoorEnd.TheVariants as door_end
+use Rattle.web_messages.specs.declared.page.Page.{Page}
 use Rattle.desk_team.specs.declared.worker.Worker.{Worker}
 
 -- a call of the door failed
@@ -28,10 +29,10 @@ is_failed other = false
 abbrev pub told_of : {R K C M : Type 0} → Doors R K → Clocks C → Makers M → List (Kit R C M) → List (KitTold K)
 told_of r c m kits = map (λ kit. kit_told r c m kit) kits
 
-module _ {T R K C M : Type 0} (r : Doors R K) (c : Clocks C) (m : Makers M) (coming sent : K → Option (List ℕ)) where
+module _ {T R K C M : Type 0} (r : Doors R K) (c : Clocks C) (m : Makers M) (coming sent : K → Option (List ℕ)) (page : Page) where
   -- a worker served its door up to so many links
   abbrev pub Worked : ℕ → Worker (Standing T Entry) R C M → Worker (Standing T Entry) R C M → Type 0
-  Worked limit old new = ServesDoor coming sent limit new.end (kit_told r c m old.kit) (kit_told r c m new.kit) old.pass new.pass
+  Worked limit old new = ServesDoor coming sent page limit new.end (kit_told r c m old.kit) (kit_told r c m new.kit) old.pass new.pass
 
   -- each of some workers did
   abbrev pub AllWorked : ℕ → List (Worker (Standing T Entry) R C M) → List (Worker (Standing T Entry) R C M) → Type 0
@@ -71,24 +72,24 @@ HasNoRoom history = 2 ^ 63 ≤ length history + 1
 
 -- One worker served its door up to so many links, with the entries that stand under its number: they are the runs of these
 -- links, in order.
-pub record ServesUnder {K : Type 0} (coming sent : K → Option (List ℕ)) (limit : ℕ) (history : List (Entered Entry)) (number : ℕ)
+pub record ServesUnder {K : Type 0} (coming sent : K → Option (List ℕ)) (page : Page) (limit : ℕ) (history : List (Entered Entry)) (number : ℕ)
     (kit : KitTold K) (done : DoneTold K) : Type 0 where
   pub stays : List (Stay K)
-  pub served : AreServed coming sent kit.door done.kit.door stays
+  pub served : AreServed coming sent page kit.door done.kit.door stays
   pub ends : EndsDoor limit done.end kit.door done.kit.door stays
   pub full : done.end ≡ door_end.Spent → HasNoRoom history
   pub made : made_by number history ≡ runs_of stays
   pub asked : AskedWith kit.tools done.kit.tools (runs_of stays)
   pub day : done.kit.tools.day ≡ kit.tools.day
 
-module _ {K : Type 0} (coming sent : K → Option (List ℕ)) where
+module _ {K : Type 0} (coming sent : K → Option (List ℕ)) (page : Page) where
   -- Each of these workers did so, whose numbers follow this one.
   abbrev pub AllServe : ℕ → List (Entered Entry) → ℕ → List (KitTold K) → List (DoneTold K) → Type 0
   AllServe limit history number [] [] = Unit {0}
   AllServe limit history number [] (new ∷ news) = ⊥
   AllServe limit history number (old ∷ olds) [] = ⊥
   AllServe limit history number (old ∷ olds) (new ∷ news) =
-      ServesUnder coming sent limit history (number + 1) old new × AllServe limit history (number + 1) olds news
+      ServesUnder coming sent page limit history (number + 1) old new × AllServe limit history (number + 1) olds news
 
   -- Workers served a journal at the same time, until all had ended: the history is legal, from the machine as it was to the one
   -- that is given back; under each worker's number stand the entries that it made at its door, once and in order; and under no

@@ -16,6 +16,7 @@ use std::alloc::Global;
 use std::sync::Wait;
 use std::thread::Threads;
 use turn_lock::Pass;
+use web_messages::page::Page;
 
 /// Where a house binds.
 #[derive(Drop)]
@@ -111,6 +112,7 @@ fn conclude<H: House, D: Disk>(
 fn serve_kits<H: House, D: Disk + Send, W: Threads + Wait + Sync>(
     rt: &W,
     alloc: Global,
+    page: &Page,
     house: &mut H,
     desk: Desk<D>,
     kits: List<Kit<H::Door, H::Clock, H::Maker>>,
@@ -118,7 +120,7 @@ fn serve_kits<H: House, D: Disk + Send, W: Threads + Wait + Sync>(
 ) -> Result<Hosted<D>, Desk<D>>
     requires out { AreAllOut (H.told house.old) kits }
     ensures served { IfOk result (λ hosted. (kits_now : List (Kit H.Door H.Clock H.Maker))
-        × ServesTeam H.Door.Link.coming H.Door.Link.sent links desk
+        × ServesTeam H.Door.Link.coming H.Door.Link.sent page.now links desk
         (map (kit_told H.Door.Door H.Clock.Clock H.Maker.Maker) kits)
         (map (kit_told H.Door.Door H.Clock.Clock H.Maker.Maker) kits_now) hosted.failed
         hosted.pass.seen hosted.desk
@@ -128,7 +130,7 @@ fn serve_kits<H: House, D: Disk + Send, W: Threads + Wait + Sync>(
         × TakesAll (kit_told H.Door.Door H.Clock.Clock H.Maker.Maker) (H.told house.old)
         (H.told house.new) kits) }
 {
-    match serve_all(rt, alloc, desk, kits, links) {
+    match serve_all(rt, alloc, page, desk, kits, links) {
         Ok(closed) => Ok(conclude(house, closed)),
         Err((desk, kits, Memory)) => {
             give_back_all(house, kits);
@@ -141,13 +143,14 @@ fn serve_kits<H: House, D: Disk + Send, W: Threads + Wait + Sync>(
 fn serve_bound<H: House, D: Disk + Send, W: Threads + Wait + Sync>(
     rt: &W,
     alloc: Global,
+    page: &Page,
     house: &mut H,
     desk: Desk<D>,
     crew: Crew,
 ) -> Result<Hosted<D>, (Desk<D>, HouseFault)>
     ensures served { IfOk result (λ hosted. Hosts (kit_told H.Door.Door H.Clock.Clock H.Maker.Maker)
-        H.Door.Link.coming H.Door.Link.sent crew.workers crew.links (H.told house.old).bound desk
-        (H.told house.old) (H.told house.new) hosted.failed hosted.pass.seen hosted.desk) }
+        H.Door.Link.coming H.Door.Link.sent page.now crew.workers crew.links
+        (H.told house.old).bound desk (H.told house.old) (H.told house.new) hosted.failed hosted.pass.seen hosted.desk) }
     ensures unserved { IfErr result (λ left. (left.0 ≡ desk)
         × Unserved crew.workers (H.told house.old).bound (H.told house.old) (H.told house.new)
         left.1) }
@@ -161,25 +164,27 @@ fn serve_bound<H: House, D: Disk + Send, W: Threads + Wait + Sync>(
         give_back_all(house, kits);
         return Err((desk, HouseFault::Failed));
     }
-    match serve_kits(rt, alloc, house, desk, kits, crew.links) {
+    match serve_kits(rt, alloc, page, house, desk, kits, crew.links) {
         Ok(hosted) => Ok(hosted),
         Err(desk) => Err((desk, HouseFault::Memory)),
     }
 }
 
 /// Serves a journal at an address of a house, with so many workers at the same time, each at the door of its own kit and up
-/// to so many links, until all have ended. The house is asked to bind once. Where it doesn't bind or hand out the kits, or
-/// memory runs out before the first link, no link is served, and the machine and the kits come back as they were.
+/// to so many links, until all have ended. All of them show the page, if there is one. The house is asked to bind once.
+/// Where it doesn't bind or hand out the kits, or memory runs out before the first link, no link is served, and the machine
+/// and the kits come back as they were.
 pub fn serve_house<H: House, D: Disk + Send, W: Threads + Wait + Sync>(
     rt: &W,
     alloc: Global,
+    page: &Page,
     house: &mut H,
     address: Address,
     desk: Desk<D>,
     crew: Crew,
 ) -> Result<Hosted<D>, (Desk<D>, HouseFault)>
     ensures served { IfOk result (λ hosted. Hosts (kit_told H.Door.Door H.Clock.Clock H.Maker.Maker)
-        H.Door.Link.coming H.Door.Link.sent crew.workers crew.links
+        H.Door.Link.coming H.Door.Link.sent page.now crew.workers crew.links
         (bound_once_more (H.told house.old).bound address.host address.port) desk
         (H.told house.old) (H.told house.new) hosted.failed hosted.pass.seen hosted.desk) }
     ensures unserved { IfErr result (λ left. (left.0 ≡ desk)
@@ -188,7 +193,7 @@ pub fn serve_house<H: House, D: Disk + Send, W: Threads + Wait + Sync>(
 {
     let Address { host, port } = address;
     match house.bind(host, port) {
-        Ok(()) => serve_bound(rt, alloc, house, desk, crew),
+        Ok(()) => serve_bound(rt, alloc, page, house, desk, crew),
         Err(Failed) => Err((desk, HouseFault::Failed)),
     }
 }

@@ -13,6 +13,7 @@ use std::alloc::Global;
 use std::sync::Wait;
 use std::thread::Threads;
 use turn_lock::{Pass, Turn};
+use web_messages::page::Page;
 
 /// What a team leaves when all its workers have ended: the machine, the first pass, which has seen the whole history, the
 /// kits in their order, and whether a call of a door failed.
@@ -89,6 +90,7 @@ fn serve_under<
 >(
     rt: &W,
     alloc: Global,
+    page: &Page,
     lock: (Turn<Shared<D>>, Pass<Shared<D>>),
     kits: List<Kit<R, C, M>>,
     rooms: (Vec<Worker<Pass<Shared<D>>, R, C, M>>, Vec<Kit<R, C, M>>),
@@ -98,14 +100,14 @@ fn serve_under<
     requires done { lock.0.done ≡ 0 }
     requires none { (rooms.0.items ≡ []) × (rooms.1.items ≡ []) }
     requires room { (length kits ≤ vec_capacity rooms.0) × (length kits ≤ vec_capacity rooms.1) }
-    ensures { ServesTeam R.Link.coming R.Link.sent limit lock.0.opening.desk
+    ensures { ServesTeam R.Link.coming R.Link.sent page.now limit lock.0.opening.desk
         (told_of R.Door C.Clock M.Maker kits)
         (told_of R.Door C.Clock M.Maker result.kits) result.failed result.pass.seen result.desk }
 {
     let (turn, mut first) = lock;
     let (workers, done) = rooms;
     let mut workers = hire(&turn, &mut first, kits, workers);
-    work_all(rt, alloc, &turn, &mut workers, limit);
+    work_all(rt, alloc, page, &turn, &mut workers, limit);
     let (kits, failed) = dismiss(&turn, &mut first, workers, done);
     let (Shared { desk }, pass) = turn.close(first);
     Closed {
@@ -117,8 +119,8 @@ fn serve_under<
 }
 
 /// Serves a journal with as many workers as there are kits, at the same time, each at its own door and up to so many
-/// links, until all have ended. Where memory runs out before the first link, the machine and the kits come back as they
-/// were.
+/// links, until all have ended. All of them show the page, if there is one. Where memory runs out before the first link,
+/// the machine and the kits come back as they were.
 pub fn serve_all<
     D: Disk + Send,
     W: Threads + Wait + Sync,
@@ -128,12 +130,14 @@ pub fn serve_all<
 >(
     rt: &W,
     alloc: Global,
+    page: &Page,
     desk: Desk<D>,
     kits: List<Kit<R, C, M>>,
     limit: u64,
 ) -> Result<Closed<D, R, C, M>, (Desk<D>, List<Kit<R, C, M>>, Memory)>
     ensures served { IfOk result (λ closed.
-        ServesTeam R.Link.coming R.Link.sent limit desk (told_of R.Door C.Clock M.Maker kits)
+        ServesTeam R.Link.coming R.Link.sent page.now limit desk
+        (told_of R.Door C.Clock M.Maker kits)
         (told_of R.Door C.Clock M.Maker closed.kits) closed.failed closed.pass.seen closed.desk) }
     ensures back { IfErr result (λ refusal. (refusal.0 ≡ desk) × (refusal.1 ≡ kits)) }
 {
@@ -145,7 +149,7 @@ pub fn serve_all<
         return Err((desk, kits, Memory));
     };
     match Turn::new(alloc, Shared { desk }, 0) {
-        Ok(lock) => Ok(serve_under(rt, alloc, lock, kits, (workers, done), limit)),
+        Ok(lock) => Ok(serve_under(rt, alloc, page, lock, kits, (workers, done), limit)),
         Err((shared, memory)) => {
             let Shared { desk } = shared;
             Err((desk, kits, memory))

@@ -13,6 +13,7 @@ use std::sync::Wait;
 use std::sync::ledger::{Blank, Ledger};
 use std::thread::{Threads, for_each_mut};
 use turn_lock::{Pass, Turn};
+use web_messages::page::Page;
 
 /// A worker: its pass of the lock, its kit, and how its serving ended.
 #[derive(Drop)]
@@ -43,6 +44,7 @@ pub fn failed_with(failed: bool, end: DoorEnd) -> bool
 fn serve_counted<D: Disk, W: Wait, R: Door, C: Clock, M: Maker, L: Ledger>(
     rt: &W,
     alloc: Global,
+    page: &Page,
     turn: &Turn<Shared<D>>,
     pass: &mut Pass<Shared<D>>,
     kit: &mut Kit<R, C, M>,
@@ -53,28 +55,31 @@ fn serve_counted<D: Disk, W: Wait, R: Door, C: Clock, M: Maker, L: Ledger>(
     requires name { blank.name ≡ L.name }
     requires parts { blank.parts ≡ L.parts }
     requires three { blank.parts ≡ 3 }
-    ensures { ServesDoor R.Link.coming R.Link.sent limit result
+    ensures { ServesDoor R.Link.coming R.Link.sent page.now limit result
         (kit_told R.Door C.Clock M.Maker kit.old)
         (kit_told R.Door C.Clock M.Maker kit.new) pass.old pass.new }
 {
     let mut steps = Steps::<L>::start(blank);
-    serve_door(rt, alloc, turn, pass, kit, limit, &mut steps)
+    serve_door(rt, alloc, page, turn, pass, kit, limit, &mut steps)
 }
 
 /// Lets a worker serve its door.
 fn work<D: Disk, W: Wait, R: Door, C: Clock, M: Maker>(
     rt: &W,
     alloc: Global,
+    page: &Page,
     turn: &Turn<Shared<D>>,
     worker: &mut Worker<Pass<Shared<D>>, R, C, M>,
     limit: u64,
 )
     requires { IsFree turn.now worker.old.pass }
-    ensures { Worked R.Door C.Clock M.Maker R.Link.coming R.Link.sent limit worker.old worker.new }
+    ensures { Worked R.Door C.Clock M.Maker R.Link.coming R.Link.sent page.now limit worker.old
+        worker.new }
 {
     let end = serve_counted::<D, W, R, C, M, Brand>(
         rt,
         alloc,
+        page,
         turn,
         &mut worker.pass,
         &mut worker.kit,
@@ -94,12 +99,13 @@ fn work_each<
 >(
     rt: &W,
     alloc: Global,
+    page: &Page,
     turn: &Turn<Shared<D>>,
     workers: &mut [Worker<Pass<Shared<D>>, R, C, M>],
     limit: u64,
 )
     requires { All (λ worker. IsFree turn.now worker.pass) workers.old }
-    ensures { AllWorked R.Door C.Clock M.Maker R.Link.coming R.Link.sent limit workers.old
+    ensures { AllWorked R.Door C.Clock M.Maker R.Link.coming R.Link.sent page.now limit workers.old
         workers.new }
 {
     let threads = workers.len().max(1);
@@ -109,9 +115,9 @@ fn work_each<
         threads,
         &|_place: usize, worker: &mut Worker<Pass<Shared<D>>, R, C, M>|
             requires { IsFree turn.now worker.now.pass }
-            ensures { Worked R.Door C.Clock M.Maker R.Link.coming R.Link.sent limit
+            ensures { Worked R.Door C.Clock M.Maker R.Link.coming R.Link.sent page.entry.now limit
                 worker.entry.now worker.exit.now }
-        { work(rt, alloc, turn, worker, limit) },
+        { work(rt, alloc, page, turn, worker, limit) },
     );
 }
 
@@ -125,15 +131,16 @@ pub fn work_all<
 >(
     rt: &W,
     alloc: Global,
+    page: &Page,
     turn: &Turn<Shared<D>>,
     workers: &mut Vec<Worker<Pass<Shared<D>>, R, C, M>>,
     limit: u64,
 )
     requires { All (λ worker. IsFree turn.now worker.pass) workers.old.items }
-    ensures worked { AllWorked R.Door C.Clock M.Maker R.Link.coming R.Link.sent limit
+    ensures worked { AllWorked R.Door C.Clock M.Maker R.Link.coming R.Link.sent page.now limit
         workers.old.items workers.new.items }
     ensures many { length workers.new.items ≡ length workers.old.items }
     ensures free { All (λ worker. IsFree turn.now worker.pass) workers.new.items }
 {
-    work_each(rt, alloc, turn, workers.as_mut_slice(), limit);
+    work_each(rt, alloc, page, turn, workers.as_mut_slice(), limit);
 }

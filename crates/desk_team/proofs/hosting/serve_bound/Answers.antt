@@ -44,9 +44,9 @@ returns-in-Ok-serve_kits-clause-served g c =
     let whole = if_true _ _ taken.result.1 yes taken.ensures.whole in
     let s = c.in-Ok-serve_kits.ensures.served in
     let hosted = c.in-Ok-serve_kits.hosted in
-    let team = subst (λ kits. ServesTeam link.coming link.sent c.args.crew.links c.args.desk (map tell kits) (map tell s.0) hosted.failed hosted.pass.seen hosted.desk)
+    let team = subst (λ kits. ServesTeam link.coming link.sent c.args.page.now c.args.crew.links c.args.desk (map tell kits) (map tell s.0) hosted.failed hosted.pass.seen hosted.desk)
     c.from_vec-kits.ensures s.1 in
-    hosts_of tell link.coming link.sent c.args.crew.workers c.args.crew.links c.args.desk hosted.desk (g.H.House.told c.args.house.now)
+    hosts_of tell link.coming link.sent c.args.page.now c.args.crew.workers c.args.crew.links c.args.desk hosted.desk (g.H.House.told c.args.house.now)
     (g.H.House.told taken.new.house) (g.H.House.told c.serve_kits.new.house) taken.result.0.items s.0 hosted.failed hosted.pass.seen
     taken.ensures.takes whole.0 whole.1 taken.ensures.fresh team s.2
 

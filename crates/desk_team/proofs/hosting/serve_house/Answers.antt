@@ -12,7 +12,7 @@ returns-in-Ok-clause-served g c =
     let new = g.H.House.told c.serve_bound.new.house in
     let at = c.args.address in
     ok_on _ _ c.serve_bound.result
-    (λ hosted h. hosts_bound tell link.coming link.sent c.args.crew.workers c.args.crew.links c.args.desk hosted.desk old mid new
+    (λ hosted h. hosts_bound tell link.coming link.sent c.args.page.now c.args.crew.workers c.args.crew.links c.args.desk hosted.desk old mid new
     hosted.failed hosted.pass.seen at.host at.port tt c.in-Ok.ensures h) c.serve_bound.ensures.served
 
 pub returns-in-Ok-clause-unserved : goal.returns-in-Ok-clause-unserved

@@ -9,7 +9,7 @@ conclude-requires-clause-out g c κs within =
     let tell = kit_told g.H.Door.Door g.H.Clock.Clock g.H.Maker.Maker in
     let link = g.H.Door.Link.Link in
     let closed = c.in-Ok.closed in
-    still_out tell link.coming link.sent c.args.links c.args.desk closed.desk (g.H.House.told c.args.house.now) c.args.kits closed.kits
+    still_out tell link.coming link.sent c.args.page.now c.args.links c.args.desk closed.desk (g.H.House.told c.args.house.now) c.args.kits closed.kits
     closed.failed closed.pass.seen c.in-Ok.ensures.served c.requires.out
 
 pub give_back_all-requires-clause-out : goal.give_back_all-requires-clause-out
@@ -23,7 +23,7 @@ returns-in-Ok-clause-served g c =
     let closed = c.in-Ok.closed in
     let hosted = c.conclude.result in (
       closed.kits,
-      served_as tell link.coming link.sent c.args.links c.args.desk c.args.kits closed.kits closed.desk hosted.desk closed.pass hosted.pass
+      served_as tell link.coming link.sent c.args.page.now c.args.links c.args.desk c.args.kits closed.kits closed.desk hosted.desk closed.pass hosted.pass
           closed.failed hosted.failed c.conclude.ensures.desk c.conclude.ensures.pass c.conclude.ensures.failed c.in-Ok.ensures.served,
       c.conclude.ensures.back,
     )

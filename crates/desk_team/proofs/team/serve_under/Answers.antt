@@ -31,8 +31,8 @@ returns g c =
     let joined = ap (λ p. p.joined) pass ∙ done.ensures.joined ∙ ap (λ p. p.joined ++ map member_of news) first in
     let mine = ap (λ p. p.mine) pass ∙ done.ensures.first.2 ∙ ap (λ p. p.mine) first in
     let many = c.work_all.ensures.many ∙ ap length hired_are ∙ hired-length lock 0 kits in
-    let all = subst (λ olds. AllWorked g.R.Door g.C.Clock g.M.Maker link.coming link.sent c.args.limit olds news) hired_are c.work_all.ensures.worked in
+    let all = subst (λ olds. AllWorked g.R.Door g.C.Clock g.M.Maker link.coming link.sent c.args.page.now c.args.limit olds news) hired_are c.work_all.ensures.worked in
     let seen = subst (λ history. All (SawNoMore history) news) (sym (ap (λ p. p.seen) pass)) done.ensures.seen in
-    team_served g.R.Door g.C.Clock g.M.Maker link.coming link.sent c.args.limit lock lock.opening.desk closed.0.desk closed.1.seen kits news
+    team_served g.R.Door g.C.Clock g.M.Maker link.coming link.sent c.args.page.now c.args.limit lock lock.opening.desk closed.0.desk closed.1.seen kits news
     done.result.0 done.result.1 closed.1.mine closed.1.joined done.ensures.kits done.ensures.failed
     many all mine joined c.close-desk.ensures.led c.close-desk.ensures.whole c.requires.done seen

@@ -12,9 +12,9 @@ returns g c =
     let long = c.work_each.auto.workers ∙ c.as_mut_slice.ensures.len in
     let is = with_items_is old news long in
     let many : length news ≡ length old.items = omega (arith, long, old.ok.0) in
-    let worked = subst (λ items. AllWorked g.R.Door g.C.Clock g.M.Maker link.coming link.sent c.args.limit items news) c.as_mut_slice.ensures.value c.work_each.ensures in
+    let worked = subst (λ items. AllWorked g.R.Door g.C.Clock g.M.Maker link.coming link.sent c.args.page.now c.args.limit items news) c.as_mut_slice.ensures.value c.work_each.ensures in
     record {
       worked = rw is worked;
       many = ap length is ∙ many;
-      free = rw is (worked-free g.R.Door g.C.Clock g.M.Maker link.coming link.sent c.args.limit c.args.turn.now old.items news many worked c.requires);
+      free = rw is (worked-free g.R.Door g.C.Clock g.M.Maker link.coming link.sent c.args.page.now c.args.limit c.args.turn.now old.items news many worked c.requires);
     }

@@ -7,12 +7,13 @@ use Rattle.hl_base.proofs.list.List.TheSendSync as lists
 use Rattle.text_store.proofs.store.Store.TheSendSync as stores
 use Rattle.turn_lock.proofs.pass.Pass.TheSendSync as passes
 use Rattle.turn_lock.proofs.turn.Turn.TheSendSync as turns
+use Rattle.web_messages.proofs.page.Page.TheSendSync as pages
 use Rattle.turn_lock.specs.Passes.{IsFree}
 use Rattle.sharing_laws.proofs.Sendable.{loaded_send}
 use Rattle.desk_team.proofs.worker.work_each.Goals as goal
 
--- of the desk under the lock, and of its passes
-ruleset parts = (passes.the_send, turns.the_sync, stores.the_field_send, latest.the_send, lists.the_send, bytes.the_send)
+-- of the desk under the lock, of its passes, and of the page
+ruleset parts = (passes.the_send, turns.the_sync, stores.the_field_send, latest.the_send, lists.the_send, bytes.the_send, pages.the_sync)
 
 pub for_each_mut-requires-send-T : goal.for_each_mut-requires-send-T
 for_each_mut-requires-send-T g c κs within =
