@@ -36,6 +36,7 @@ use Rattle.store_making.specs.declared.refusal.JournalRefusal.TheVariants as jou
 use Rattle.store_commands.specs.Asking.{EditsStore, Patterns, PatternsStay, ShowsAfter, limit_under}
 use Rattle.store_commands.proofs.EditLaws.{refused, through_at, uncalled, untaken_at}
 use Rattle.store_commands.proofs.StandingLaws.{after_leaves, stands_reads}
+use Rattle.web_messages.specs.declared.page.Page.{Page}
 use Rattle.serve_commands.specs.Hosting.{IsHosted, IsUnhosted, OpensWith, ServesDisks, tally_of}
 use Rattle.serve_commands.specs.Stores.{IsLeft, IsServed, IsTally, IsUnopened, IsUnserved, ServesStore, ShowsLast, StandsFor, WasLent}
 use Rattle.serve_commands.specs.declared.outcome.Tally.{Tally}
@@ -219,10 +220,10 @@ module _ {S D : Type 0} (s : Shelves S D) (g : Disks D) (name : List ℕ) (old :
             alone found (inl is) = is
             alone found (inr other) = absurd other.1
 
-    module _ {A K : Type 0} (tell : A → KitTold K) (coming sent : K → Option (List ℕ)) (post : Post) (house house_now : HouseTold A) where
+    module _ {A K : Type 0} (tell : A → KitTold K) (coming sent : K → Option (List ℕ)) (page : Page) (post : Post) (house house_now : HouseTold A) where
       served : (told : Tally) (opening : Desk D g) → OpensWith g post.allow lent opening
-          → IsHosted tell coming sent opening post.address post.crew house house_now told back
-          → IsServed s g name tell coming sent post old new house house_now told
+          → IsHosted tell coming sent page opening post.address post.crew house house_now told back
+          → IsServed s g name tell coming sent page post old new house house_now told
       served told opening opens hosted =
           let last = hosted.last in
           let history = hosted.history in
@@ -255,18 +256,18 @@ module _ {S D : Type 0} (s : Shelves S D) (g : Disks D) (name : List ℕ) (old :
         lent = was_lent;
       }
 
-      through : (result : Result Tally Unserved) → ServesDisks g tell coming sent post lent back house house_now result
-          → ServesStore s g name tell coming sent post old new house house_now result
+      through : (result : Result Tally Unserved) → ServesDisks g tell coming sent page post lent back house house_now result
+          → ServesStore s g name tell coming sent page post old new house house_now result
       through (Ok told) is = served told is.0 is.1 is.2
       through (Err (unserved.House fault)) is = unhosted fault is.0 is.1 is.2
       through (Err (unserved.Store e)) is =
           unopened_so new house house_now e
           (through_at s g name some_request some_day uncalled_maker old beside refl out new lent back takes returns tt (refused e) (is.0, quiet)) is.1
 
-  pub served_at : {A K : Type 0} (tell : A → KitTold K) (coming sent : K → Option (List ℕ)) (post : Post) (house house_now : HouseTold A)
+  pub served_at : {A K : Type 0} (tell : A → KitTold K) (coming sent : K → Option (List ℕ)) (page : Page) (post : Post) (house house_now : HouseTold A)
       (b : List ℕ) → b ≡ beside → (out new : S) (lent back : D × D) → AreTaken s g false name b old out lent → CameBack s g name b out new back
-      → (result : Result Tally Unserved) → ServesDisks g tell coming sent post lent back house house_now result
-      → ServesStore s g name tell coming sent post old new house house_now result
-  served_at tell coming sent post house house_now b is out new lent back takes returns result serves =
+      → (result : Result Tally Unserved) → ServesDisks g tell coming sent page post lent back house house_now result
+      → ServesStore s g name tell coming sent page post old new house house_now result
+  served_at tell coming sent page post house house_now b is out new lent back takes returns result serves =
       through out new lent back (subst (λ (x : List ℕ). AreTaken s g false name x old out lent) is takes)
-      (subst (λ (x : List ℕ). CameBack s g name x out new back) is returns) tell coming sent post house house_now result serves
+      (subst (λ (x : List ℕ). CameBack s g name x out new back) is returns) tell coming sent page post house house_now result serves

@@ -36,7 +36,7 @@ IsComplete served (Err x) = IsMemory x
 pub record Serves {S D A K : Type 0} (s : Shelves S D) (g : Disks D) (tell : A → KitTold K) (coming sent : K → Option (List ℕ)) (asked : Asked)
     (old new : S) (house house_now : HouseTold A) (result : Result Ended Refusal) : Type 0 where
   pub served : Result Tally Unserved
-  pub serves : ServesStore s g asked.store tell coming sent (post_of asked) old new house house_now served
+  pub serves : ServesStore s g asked.store tell coming sent asked.page (post_of asked) old new house house_now served
   pub says : IsSaid asked.store served result
   -- where the house's count doesn't rise and the store was opened
   pub complete : (Rose house.faults house_now.faults → ⊥) → IsComplete served result

@@ -19,6 +19,7 @@ use Rattle.desk_team.specs.declared.hosting.Address.{Address}
 use Rattle.desk_team.specs.declared.hosting.Crew.{Crew}
 use Rattle.desk_team.specs.declared.hosting.HouseFault.{HouseFault}
 use Rattle.store_commands.specs.Asking.{IsUnopened}
+use Rattle.web_messages.specs.declared.page.Page.{Page}
 use Rattle.serve_commands.specs.declared.outcome.Tally.{Tally}
 use Rattle.serve_commands.specs.declared.outcome.Unserved.{Unserved}
 use Rattle.serve_commands.specs.declared.outcome.Unserved.TheVariants as unserved
@@ -39,11 +40,11 @@ module _ {D : Type 0} {g : Disks D} where
   tally_of desk failed = record { revision = desk.live.revision; requests = desk.requests; refused = desk.refused; failed = failed }
 
   -- A machine was served at an address of a house until all workers had ended, and closed: its disks came back.
-  pub record IsHosted {A K : Type 0} (tell : A → KitTold K) (coming sent : K → Option (List ℕ)) (opening : Desk D g) (address : Address) (crew : Crew)
+  pub record IsHosted {A K : Type 0} (tell : A → KitTold K) (coming sent : K → Option (List ℕ)) (page : Page) (opening : Desk D g) (address : Address) (crew : Crew)
       (house house_now : HouseTold A) (tally : Tally) (back : D × D) : Type 0 where
     pub last : Desk D g
     pub history : List (Entered Entry)
-    pub hosts : Hosts tell coming sent crew.workers crew.links (bound_at house address) opening house house_now tally.failed history last
+    pub hosts : Hosts tell coming sent page crew.workers crew.links (bound_at house address) opening house house_now tally.failed history last
     pub told : tally ≡ tally_of last tally.failed
     pub returned : back ≡ disks last.store
 
@@ -53,10 +54,10 @@ module _ {D : Type 0} {g : Disks D} where
     pub hosting : UnservedHouse workers (bound_at house address) house house_now fault
     pub returned : back ≡ disks opening.store
 
-  abbrev pub ServesDesk : {A K : Type 0} → (A → KitTold K) → (K → Option (List ℕ)) → (K → Option (List ℕ)) → Desk D g → Address → Crew
+  abbrev pub ServesDesk : {A K : Type 0} → (A → KitTold K) → (K → Option (List ℕ)) → (K → Option (List ℕ)) → Page → Desk D g → Address → Crew
       → HouseTold A → HouseTold A → Result Tally HouseFault → D × D → Type 0
-  ServesDesk tell coming sent opening address crew house house_now (Ok tally) back = IsHosted tell coming sent opening address crew house house_now tally back
-  ServesDesk tell coming sent opening address crew house house_now (Err fault) back =
+  ServesDesk tell coming sent page opening address crew house house_now (Ok tally) back = IsHosted tell coming sent page opening address crew house house_now tally back
+  ServesDesk tell coming sent page opening address crew house house_now (Err fault) back =
       IsUnhosted opening crew.workers address house house_now fault back
 
 -- A machine was opened on two disks, with what is allowed. It stands for the image that they read as, and has counted nothing.
@@ -72,10 +73,10 @@ pub record OpensWith {D : Type 0} (g : Disks D) (allowed : Allow) (old : D × D)
 
 -- Two disks were opened as a machine, which was served or not, and they came back; or they weren't opened, and the house wasn't
 -- asked.
-abbrev pub ServesDisks : {D A K : Type 0} → Disks D → (A → KitTold K) → (K → Option (List ℕ)) → (K → Option (List ℕ)) → Post → D × D → D × D
+abbrev pub ServesDisks : {D A K : Type 0} → Disks D → (A → KitTold K) → (K → Option (List ℕ)) → (K → Option (List ℕ)) → Page → Post → D × D → D × D
     → HouseTold A → HouseTold A → Result Tally Unserved → Type 0
-ServesDisks {D} g tell coming sent post old new house house_now (Ok tally) =
-    (opening : Desk D g) × OpensWith g post.allow old opening × IsHosted tell coming sent opening post.address post.crew house house_now tally new
-ServesDisks {D} g tell coming sent post old new house house_now (Err (unserved.House fault)) =
+ServesDisks {D} g tell coming sent page post old new house house_now (Ok tally) =
+    (opening : Desk D g) × OpensWith g post.allow old opening × IsHosted tell coming sent page opening post.address post.crew house house_now tally new
+ServesDisks {D} g tell coming sent page post old new house house_now (Err (unserved.House fault)) =
     (opening : Desk D g) × OpensWith g post.allow old opening × IsUnhosted opening post.crew.workers post.address house house_now fault new
-ServesDisks g tell coming sent post old new house house_now (Err (unserved.Store e)) = IsUnopened g old new e × (house_now ≡ house)
+ServesDisks g tell coming sent page post old new house house_now (Err (unserved.Store e)) = IsUnopened g old new e × (house_now ≡ house)

@@ -20,6 +20,7 @@ use Rattle.store_text.specs.declared.refusal.StoreRefusal.TheVariants as refusal
 use Rattle.store_making.specs.declared.refusal.JournalRefusal.{JournalRefusal}
 use Rattle.store_making.specs.declared.refusal.JournalRefusal.TheVariants as journal
 use Rattle.store_commands.specs.Asking.{IsUnasked, limit_under, size_under}
+use Rattle.web_messages.specs.declared.page.Page.{Page}
 use Rattle.serve_commands.specs.Hosting.{bound_at}
 use Rattle.serve_commands.specs.declared.outcome.Tally.{Tally}
 use Rattle.serve_commands.specs.declared.outcome.Unserved.{Unserved}
@@ -61,7 +62,7 @@ module _ {S D : Type 0} (s : Shelves S D) (g : Disks D) (name : List ℕ) where
     pub tells : s.tells new ≡ s.tells old
 
   -- A store was served until all workers had ended. What is told of its files holds where the shelf tells of files.
-  pub record IsServed {A K : Type 0} (tell : A → KitTold K) (coming sent : K → Option (List ℕ)) (post : Post) (old new : S)
+  pub record IsServed {A K : Type 0} (tell : A → KitTold K) (coming sent : K → Option (List ℕ)) (page : Page) (post : Post) (old new : S)
       (house house_now : HouseTold A) (told : Tally) : Type 0 where
     -- the machine as it was opened, as it was closed, and all that was asked between
     pub opening : Desk D g
@@ -74,7 +75,7 @@ module _ {S D : Type 0} (s : Shelves S D) (g : Disks D) (name : List ℕ) where
     pub counts : counts_of opening ≡ (0, 0)
     -- the house was asked to bind once, at the address; it handed out a kit for each worker, these served the machine, and the kits
     -- came back: the history is legal, and under each worker's number stands exactly what came over the links of its door
-    pub hosts : Hosts tell coming sent post.crew.workers post.crew.links (bound_at house post.address) opening house house_now told.failed history last
+    pub hosts : Hosts tell coming sent page post.crew.workers post.crew.links (bound_at house post.address) opening house house_now told.failed history last
     -- the numbers of the line
     pub line : IsTally told history last
     -- the files have the last state, or beside it one refused edit, and so does each outcome of a crash
@@ -110,8 +111,8 @@ module _ {S D : Type 0} (s : Shelves S D) (g : Disks D) (name : List ℕ) where
     pub not_asked : house_now ≡ house
 
   -- A store was served, or why not.
-  abbrev pub ServesStore : {A K : Type 0} → (A → KitTold K) → (K → Option (List ℕ)) → (K → Option (List ℕ)) → Post → S → S
+  abbrev pub ServesStore : {A K : Type 0} → (A → KitTold K) → (K → Option (List ℕ)) → (K → Option (List ℕ)) → Page → Post → S → S
       → HouseTold A → HouseTold A → Result Tally Unserved → Type 0
-  ServesStore tell coming sent post old new house house_now (Ok told) = IsServed tell coming sent post old new house house_now told
-  ServesStore tell coming sent post old new house house_now (Err (unserved.House fault)) = IsUnserved post old new house house_now fault
-  ServesStore tell coming sent post old new house house_now (Err (unserved.Store e)) = IsUnopened old new house house_now e
+  ServesStore tell coming sent page post old new house house_now (Ok told) = IsServed tell coming sent page post old new house house_now told
+  ServesStore tell coming sent page post old new house house_now (Err (unserved.House fault)) = IsUnserved post old new house house_now fault
+  ServesStore tell coming sent page post old new house house_now (Err (unserved.Store e)) = IsUnopened old new house house_now e

@@ -15,15 +15,17 @@ use std::alloc::Global;
 use std::sync::Wait;
 use std::sync::ledger::Ledger;
 use std::thread::Threads;
+use web_messages::page::Page;
 
-/// What `serve` is asked for: the name of the store, the address at which its doors are, what its requests may do, and how many
-/// workers serve how many links each.
+/// What `serve` is asked for: the name of the store, the address at which its doors are, what its requests may do, how many
+/// workers serve how many links each, and the page that they show, if there is one.
 #[derive(Drop)]
 pub struct Serving {
     pub store: Text,
     pub address: Address,
     pub allow: Allow,
     pub crew: Crew,
+    pub page: Page,
 }
 
 /// What is said when all workers have ended: the line of the last revision and of the counts of requests and refusals, and whether
@@ -90,12 +92,13 @@ pub fn serve<S: Shelf, H: House, W: Threads + Wait + Sync, L: Ledger>(
         address,
         allow,
         crew,
+        page,
     } = serving;
     let post = Post {
         address,
         allow,
         crew,
     };
-    let served = serve_store(rt, alloc, &store, post, shelf, house, steps);
+    let served = serve_store(rt, alloc, &page, &store, post, shelf, house, steps);
     say(alloc, &store, &served)
 }

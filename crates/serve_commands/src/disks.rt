@@ -16,6 +16,7 @@ use std::sync::ledger::Ledger;
 use std::thread::Threads;
 use store_making::{JournalRefusal, of_store, of_text};
 use store_text::unopened;
+use web_messages::page::Page;
 
 /// Why two disks aren't opened as a machine.
 fn of_opening(fault: DeskFault) -> JournalRefusal
@@ -43,6 +44,7 @@ fn of_house(served: Result<Tally, HouseFault>) -> Result<Tally, Unserved>
 pub(crate) fn serve_disks<H: House, D: Disk + Send, W: Threads + Wait + Sync, L: Ledger>(
     rt: &W,
     alloc: Global,
+    page: &Page,
     first: D,
     second: D,
     post: Post,
@@ -50,7 +52,7 @@ pub(crate) fn serve_disks<H: House, D: Disk + Send, W: Threads + Wait + Sync, L:
     steps: &mut Steps<L>,
 ) -> (D, D, Result<Tally, Unserved>)
     ensures { spec.ServesDisks D.Disk (kit_told H.Door.Door H.Clock.Clock H.Maker.Maker)
-        H.Door.Link.coming H.Door.Link.sent post (first, second) (result.0, result.1)
+        H.Door.Link.coming H.Door.Link.sent page.now post (first, second) (result.0, result.1)
         (H.told house.old) (H.told house.new) result.2 }
 {
     let Post {
@@ -60,7 +62,7 @@ pub(crate) fn serve_disks<H: House, D: Disk + Send, W: Threads + Wait + Sync, L:
     } = post;
     match Desk::open(alloc, first, second, allow, steps) {
         Ok(desk) => {
-            let (first, second, served) = serve_desk(rt, alloc, house, desk, address, crew);
+            let (first, second, served) = serve_desk(rt, alloc, page, house, desk, address, crew);
             (first, second, of_house(served))
         }
         Err((first, second, fault)) => (first, second, Err(Unserved::Store(of_opening(fault)))),

@@ -11,6 +11,7 @@ use hl_base::Disk;
 use std::alloc::Global;
 use std::sync::Wait;
 use std::thread::Threads;
+use web_messages::page::Page;
 
 /// Closes a machine that was served: its disks, and what is told.
 fn close_hosted<D: Disk>(hosted: Hosted<D>) -> (D, D, Tally)
@@ -38,16 +39,17 @@ fn close_hosted<D: Disk>(hosted: Hosted<D>) -> (D, D, Tally)
 pub(crate) fn serve_desk<H: House, D: Disk + Send, W: Threads + Wait + Sync>(
     rt: &W,
     alloc: Global,
+    page: &Page,
     house: &mut H,
     desk: Desk<D>,
     address: Address,
     crew: Crew,
 ) -> (D, D, Result<Tally, HouseFault>)
     ensures { ServesDesk (kit_told H.Door.Door H.Clock.Clock H.Maker.Maker)
-        H.Door.Link.coming H.Door.Link.sent desk address crew (H.told house.old) (H.told house.new)
+        H.Door.Link.coming H.Door.Link.sent page.now desk address crew (H.told house.old) (H.told house.new)
         result.2 (result.0, result.1) }
 {
-    match serve_house(rt, alloc, house, address, desk, crew) {
+    match serve_house(rt, alloc, page, house, address, desk, crew) {
         Ok(hosted) => {
             let (first, second, tally) = close_hosted(hosted);
             (first, second, Ok(tally))

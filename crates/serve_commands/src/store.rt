@@ -15,6 +15,7 @@ use std::sync::ledger::Ledger;
 use std::thread::Threads;
 use store_making::{JournalRefusal, of_store};
 use store_text::{give_back_disks, second_name, take_disks};
+use web_messages::page::Page;
 
 /// Where a store is served, what its requests may do, and by how many workers.
 #[derive(Drop)]
@@ -28,6 +29,7 @@ pub struct Post {
 fn serve_beside<S: Shelf, H: House, W: Threads + Wait + Sync, L: Ledger>(
     rt: &W,
     alloc: Global,
+    page: &Page,
     name: &Text,
     beside: &Text,
     post: Post,
@@ -37,12 +39,14 @@ fn serve_beside<S: Shelf, H: House, W: Threads + Wait + Sync, L: Ledger>(
 ) -> Result<Tally, Unserved>
     requires { beside.now ≡ second_name_of name.now }
     ensures { ServesStore S.Shelf S.Disk.Disk name.now
-        (kit_told H.Door.Door H.Clock.Clock H.Maker.Maker) H.Door.Link.coming H.Door.Link.sent post
+        (kit_told H.Door.Door H.Clock.Clock H.Maker.Maker) H.Door.Link.coming H.Door.Link.sent page.now post
         shelf.old shelf.new (H.told house.old) (H.told house.new) result }
 {
     match take_disks(alloc, shelf, name, beside, false) {
         Ok((first, second)) => {
-            let (first, second, served) = serve_disks(rt, alloc, first, second, post, house, steps);
+            let (first, second, served) = serve_disks(
+                rt, alloc, page, first, second, post, house, steps,
+            );
             give_back_disks(shelf, name, beside, first, second);
             served
         }
@@ -58,6 +62,7 @@ fn serve_beside<S: Shelf, H: House, W: Threads + Wait + Sync, L: Ledger>(
 pub fn serve_store<S: Shelf, H: House, W: Threads + Wait + Sync, L: Ledger>(
     rt: &W,
     alloc: Global,
+    page: &Page,
     name: &Text,
     post: Post,
     shelf: &mut S,
@@ -65,11 +70,11 @@ pub fn serve_store<S: Shelf, H: House, W: Threads + Wait + Sync, L: Ledger>(
     steps: &mut Steps<L>,
 ) -> Result<Tally, Unserved>
     ensures { ServesStore S.Shelf S.Disk.Disk name.now
-        (kit_told H.Door.Door H.Clock.Clock H.Maker.Maker) H.Door.Link.coming H.Door.Link.sent post
+        (kit_told H.Door.Door H.Clock.Clock H.Maker.Maker) H.Door.Link.coming H.Door.Link.sent page.now post
         shelf.old shelf.new (H.told house.old) (H.told house.new) result }
 {
     let Ok(beside) = second_name(alloc, name) else {
         return Err(Unserved::Store(JournalRefusal::Memory));
     };
-    serve_beside(rt, alloc, name, &beside, post, shelf, house, steps)
+    serve_beside(rt, alloc, page, name, &beside, post, shelf, house, steps)
 }

@@ -9,7 +9,7 @@ returns-in-Ok g c =
     let link = g.H.Door.Link.Link in
     let o = c.in-Ok.ensures in
     let d = c.serve_desk-first in
-    disks_so tell link.coming link.sent (g.H.House.told c.args.house.now) (g.H.House.told d.new.house) c.args.post (c.args.first, c.args.second)
+    disks_so tell link.coming link.sent c.args.page.now (g.H.House.told c.args.house.now) (g.H.House.told d.new.house) c.args.post (c.args.first, c.args.second)
     (d.result.0, d.result.1) c.in-Ok.desk
     (record { shown = o.opened; allows = o.allowed; loads = o.loads; size = o.half; counts = o.counts; keeps = o.keeps })
     d.result.2 d.ensures c.of_house.result c.of_house.ensures

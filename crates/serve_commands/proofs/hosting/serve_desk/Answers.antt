@@ -10,7 +10,7 @@ returns-in-Ok g c =
     let link = g.H.Door.Link.Link in
     let hosted = c.in-Ok.hosted in
     let closed = c.close_hosted-first in
-    hosted_so tell link.coming link.sent (g.H.House.told c.args.house.now) (g.H.House.told c.serve_house.new.house) c.args.desk hosted.desk
+    hosted_so tell link.coming link.sent c.args.page.now (g.H.House.told c.args.house.now) (g.H.House.told c.serve_house.new.house) c.args.desk hosted.desk
     c.args.address c.args.crew closed.result.2 hosted.failed hosted.pass.seen (closed.result.0, closed.result.1)
     c.in-Ok.ensures.served closed.ensures.told closed.ensures.disks
 

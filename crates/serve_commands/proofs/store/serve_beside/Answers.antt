@@ -18,7 +18,7 @@ returns-in-Ok g c =
     let tell = kit_told g.H.Door.Door g.H.Clock.Clock g.H.Maker.Maker in
     let link = g.H.Door.Link.Link in
     let d = c.serve_disks-first in
-    served_at g.S.Shelf g.S.Disk.Disk c.args.name.now c.args.shelf.now tell link.coming link.sent c.args.post
+    served_at g.S.Shelf g.S.Disk.Disk c.args.name.now c.args.shelf.now tell link.coming link.sent c.args.page.now c.args.post
     (g.H.House.told c.args.house.now) (g.H.House.told d.new.house) c.args.beside.now c.requires c.take_disks.new.shelf c.give_back_disks.new.shelf
     (c.in-Ok.first, c.in-Ok.second) (d.result.0, d.result.1) c.in-Ok.ensures c.give_back_disks.ensures d.result.2 d.ensures
 
