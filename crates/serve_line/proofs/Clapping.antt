@@ -77,4 +77,5 @@ same_said found = rw (
   first_value-rows found (codes "allow"),
   first_value-rows found (codes "workers"),
   first_value-rows found (codes "connections"),
+  first_value-rows found (codes "page"),
 ) refl

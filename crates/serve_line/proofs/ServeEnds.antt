@@ -27,6 +27,7 @@ use Rattle.command_line.specs.Answers.{Says, line_of, status_of}
 use Rattle.command_line.specs.Complete.{IsDone}
 use Rattle.serve_line.specs.Runs.{AnswersAll, AnswersEach, AnswersOrMemory, AnswersServe, CompletesServe, EndsServe, IsEnd, WasntOpened, IsWritten, NoneFailed, ServesSite, Sinks, door_fault_line}
 use Rattle.serve_line.specs.Words.{no_reading_cause}
+use Rattle.web_messages.specs.declared.page.Page.{Page}
 use Rattle.serve_line.specs.declared.program.Site.{Site}
 use Rattle.serve_line.specs.declared.words.NoReading.{NoReading}
 use Rattle.serve_line.specs.declared.words.NoReading.TheVariants as no_reading
@@ -69,12 +70,12 @@ module _ {J O E S D M H A K : Type 0} (s : Shelves S D) (g : Disks D) (tell : A 
 
 -- ---- how each request is answered
 
-module _ {S D A K : Type 0} (s : Shelves S D) (g : Disks D) (tell : A → KitTold K) (coming sent : K → Option (List ℕ)) (name : List ℕ)
-    (post : Post) (old new : S) (house house_now : HouseTold A) where
+module _ {S D A K : Type 0} (s : Shelves S D) (g : Disks D) (tell : A → KitTold K) (coming sent : K → Option (List ℕ)) (page : Page)
+    (name : List ℕ) (post : Post) (old new : S) (house house_now : HouseTold A) where
   pub answered_all : ((opening last : Desk D g) (history : List (Entered Entry)) → IsLegal opening history last → Loads (state_of opening)
       → AnswersEach opening history last) → (served : Result Tally Unserved)
-      → (h : ServesStore s g name tell coming sent post old new house house_now served)
-      → AnswersAll s g tell coming sent name post old new house house_now served h
+      → (h : ServesStore s g name tell coming sent page post old new house house_now served)
+      → AnswersAll s g tell coming sent page name post old new house house_now served h
   answered_all law (Ok told) h = law h.opening h.last h.history h.hosts.team.legal h.loads
   answered_all law (Err e) h = tt
 
@@ -110,7 +111,7 @@ module _ (status : ℕ) (before now : Sinks) (none : NoneFailed before now) wher
   module _ {J O E S D M H A K : Type 0} (s : Shelves S D) (g : Disks D) (tell : A → KitTold K) (coming sent : K → Option (List ℕ))
       (told : H → HouseTold A) (asked : Asked) (old new : Site J O E S M H) where
     abbrev Stored : Result Tally Unserved → Type 0
-    Stored served = ServesStore s g asked.store tell coming sent (post_of asked) old.outside.shelf new.outside.shelf
+    Stored served = ServesStore s g asked.store tell coming sent asked.page (post_of asked) old.outside.shelf new.outside.shelf
         (told old.house) (told new.house) served
 
     abbrev Done : Type 0

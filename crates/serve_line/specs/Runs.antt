@@ -34,6 +34,7 @@ use Rattle.command_line.specs.Runs.{Runs, RunsSoundly}
 use Rattle.command_line.specs.Scenes.{scene, soundness}
 use Rattle.command_line.specs.Tasks.{Stores}
 use Rattle.command_line.specs.declared.outside.Outside.{Outside}
+use Rattle.web_messages.specs.declared.page.Page.{Page}
 use Rattle.serve_line.specs.declared.program.Site.{Site}
 use Rattle.serve_line.specs.declared.words.NoReading.{NoReading}
 use Rattle.serve_line.specs.declared.words.NoReading.TheVariants as no_reading
@@ -108,10 +109,10 @@ module _ {D : Type 0} {g : Disks D} where
   AnswersEach opening history last = (earlier later : List (Entered Entry)) (x : Entered Entry) → history ≡ earlier ++ x ∷ later
       → IsAnswered opening earlier x.entry later last × AnswersReport opening earlier x.entry
 
-module _ {S D A K : Type 0} (s : Shelves S D) (g : Disks D) (tell : A → KitTold K) (coming sent : K → Option (List ℕ)) (name : List ℕ)
-    (post : Post) (old new : S) (house house_now : HouseTold A) where
+module _ {S D A K : Type 0} (s : Shelves S D) (g : Disks D) (tell : A → KitTold K) (coming sent : K → Option (List ℕ)) (page : Page)
+    (name : List ℕ) (post : Post) (old new : S) (house house_now : HouseTold A) where
   -- Of a store that was served, each request of the one history is.
-  abbrev pub AnswersAll : (served : Result Tally Unserved) → ServesStore s g name tell coming sent post old new house house_now served → Type 0
+  abbrev pub AnswersAll : (served : Result Tally Unserved) → ServesStore s g name tell coming sent page post old new house house_now served → Type 0
   AnswersAll (Ok told) h = AnswersEach h.opening h.history h.last
   AnswersAll (Err e) h = Unit {0}
 
@@ -121,7 +122,7 @@ module _ {J O E S D M H A K : Type 0} (s : Shelves S D) (g : Disks D) (tell : A 
   -- touched.
   pub record ServesSite (asked : Asked) (old new : Site J O E S M H) (result : Result Ended Refusal) : Type 0 where
     pub serves : Serves s g tell coming sent asked old.outside.shelf new.outside.shelf (told old.house) (told new.house) result
-    pub answers : AnswersAll s g tell coming sent asked.store (post_of asked) old.outside.shelf new.outside.shelf (told old.house) (told new.house)
+    pub answers : AnswersAll s g tell coming sent asked.page asked.store (post_of asked) old.outside.shelf new.outside.shelf (told old.house) (told new.house)
         serves.served serves.serves
     pub rest : new ≡ record old { outside = record (old.outside) { shelf = new.outside.shelf }; house = new.house }
 

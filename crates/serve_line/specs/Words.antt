@@ -4,6 +4,7 @@ use Rattle.std.specs.Borrow.{Bor}
 use Rattle.std.specs.Str.{bytes_eq}
 use Rattle.hl_base.specs.Ascii.{digit_zero}
 use Rattle.clap.specs.Words.{App, Kinds, Row, Rule, fault_of, first_of, first_value, matches_of, new_app, new_rule, with_rule}
+use Rattle.clap.specs.declared.builder.action.ArgAction.TheVariants.{SetTrue}
 use Rattle.clap.specs.declared.error.kind.ErrorKind.{ErrorKind}
 use Rattle.clap.specs.declared.error.kind.ErrorKind.TheVariants as kind
 use Rattle.clap.specs.declared.parser.matches.Found.{Found}
@@ -14,6 +15,8 @@ use Rattle.desk.specs.declared.request.Allow.TheVariants as allow
 use Rattle.desk_team.specs.declared.hosting.Address.{Address}
 use Rattle.desk_team.specs.declared.hosting.Crew.{Crew}
 use Rattle.serve_commands.specs.declared.answer.Serving.{Serving as Asked}
+use Rattle.web_messages.specs.declared.page.Page.{Page}
+use Rattle.web_messages.specs.declared.page.Page.TheVariants as pages
 use Rattle.serve_line.specs.declared.matched.Said.{Said}
 use Rattle.serve_line.specs.declared.words.NoReading.{NoReading}
 use Rattle.serve_line.specs.declared.words.NoReading.TheVariants as no_reading
@@ -43,9 +46,16 @@ stored_app = with_rule (new_app (codes "serve")) store_rule
 abbrev pub with_option : App → List ℕ → App
 with_option app name = with_rule app (option_rule name)
 
-abbrev pub serve_app : App
-serve_app = with_option (with_option (with_option (with_option (with_option stored_app
+-- an option without a value
+abbrev pub page_rule : Rule
+page_rule = record (new_rule (codes "page")) { long = Some (codes "page"); action = Some SetTrue }
+
+abbrev pub valued_app : App
+valued_app = with_option (with_option (with_option (with_option (with_option stored_app
     (codes "host")) (codes "port")) (codes "allow")) (codes "workers")) (codes "connections")
+
+abbrev pub serve_app : App
+serve_app = with_rule valued_app page_rule
 
 -- why `clap` refuses the words, and what it matches them to where it doesn't
 unfoldable pub clap_faults : List (List ℕ) → Kinds
@@ -68,6 +78,11 @@ rows_by words = rows_or_usage (clap_faults words) (clap_rows words)
 
 -- ---- what they say
 
+-- the value of an option without one, which `clap` gives it: that it is written
+abbrev pub asks_page : Option (List ℕ) → Bool
+asks_page (Some value) = bytes_eq value (codes "true")
+asks_page None = false
+
 -- the first value of each name
 abbrev pub said_of : List Row → Said
 said_of rows = record {
@@ -77,6 +92,7 @@ said_of rows = record {
   allow = first_of (codes "allow") rows;
   workers = first_of (codes "workers") rows;
   connections = first_of (codes "connections") rows;
+  page = asks_page (first_of (codes "page") rows);
 }
 
 -- the same of what a parse found
@@ -88,6 +104,7 @@ said_in found = record {
   allow = first_value found (codes "allow");
   workers = first_value found (codes "workers");
   connections = first_value found (codes "connections");
+  page = asks_page (first_value found (codes "page"));
 }
 
 abbrev pub said_or_usage : Result (List Row) NoReading → Result Said NoReading
@@ -143,24 +160,30 @@ address_at host (Err e) = Err e
 abbrev pub address_or : Option (List ℕ) → Option (List ℕ) → Result Address NoReading
 address_or host port = address_at (host_or host) (read (port_or port))
 
+-- the page that the program has, where it is asked for
+abbrev pub page_if : Bool → Page → Page
+page_if true page = page
+page_if false page = pages.Absent
+
 -- all of it; each without a reading is one of the words
-abbrev pub asked_with : Result (List ℕ) NoReading → Result Address NoReading → Result Allow NoReading → Result Crew NoReading → Result Asked NoReading
-asked_with (Ok store) (Ok address) (Ok level) (Ok crew) = Ok (record { store = store; address = address; allow = level; crew = crew })
-asked_with (Ok store) (Ok address) (Ok level) (Err e) = Err e
-asked_with (Ok store) (Ok address) (Err e) crew = Err e
-asked_with (Ok store) (Err e) level crew = Err e
-asked_with (Err e) address level crew = Err e
+abbrev pub asked_with : Page → Result (List ℕ) NoReading → Result Address NoReading → Result Allow NoReading → Result Crew NoReading → Result Asked NoReading
+asked_with page (Ok store) (Ok address) (Ok level) (Ok crew) = Ok (record { store = store; address = address; allow = level; crew = crew; page = page })
+asked_with page (Ok store) (Ok address) (Ok level) (Err e) = Err e
+asked_with page (Ok store) (Ok address) (Err e) crew = Err e
+asked_with page (Ok store) (Err e) level crew = Err e
+asked_with page (Err e) address level crew = Err e
 
-abbrev pub asked_by : Said → Result Asked NoReading
-asked_by said = asked_with (read said.store) (address_or said.host said.port) (read (allow_or said.allow)) (read (crew_or said.workers said.connections))
+abbrev pub asked_by : Page → Said → Result Asked NoReading
+asked_by page said =
+    asked_with (page_if said.page page) (read said.store) (address_or said.host said.port) (read (allow_or said.allow)) (read (crew_or said.workers said.connections))
 
-abbrev pub asked_or_usage : Result Said NoReading → Result Asked NoReading
-asked_or_usage (Ok said) = asked_by said
-asked_or_usage (Err e) = Err e
+abbrev pub asked_or_usage : Page → Result Said NoReading → Result Asked NoReading
+asked_or_usage page (Ok said) = asked_by page said
+asked_or_usage page (Err e) = Err e
 
--- what the words ask for, the first of which is `serve`
-abbrev pub serve_read : List (List ℕ) → Result Asked NoReading
-serve_read words = asked_or_usage (said_by words)
+-- what the words ask for, the first of which is `serve`, of a program that has this page
+abbrev pub serve_read : Page → List (List ℕ) → Result Asked NoReading
+serve_read page words = asked_or_usage page (said_by words)
 
 -- ---- which words are those of `serve`
 

@@ -1,16 +1,17 @@
 //! What `clap` says of the words of `serve`.
-ghost use Rattle.std.specs.Prelude.{◌≡◌, IfOk};
+ghost use Rattle.std.specs.Prelude.{◌≡◌, codes, IfOk};
+ghost use Rattle.std.specs.Str.{bytes_eq};
 ghost use Rattle.hl_base.specs.Gives.{Gives};
 ghost use Rattle.clap.specs.Words.{app_of, first_value, found_of, rows_of, with_rule};
 ghost use Rattle.serve_line.specs.Words as spec;
 
 use crate::words::NoReading;
 use clap::error::ErrorKind;
-use clap::{Arg, ArgMatches, Command};
+use clap::{Arg, ArgAction, ArgMatches, Command};
 use hl_base::{Memory, Text};
 use std::alloc::Global;
 
-/// What the words say: the name of the store and the value of each option, where they are written.
+/// What the words say: the name of the store and the value of each option, where they are written, and whether `--page` is.
 #[derive(Drop)]
 pub(crate) struct Said {
     pub store: Option<Text>,
@@ -19,6 +20,7 @@ pub(crate) struct Said {
     pub allow: Option<Text>,
     pub workers: Option<Text>,
     pub connections: Option<Text>,
+    pub page: bool,
 }
 
 /// A command, and an option of this name that takes one text.
@@ -44,6 +46,17 @@ fn with_store<'a>(alloc: Global) -> Result<Command<'a>, Memory>
     Ok(command)
 }
 
+/// A command, and `--page`, which has no value.
+fn with_page<'a>(alloc: Global, command: Command<'a>) -> Result<Command<'a>, Memory>
+    ensures { IfOk result (λ more. app_of more ≡ with_rule (app_of command.entry) spec.page_rule) }
+{
+    let flag = Arg::new(alloc, "page")
+        .long("page")
+        .action(ArgAction::SetTrue);
+    let more = command.arg(flag)?;
+    Ok(more)
+}
+
 /// `serve`, as `clap` reads it.
 fn serve_command<'a>(alloc: Global) -> Result<Command<'a>, Memory>
     ensures { IfOk result (λ command. app_of command ≡ spec.serve_app) }
@@ -54,7 +67,8 @@ fn serve_command<'a>(alloc: Global) -> Result<Command<'a>, Memory>
     let allowed = with_option(alloc, ported, "allow")?;
     let staffed = with_option(alloc, allowed, "workers")?;
     let limited = with_option(alloc, staffed, "connections")?;
-    Ok(limited)
+    let paged = with_page(alloc, limited)?;
+    Ok(paged)
 }
 
 /// Why there are no matches.
@@ -89,6 +103,23 @@ fn value_of(alloc: Global, matches: &ArgMatches<'_>, name: &str) -> Result<Optio
     }
 }
 
+/// Whether the value of an option says that it is written.
+fn is_true(value: &str) -> bool
+    ensures { result ≡ bytes_eq value.now (codes "true") }
+{
+    value.as_bytes() == b"true".as_slice()
+}
+
+/// Whether `--page` is written.
+fn asks_page(matches: &ArgMatches<'_>) -> bool
+    ensures { result ≡ spec.asks_page (first_value (found_of matches.now) (codes "page")) }
+{
+    match matches.get_str("page") {
+        Some(value) => is_true(value),
+        None => false,
+    }
+}
+
 /// All values that are written.
 fn values_of(alloc: Global, matches: &ArgMatches<'_>) -> Result<Said, Memory>
     ensures { IfOk result (λ said. said ≡ spec.said_in (found_of matches.now)) }
@@ -99,6 +130,7 @@ fn values_of(alloc: Global, matches: &ArgMatches<'_>) -> Result<Said, Memory>
     let allow = value_of(alloc, matches, "allow")?;
     let workers = value_of(alloc, matches, "workers")?;
     let connections = value_of(alloc, matches, "connections")?;
+    let page = asks_page(matches);
     Ok(Said {
         store,
         host,
@@ -106,6 +138,7 @@ fn values_of(alloc: Global, matches: &ArgMatches<'_>) -> Result<Said, Memory>
         allow,
         workers,
         connections,
+        page,
     })
 }
 

@@ -23,12 +23,14 @@ use std::alloc::Global;
 use std::sync::Wait;
 use std::sync::ledger::Ledger;
 use std::thread::Threads;
+use web_messages::page::Page;
 
-/// The objects of a run, and the house at whose doors it may serve a store.
+/// The objects of a run, the house at whose doors it may serve a store, and the page that it may show there.
 #[derive(Drop)]
 pub struct Site<J, O, E, S, M, H> {
     pub outside: Outside<J, O, E, S, M>,
     pub house: H,
+    pub page: Page,
 }
 
 /// Whether a word is `serve`.
@@ -69,7 +71,8 @@ fn refuse_words(alloc: Global, no_reading: NoReading) -> Refusal
     }
 }
 
-/// What is answered to the words of `serve`: the store that they name is served until all workers have ended.
+/// What is answered to the words of `serve`: the store that they name is served until all workers have ended, with the page of the
+/// site where they ask for it.
 fn answer_serve<
     J: Source,
     O: Sink,
@@ -87,10 +90,11 @@ fn answer_serve<
     steps: &mut Steps<L>,
 ) -> Result<Ended, Refusal>
     ensures { AnswersOrMemory S.Shelf S.Disk.Disk (kit_told H.Door.Door H.Clock.Clock H.Maker.Maker)
-        H.Door.Link.coming H.Door.Link.sent H.told (serve_read words.now) site.old site.new result }
+        H.Door.Link.coming H.Door.Link.sent H.told (serve_read site.old.page words.now) site.old
+        site.new result }
 {
     histories_are_answered::<S::Disk>();
-    match read_serve(alloc, words) {
+    match read_serve(alloc, &site.page, words) {
         Ok(asked) => serve(
             rt,
             alloc,
@@ -122,8 +126,8 @@ fn run_serve<
 ) -> Status
     ensures { RunsServe O.Sink E.Sink S.Shelf S.Disk.Disk
         (kit_told H.Door.Door H.Clock.Clock H.Maker.Maker)
-        H.Door.Link.coming H.Door.Link.sent H.told (serve_read words.now) result.0 site.old
-        site.new }
+        H.Door.Link.coming H.Door.Link.sent H.told (serve_read site.old.page words.now) result.0
+        site.old site.new }
 {
     let answer = answer_serve(rt, alloc, words, site, steps);
     end_serve(&mut site.outside, &answer)
@@ -180,7 +184,7 @@ pub fn run_program<
     ensures served { is_serve words.now ≡ true → RunsServe O.Sink E.Sink S.Shelf S.Disk.Disk
         (kit_told H.Door.Door H.Clock.Clock H.Maker.Maker) H.Door.Link.coming H.Door.Link.sent
         H.told
-        (serve_read words.now) result.0 site.old site.new }
+        (serve_read site.old.page words.now) result.0 site.old site.new }
     ensures other { is_serve words.now ≡ false
         → RunsOther J.Source O.Sink E.Sink S.Shelf S.Disk.Disk M.Maker
         words.now day result.0 site.old site.new }

@@ -13,6 +13,7 @@ use desk_team::{Address, Crew};
 use hl_base::{Memory, Text};
 use serve_commands::Serving;
 use std::alloc::Global;
+use web_messages::page::Page;
 
 /// The most workers.
 const MOST_WORKERS: u64 = 16;
@@ -91,6 +92,17 @@ fn crew_or(workers: Option<Text>, links: Option<Text>) -> Option<Crew>
     }
 }
 
+/// The page that the program has, where it is asked for.
+fn page_if(alloc: Global, asked: bool, page: &Page) -> Result<Page, Memory>
+    ensures { IfOk result (λ shown. shown ≡ spec.page_if asked page.now) }
+{
+    if asked {
+        page.copied(alloc)
+    } else {
+        Ok(Page::Absent)
+    }
+}
+
 /// A value that has a reading.
 fn read<T: Drop>(value: Option<T>) -> Result<T, NoReading>
     ensures { Gives (λ value. value) spec.no_reading_cause result (spec.read value) }
@@ -110,9 +122,9 @@ fn address_or(alloc: Global, host: Option<Text>, port: Option<Text>) -> Result<A
     Ok(Address { host, port })
 }
 
-/// What is asked for by what is said.
-pub(crate) fn asked_by(alloc: Global, said: Said) -> Result<Serving, NoReading>
-    ensures { Gives (λ asked. asked) spec.no_reading_cause result (spec.asked_by said) }
+/// What is asked for by what is said, of a program that has this page.
+pub(crate) fn asked_by(alloc: Global, page: &Page, said: Said) -> Result<Serving, NoReading>
+    ensures { Gives (λ asked. asked) spec.no_reading_cause result (spec.asked_by page.now said) }
 {
     let Said {
         store,
@@ -121,15 +133,18 @@ pub(crate) fn asked_by(alloc: Global, said: Said) -> Result<Serving, NoReading>
         allow,
         workers,
         connections,
+        page: asked,
     } = said;
     let store = read(store)?;
     let address = address_or(alloc, host, port)?;
     let allow = read(allow_or(allow))?;
     let crew = read(crew_or(workers, connections))?;
+    let page = page_if(alloc, asked, page)?;
     Ok(Serving {
         store,
         address,
         allow,
         crew,
+        page,
     })
 }

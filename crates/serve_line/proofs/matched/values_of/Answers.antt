@@ -9,4 +9,5 @@ returns c = rw (
   c.in_ok-allow.ensures,
   c.in_ok-workers.ensures,
   c.in_ok-connections.ensures,
+  c.asks_page-page.ensures,
 ) refl

@@ -13,7 +13,7 @@ returns g c =
     let a = c.answer_serve-answer in
     let last = a.new.site in
     let status = status_so c.end_serve.result.0 (sinks_of g.O.Sink g.E.Sink last.outside) (sinks_of g.O.Sink g.E.Sink c.end_serve.new.outside)
-    g.S.Shelf g.S.Disk.Disk tell link.coming link.sent g.H.House.told c.args.site.now last (serve_read c.args.words.now)
+    g.S.Shelf g.S.Disk.Disk tell link.coming link.sent g.H.House.told c.args.site.now last (serve_read c.args.site.now.page c.args.words.now)
     a.result a.ensures c.end_serve.ensures.ends in
     record {
       last = last;
@@ -24,7 +24,7 @@ returns g c =
       soundly = c.end_serve.ensures.soundly;
       statuses = status.0;
       readable = status.1;
-      complete = completes g.S.Shelf g.S.Disk.Disk tell link.coming link.sent g.H.House.told c.args.site.now last (serve_read c.args.words.now)
+      complete = completes g.S.Shelf g.S.Disk.Disk tell link.coming link.sent g.H.House.told c.args.site.now last (serve_read c.args.site.now.page c.args.words.now)
           c.end_serve.result.0 (sinks_of g.O.Sink g.E.Sink last.outside) (sinks_of g.O.Sink g.E.Sink c.end_serve.new.outside)
           a.result a.ensures c.end_serve.ensures.ends;
     }

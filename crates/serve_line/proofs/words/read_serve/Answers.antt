@@ -6,5 +6,5 @@ use Rattle.serve_line.proofs.words.read_serve.Goals as goal
 
 pub returns : goal.returns
 returns c =
-    subst (λ (words : List (List ℕ)). Gives (λ (asked : Serving). asked) no_reading_cause c.read_lent.result (serve_read words))
+    subst (λ (words : List (List ℕ)). Gives (λ (asked : Serving). asked) no_reading_cause c.read_lent.result (serve_read c.args.page.now words))
     (ap lent_texts c.as_slice.ensures.value ∙ c.in_ok-lent.ensures) c.read_lent.ensures
