@@ -16,6 +16,7 @@ use std::marker::Brand;
 use std::sync::Wait;
 use std::sync::ledger::{Blank, Ledger};
 use std::thread::Threads;
+use web_messages::page::Page;
 
 /// A kit in memory.
 pub type MemKit = Kit<MemDoor, MemClock, RegexMaker>;
@@ -91,6 +92,13 @@ fn house_of(alloc: Global, case: &Case) -> Result<MemHouse<RegexMaker>, Memory> 
     MemHouse::new(alloc, kits, case.house_fails)
 }
 
+/// A page.
+pub fn page_of(alloc: Global) -> Result<Page, Memory> {
+    let text = Bytes::copied(alloc, b"<p>Books</p>\n")?;
+    let policy = Text::copied(alloc, "default-src 'none'")?;
+    Ok(Page::Shown { text, policy })
+}
+
 /// The words of a case.
 pub fn words_of(alloc: Global, words: &[&str]) -> Result<Vec<Text>, Memory> {
     let mut copies = Vec::new(alloc);
@@ -131,6 +139,7 @@ fn counted<L: Ledger, W: Threads + Wait + Sync>(
             maker: RegexMaker::new(),
         },
         house: house_of(alloc, case)?,
+        page: page_of(alloc)?,
     };
     let mut steps = Steps::<L>::start(blank);
     let status = run_program(

@@ -1,5 +1,5 @@
 //! Rows of `serve`: its words, one link, a bind and a door that fail.
-use crate::case::{Case, Seen, answer, words_of};
+use crate::case::{Case, Seen, answer, page_of, words_of};
 use desk::Allow;
 use hl_base::Memory;
 use serve_line::{NoReading, read_serve};
@@ -7,6 +7,7 @@ use std::alloc::Global;
 use std::sync::Wait;
 use std::test::Fail;
 use std::thread::Threads;
+use web_messages::page::Page;
 
 const BALANCE: &[u8] = b"GET /balance HTTP/1.1\r\nHost: a\r\nConnection: close\r\n\r\n";
 
@@ -82,7 +83,8 @@ fn reads_words(rt: HostRuntime) -> Result<(), Fail> {
         rt.alloc(),
         &["serve", "--allow", "edit", "home", "--port=80"],
     )?;
-    let asked = read_serve(rt.alloc(), words.as_slice())
+    let page = page_of(rt.alloc())?;
+    let asked = read_serve(rt.alloc(), &page, words.as_slice())
         .ok()
         .ok_or("a reading")?;
     assert_eq!(rt; asked.store.as_str(), "home");
@@ -91,10 +93,52 @@ fn reads_words(rt: HostRuntime) -> Result<(), Fail> {
     assert_eq!(rt; asked.allow, Allow::Edit);
     assert_eq!(rt; asked.crew.workers, 4);
     assert_eq!(rt; asked.crew.links, 4_294_967_295);
+    assert!(rt; matches!(asked.page, Page::Absent));
     let none = words_of(rt.alloc(), &["serve"])?;
     assert_eq!(rt;
-        read_serve(rt.alloc(), none.as_slice()).err(),
+        read_serve(rt.alloc(), &page, none.as_slice()).err(),
         Some(NoReading::Usage)
     );
+    Ok(())
+}
+
+/// `--page` has no value, is written once at most, and stands anywhere.
+#[test]
+fn reads_the_word_for_the_page(rt: HostRuntime) -> Result<(), Fail> {
+    let page = page_of(rt.alloc())?;
+    let words = words_of(rt.alloc(), &["serve", "--page", "home"])?;
+    let asked = read_serve(rt.alloc(), &page, words.as_slice())
+        .ok()
+        .ok_or("a reading")?;
+    assert!(rt; matches!(asked.page, Page::Shown { .. }));
+    for words in [
+        ["serve", "home", "--page=on"].as_slice(),
+        ["serve", "home", "--page", "--page"].as_slice(),
+    ] {
+        let words = words_of(rt.alloc(), words)?;
+        assert_eq!(rt;
+            read_serve(rt.alloc(), &page, words.as_slice()).err(),
+            Some(NoReading::Usage)
+        );
+    }
+    Ok(())
+}
+
+/// The journal isn't asked for the page.
+#[test]
+fn shows_the_page(rt: HostRuntime) -> Result<(), Fail> {
+    let case = Case {
+        words: &["serve", "home", "--page", "--workers=1", "--connections=1"],
+        bytes: b"GET / HTTP/1.1\r\nHost: a\r\nConnection: close\r\n\r\n",
+        house_fails: &[],
+        door_fails: &[],
+    };
+    let seen = answer(&rt, rt.alloc(), &case)?;
+    assert_eq!(rt; seen.status, 0);
+    assert_eq!(rt;
+        seen.output.as_slice(),
+        b"revision 0, requests 0, refused 0\n".as_slice()
+    );
+    assert_eq!(rt; seen.error.as_slice(), b"".as_slice());
     Ok(())
 }
