@@ -19,6 +19,7 @@ use Rattle.web_desk.specs.Ends.{EndsWell}
 use Rattle.web_desk.specs.Makers.{TellsEntries}
 use Rattle.web_desk.specs.Sent.{Sends}
 use Rattle.web_desk.specs.Served.{AreOf, Served}
+use Rattle.web_messages.specs.declared.page.Page.TheVariants as pages
 use Rattle.web_desk.specs.declared.conn_end.ConnEnd.{ConnEnd}
 use Rattle.web_desk.specs.declared.conn_end.ConnEnd.TheVariants as conn
 use Rattle.talk_commands.specs.Links.{IsHeld, Wire}
@@ -62,7 +63,7 @@ module _ {T D : Type 0} {g : Disks D} (lock : Lock T) (first pass closed : Stand
       omega (arith, at_end, begins, same, long)
 
   pub talked : (day : ℕ) (p : Patterns) (w : Wire) (end : ConnEnd) (back : D × D) → AreOf day entries
-      → IfSome w.coming (λ bytes. Sends w.sent w.sent_now (λ text. Served bytes end entries text))
+      → IfSome w.coming (λ bytes. Sends w.sent w.sent_now (λ text. Served pages.Absent bytes end entries text))
       → TellsEntries p.before p.now p.last_before p.last_now entries
       → Counted end w.read_faults w.read_faults_now w.write_faults w.write_faults_now
       → IfSome w.coming (λ bytes. IsOfWhole bytes → EndsWell end) → (end ≡ conn.Spent → IsFull pass) → back ≡ disks last.store

@@ -2,6 +2,7 @@
 use Rattle.std.specs.Prelude.{◌≡◌, ◌≢◌, ℕ, List, Option, IfSome}
 use Rattle.hl_base.specs.declared.link.Link.{Ghosts as Links}
 use Rattle.web_messages.specs.Streams.{IsOfWhole}
+use Rattle.web_messages.specs.declared.page.Page.TheVariants as pages
 use Rattle.desk.specs.Entries.{Entry}
 use Rattle.store_commands.specs.Asking.{Patterns}
 use Rattle.web_desk.specs.Counts.{Counted}
@@ -35,10 +36,10 @@ wire k old new = record {
 }
 
 -- A connection ended so, and these are its entries, in order: those of the messages that asked, each on this day. What was sent,
--- where the link tells it, are the answers to the messages that came, and then what the end brings.
+-- where the link tells it, are the answers to the messages that came, and then what the end brings; there is no page.
 pub record IsHeld (day : ℕ) (p : Patterns) (w : Wire) (end : ConnEnd) (entries : List Entry) : Type 0 where
   pub days : AreOf day entries
-  pub served : IfSome w.coming (λ bytes. Sends w.sent w.sent_now (λ text. Served bytes end entries text))
+  pub served : IfSome w.coming (λ bytes. Sends w.sent w.sent_now (λ text. Served pages.Absent bytes end entries text))
   -- the maker's count of refused patterns rises with those entries alone that say so
   pub maker : TellsEntries p.before p.now p.last_before p.last_now entries
   -- a fault of the link was counted as one of its way

@@ -19,6 +19,7 @@ use store_making::{JournalRefusal, of_store, of_text};
 use store_text::unopened;
 use turn_lock::{Pass, Turn};
 use web_desk::ConnEnd;
+use web_messages::page::Page;
 
 /// Why two disks make no machine, as the refusal of a journal.
 pub(crate) fn refusal_of(fault: DeskFault) -> JournalRefusal
@@ -52,7 +53,10 @@ fn talk_under<D: Disk, W: Wait, K: Link, M: Maker, L: Ledger>(
 {
     let (turn, mut pass) = lock;
     let mut clock = MemClock::new(day.0);
-    let end = serve_connection(rt, alloc, &turn, &mut pass, link, &mut clock, maker, steps);
+    let page = Page::Absent;
+    let end = serve_connection(
+        rt, alloc, &page, &turn, &mut pass, link, &mut clock, maker, steps,
+    );
     let (Shared { desk }, _) = turn.close(pass);
     let (first, second) = desk.close();
     (first, second, end)
