@@ -8,4 +8,6 @@ mod ends;
 #[cfg(test)]
 mod messages;
 #[cfg(test)]
+mod pages;
+#[cfg(test)]
 mod served;

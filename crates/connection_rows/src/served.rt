@@ -8,6 +8,7 @@ use std::alloc::Global;
 use std::marker::Brand;
 use std::sync::ledger::{Blank, Ledger};
 use web_desk::{Alone, ConnEnd, serve_link};
+use web_messages::page::Page;
 
 /// The bytes that come, how many of them a read gives at most, and the numbers of the reads and writes that are to
 /// fail, counted together.
@@ -45,6 +46,7 @@ fn machine<L: Ledger>(
 /// Serves a connection.
 fn serve<L: Ledger>(
     alloc: Global,
+    page: &Page,
     desk: &mut Desk<MemDisk>,
     connection: &Connection,
     steps: &mut Steps<L>,
@@ -58,6 +60,7 @@ fn serve<L: Ledger>(
     let mut ask = Alone { desk };
     let end = serve_link(
         alloc,
+        page,
         &mut ask,
         &mut link,
         &mut MemClock::new(739_052),
@@ -72,6 +75,7 @@ fn serve<L: Ledger>(
 fn alone<L: Ledger>(
     alloc: Global,
     blank: Blank,
+    page: &Page,
     disk_fails: &[u64],
     connection: &Connection,
 ) -> Result<Ended, Memory>
@@ -81,14 +85,25 @@ fn alone<L: Ledger>(
 {
     let mut steps = Steps::<L>::start(blank);
     let mut desk = machine(alloc, disk_fails, &mut steps)?;
-    serve(alloc, &mut desk, connection, &mut steps)
+    serve(alloc, page, &mut desk, connection, &mut steps)
 }
 
 /// The same, with counters of its own.
+pub fn ended_with(
+    alloc: Global,
+    page: &Page,
+    disk_fails: &[u64],
+    connection: &Connection,
+) -> Result<Ended, Memory> {
+    alone::<Brand>(alloc, Blank::new(3), page, disk_fails, connection)
+}
+
+/// The same, without a page.
 pub fn ended_of(
     alloc: Global,
     disk_fails: &[u64],
     connection: &Connection,
 ) -> Result<Ended, Memory> {
-    alone::<Brand>(alloc, Blank::new(3), disk_fails, connection)
+    let page = Page::Absent;
+    ended_with(alloc, &page, disk_fails, connection)
 }

@@ -1,4 +1,4 @@
-use Rattle.connection_rows.proofs.served.ended_of.Given as goal
+use Rattle.connection_rows.proofs.served.ended_with.Given as goal
 
 abbrev pub ghosts-alone : goal.ghosts-alone
 ghosts-alone a = record { name = a.blank.name; parts = a.blank.parts }
