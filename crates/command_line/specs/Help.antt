@@ -8,7 +8,7 @@ use Rattle.command_words.specs.declared.task.Subject.{Subject}
 use Rattle.command_words.specs.declared.task.Subject.TheVariants as subjects
 
 unfoldable pub help_text : List ℕ
-help_text = codes "nibcactus: plain text accounting\n\nnibcactus COMMAND [OPTIONS] [QUERY] < JOURNAL\nnibcactus COMMAND -f FILE [OPTIONS] [QUERY]\n\nReports\n  balance, bal          each account's sums, and the total\n  register, reg         the postings by day, with a running total\n  incomestatement, is   revenues and expenses\n  balancesheet, bs      assets and liabilities at the end of each period\n  print                 the transactions by day\n  accounts              the names of the accounts\n  check                 nothing, or the journal's first fault\n\nOthers over a text\n  strict NAME ..        accounts, commodities, payees, tags, ordereddates: what isn't declared\n  close --on=DAY        the entries that close accounts and open them again\n  explain               the journal's first fault, its line, and how it is mended\n  hours                 the hours of a time log, as a journal\n\nStores\n  init STORE            a store of the journal; --limit=N: bytes of each file\n  add STORE             adds the entry on standard input\n  import STORE FILE     adds a bank's file; --rules=NAME, else FILE.rules\n  export STORE          the text of a store\n  items STORE           the number, line, day and first line of each item\n  replace STORE         replaces its text with the journal; --base=N: only at that revision\n  serve STORE           over HTTP, to several people; --host, --port, --workers=N,\n                        --connections=N, --allow=LEVEL: view, add (the default) or edit\n  feed STORE            its records, as frames\n  follow REPLICA        a store that keeps the frames on standard input; --limit=N\n\nOthers\n  talk                  one HTTP connection over standard input and output\n                        --allow=LEVEL: view, add (the default) or edit\n  sample N              loads a journal of N entries, and says how long it is\n  --help [COMMAND]      this text, or the help of a command\n  --version             the version\n\nThe journal\n  -f FILE               read it from a file; - is standard input, the default\n  --store=NAME          read it from a store\n\nPeriods and intervals\n  -b, --begin DAY       from that day on\n  -e, --end DAY         before that day\n  -p, --period PERIOD   both, and the interval\n  -D -W -M -Q -Y        columns of days, weeks, months, quarters, years\n\nPostings\n  -U -P -C              unmarked, pending, cleared\n  -R, --real            no virtual ones\n  --depth=N             accounts cut to N parts\n  -E, --empty           sums of zero too\n\nValues\n  -B, --cost            at cost\n  -V, --market          in the default currency, at the end of each period\n  -X, --exchange SYM    in that symbol\n  --value=WHEN[,SYM]    cost, then, end, now or a day\n\nRules\n  --auto                what automated rules add\n  --forecast[=PERIOD]   transactions of periodic rules that are to come\n  --budget              balance: amounts beside the goals of periodic rules\n\nLayout\n  -H, --cumulative, --change   where the sums begin\n  -l, --flat; -t, --tree       a list or a tree\n  -A, -T, -N, -S               average, row total, no total, by amount\n  -x, --explicit               print: all amounts\n\nBank files\n  --name=NAME           the name under which a file is remembered; else FILE\n  --dry-run             writes the entries that would be added, and stores nothing\n\nClosing entries and time logs\n  --on=DAY              the day of the closing entry\n  --into=ACCOUNT        what takes the balances; else equity:closing\n  --dot                 the log is timedot, else timeclock\n\nA query has words of account names, and terms: acct:, desc:, payee:, note:,\ncode:, date:, status:, real:, amt:, cur:, tag:, type:, depth:, not:.\n"
+help_text = codes "nibcactus: plain text accounting\n\nnibcactus COMMAND [OPTIONS] [QUERY] < JOURNAL\nnibcactus COMMAND -f FILE [OPTIONS] [QUERY]\n\nReports\n  balance, bal          each account's sums, and the total\n  register, reg         the postings by day, with a running total\n  incomestatement, is   revenues and expenses\n  balancesheet, bs      assets and liabilities at the end of each period\n  print                 the transactions by day\n  accounts              the names of the accounts\n  check                 nothing, or the journal's first fault\n\nOthers over a text\n  strict NAME ..        accounts, commodities, payees, tags, ordereddates: what isn't declared\n  close --on=DAY        the entries that close accounts and open them again\n  explain               the journal's first fault, its line, and how it is mended\n  hours                 the hours of a time log, as a journal\n\nStores\n  init STORE            a store of the journal; --limit=N: bytes of each file\n  add STORE             adds the entry on standard input\n  import STORE FILE     adds a bank's file; --rules=NAME, else FILE.rules\n  export STORE          the text of a store\n  items STORE           the number, line, day and first line of each item\n  replace STORE         replaces its text with the journal; --base=N: only at that revision\n  serve STORE           over HTTP, to several people; --host, --port, --workers=N,\n                        --connections=N, --allow=LEVEL: view, add (the default) or edit;\n                        --page: with a page for browsers\n  feed STORE            its records, as frames\n  follow REPLICA        a store that keeps the frames on standard input; --limit=N\n\nOthers\n  talk                  one HTTP connection over standard input and output\n                        --allow=LEVEL: view, add (the default) or edit\n  sample N              loads a journal of N entries, and says how long it is\n  --help [COMMAND]      this text, or the help of a command\n  --version             the version\n\nThe journal\n  -f FILE               read it from a file; - is standard input, the default\n  --store=NAME          read it from a store\n\nPeriods and intervals\n  -b, --begin DAY       from that day on\n  -e, --end DAY         before that day\n  -p, --period PERIOD   both, and the interval\n  -D -W -M -Q -Y        columns of days, weeks, months, quarters, years\n\nPostings\n  -U -P -C              unmarked, pending, cleared\n  -R, --real            no virtual ones\n  --depth=N             accounts cut to N parts\n  -E, --empty           sums of zero too\n\nValues\n  -B, --cost            at cost\n  -V, --market          in the default currency, at the end of each period\n  -X, --exchange SYM    in that symbol\n  --value=WHEN[,SYM]    cost, then, end, now or a day\n\nRules\n  --auto                what automated rules add\n  --forecast[=PERIOD]   transactions of periodic rules that are to come\n  --budget              balance: amounts beside the goals of periodic rules\n\nLayout\n  -H, --cumulative, --change   where the sums begin\n  -l, --flat; -t, --tree       a list or a tree\n  -A, -T, -N, -S               average, row total, no total, by amount\n  -x, --explicit               print: all amounts\n\nBank files\n  --name=NAME           the name under which a file is remembered; else FILE\n  --dry-run             writes the entries that would be added, and stores nothing\n\nClosing entries and time logs\n  --on=DAY              the day of the closing entry\n  --into=ACCOUNT        what takes the balances; else equity:closing\n  --dot                 the log is timedot, else timeclock\n\nA query has words of account names, and terms: acct:, desc:, payee:, note:,\ncode:, date:, status:, real:, amt:, cur:, tag:, type:, depth:, not:.\n"
 
 unfoldable pub version_text : List ℕ
 version_text = codes "nibcactus 0.2.0\n"
@@ -67,7 +67,7 @@ unfoldable pub items_help : List ℕ
 items_help = codes "nibcactus items: the items of a store's journal, a line each\n\nnibcactus items STORE\n\nA line has the item's number, which /edit takes, the number of its first line, the\nday of a transaction, and the first line, with tabs between them.\n"
 
 unfoldable pub serve_help : List ℕ
-serve_help = codes "nibcactus serve: a store over HTTP, to several people\n\nnibcactus serve STORE [OPTIONS]\n\nOptions\n  --host=HOST           the address of this machine; else 127.0.0.1\n  --port=PORT           the port; else 5000\n  --allow=LEVEL         what requests may do: view, add (the default) or edit\n  --workers=N           N requests at once, 1 to 16; else 4\n  --connections=N       each worker ends after N connections\n"
+serve_help = codes "nibcactus serve: a store over HTTP, to several people\n\nnibcactus serve STORE [OPTIONS]\n\nOptions\n  --host=HOST           the address of this machine; else 127.0.0.1\n  --port=PORT           the port; else 5000\n  --allow=LEVEL         what requests may do: view, add (the default) or edit\n  --workers=N           N requests at once, 1 to 16; else 4\n  --connections=N       each worker ends after N connections\n  --page                a page at / that shows and edits the journal\n"
 
 unfoldable pub feed_help : List ℕ
 feed_help = codes "nibcactus feed: the records of a store, as frames\n\nnibcactus feed STORE\n"
