@@ -14,6 +14,7 @@ use desk_team::House;
 use hl_base::{Memory, Shelf, Sink, Source, Steps, Text};
 use hl_time::Day;
 use local_day::Zone;
+use page_text::built_page;
 use query::{Maker, RegexMaker};
 use real_files::FileShelf;
 use serve_line::{Site, run_program};
@@ -28,6 +29,7 @@ use std::sync::Wait;
 use std::sync::ledger::{Blank, Ledger};
 use std::thread::Threads;
 use std::{env, io};
+use web_messages::page::Page;
 
 /// Why there are no words, or no zone.
 #[derive(Clone, Copy)]
@@ -69,7 +71,7 @@ pub fn run_process<
     E: Write + Drop,
 >(rt: &R, input: I, output: O, errors: E) -> ExitCode {
     match begin(rt) {
-        Ok((words, zone)) => {
+        Ok((words, zone, page)) => {
             let mut site = Site {
                 outside: Outside {
                     streams: Streams {
@@ -81,6 +83,7 @@ pub fn run_process<
                     maker: RegexMaker::new(),
                 },
                 house: SocketHouse::new(rt, &zone, !limits_connections(words.as_slice())),
+                page,
             };
             let Status(status) = counted::<Brand, _, _, _, _, _, _, _>(
                 rt,
@@ -99,11 +102,12 @@ pub fn run_process<
     }
 }
 
-/// The words after the program's name, and the zone in which its days are.
-fn begin<R: Env + Files + AllocGlobal>(rt: &R) -> Result<(Vec<Text>, Zone), NoWords> {
+/// The words after the program's name, the zone in which its days are, and the page that it may show.
+fn begin<R: Env + Files + AllocGlobal>(rt: &R) -> Result<(Vec<Text>, Zone, Page), NoWords> {
     let words = words(rt)?;
     let zone = local_zone(rt)?;
-    Ok((words, zone))
+    let page = page_for(rt.alloc(), words.as_slice())?;
+    Ok((words, zone, page))
 }
 
 /// The words after the program's name.
@@ -115,6 +119,22 @@ fn words<R: Env + AllocGlobal>(rt: &R) -> Result<Vec<Text>, NoWords> {
         }
     }
     Ok(words)
+}
+
+/// The page that may be shown: the program's, where a word asks for it.
+fn page_for(alloc: Global, words: &[Text]) -> Result<Page, Memory> {
+    if asks_page(words) {
+        built_page(alloc)
+    } else {
+        Ok(Page::Absent)
+    }
+}
+
+/// Whether a word asks for the page.
+fn asks_page(words: &[Text]) -> bool {
+    words
+        .iter()
+        .any(|word| word.as_bytes() == b"--page".as_slice())
 }
 
 /// Whether the words limit the connections that each worker serves.
