@@ -14,7 +14,7 @@ use query_terms::cutting::{bytes_of, text_of};
 use std::alloc::Global;
 
 /// What stands before the amounts of a file.
-pub(crate) fn context_of(alloc: Global, mark: Option<u8>) -> Result<Context, Memory>
+pub fn context_of(alloc: Global, mark: Option<u8>) -> Result<Context, Memory>
     ensures { IfOk result (λ context. context ≡ spec.context mark) }
 {
     let mut context = Context::start(alloc, None)?;
@@ -117,11 +117,7 @@ fn plain_amount(alloc: Global, context: &Context, text: &[u8]) -> Result<Option<
 }
 
 /// The amount that a text writes; in round brackets it is negated.
-pub(crate) fn amount_of(
-    alloc: Global,
-    context: &Context,
-    text: &Text,
-) -> Result<Option<Amount>, Memory>
+pub fn amount_of(alloc: Global, context: &Context, text: &Text) -> Result<Option<Amount>, Memory>
     ensures { IfOk result (λ amount. amount ≡ spec.amount_of context.now text.now) }
 {
     let bytes = bytes_of(text.as_str());
@@ -176,11 +172,7 @@ fn marked(shape: Written) -> Written
 }
 
 /// An amount with the currency that is given; none where the amount has a symbol, and where the currency is none.
-pub(crate) fn in_currency(
-    alloc: Global,
-    currency: &Text,
-    amount: Amount,
-) -> Result<Option<Amount>, Memory>
+pub fn in_currency(alloc: Global, currency: &Text, amount: Amount) -> Result<Option<Amount>, Memory>
     ensures { IfOk result (λ found. found ≡ spec.in_currency currency.now amount) }
 {
     let currency = bytes_of(currency.as_str());

@@ -15,10 +15,10 @@ use std::alloc::Global;
 /// A record: the names of columns, its columns without white space at their ends, and these between
 /// commas.
 #[derive(Clone, Copy)]
-pub(crate) struct Row<'a> {
-    pub(crate) names: &'a [Text],
-    pub(crate) columns: &'a [Text],
-    pub(crate) whole: &'a str,
+pub struct Row<'a> {
+    pub names: &'a [Text],
+    pub columns: &'a [Text],
+    pub whole: &'a str,
 }
 
 /// What a pattern looks at.
@@ -119,7 +119,7 @@ fn push_if<'a>(found: &mut Vec<&'a Block>, block: &'a Block, applies: bool) -> R
 
 /// The blocks that apply to a record.
 #[tactic(auto, using(crate::proofs::Lent::one_more, crate::proofs::Lent::all_done))]
-pub(crate) fn applying<'a>(
+pub fn applying<'a>(
     alloc: Global,
     blocks: &'a [Block],
     row: Row,
@@ -294,7 +294,7 @@ fn text_for(
 }
 
 /// The texts of all fields of a record.
-pub(crate) fn read_fields(
+pub fn read_fields(
     alloc: Global,
     sheet: &Sheet,
     columns: &[Text],

@@ -244,7 +244,7 @@ fn is_same(a: &[u8], b: &[u8]) -> bool
 }
 
 /// The mark that a status is: `*`, `!` or nothing.
-fn mark_of(text: &[u8]) -> Option<Mark>
+pub fn mark_of(text: &[u8]) -> Option<Mark>
     ensures { result ≡ status_of text.now }
 {
     if is_same(text, b"*") {
@@ -365,7 +365,7 @@ fn judge_read(alloc: Global, n: u64, sheet: &Sheet, fields: Fields) -> Result<Tx
 
 /// The columns of a record between commas.
 #[tactic(auto, using(crate::proofs::Joined::starts, crate::proofs::Joined::one_more, crate::proofs::Joined::all_done))]
-fn joined(alloc: Global, columns: &[Text]) -> Result<String, Memory>
+pub fn joined(alloc: Global, columns: &[Text]) -> Result<String, Memory>
     ensures { IfOk result (λ whole. string_bytes whole ≡ join_with_byte 44 columns.now) }
 {
     let mut whole = String::new(alloc);

@@ -1,16 +1,16 @@
 //! Bank files become entries by rules.
 #![tactic(auto)]
 
-mod amounts;
-mod blocks;
+pub mod amounts;
+pub mod blocks;
 mod conversion;
 mod dates;
 mod faults;
-mod fields;
-mod judging;
+pub mod fields;
+pub mod judging;
 mod ordering;
-mod records;
-mod skipping;
+pub mod records;
+pub mod skipping;
 mod spaces;
 mod values;
 

@@ -13,11 +13,7 @@ use hl_base::{Memory, Text};
 use std::alloc::Global;
 
 /// The records of a text. A read of a text that is at hand fails for want of memory alone.
-pub(crate) fn read_rows(
-    alloc: Global,
-    separator: u8,
-    text: &[u8],
-) -> Result<Vec<ByteRecord>, Memory>
+pub fn read_rows(alloc: Global, separator: u8, text: &[u8]) -> Result<Vec<ByteRecord>, Memory>
     ensures { IfOk result (λ rows. map fields_of rows.items ≡ spec.rows_of separator text.now) }
 {
     let reader = ReaderBuilder::new()
@@ -55,7 +51,7 @@ pub(crate) fn is_text(row: &ByteRecord) -> bool
 
 /// The columns of a record without white space and line ends at their ends, where all of them are UTF-8.
 #[tactic(auto, using(crate::proofs::RowTexts::next_column, crate::proofs::RowTexts::no_column, crate::proofs::RowTexts::one_text, crate::proofs::RowTexts::there))]
-pub(crate) fn read_columns(alloc: Global, row: &ByteRecord) -> Result<Option<Vec<Text>>, Memory>
+pub fn read_columns(alloc: Global, row: &ByteRecord) -> Result<Option<Vec<Text>>, Memory>
     ensures { IfOk result (λ columns. option_map (λ v. v.items) columns
         ≡ columns_of (fields_of row.now)) }
 {

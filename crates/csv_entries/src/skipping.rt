@@ -18,7 +18,7 @@ fn left_behind(line: &[u8], left: u64) -> u64
 
 /// The text behind the first so many lines that aren't blank.
 #[tactic(auto, using(crate::proofs::CutOff::passed_one, crate::proofs::CutOff::all_passed, crate::proofs::CutOff::none_left))]
-pub(crate) fn text_after(text: &[u8], count: u64) -> &[u8]
+pub fn text_after(text: &[u8], count: u64) -> &[u8]
     ensures { result.now ≡ spec.text_after count text.now }
 {
     let mut rest = text;
