@@ -1,0 +1,5 @@
+mod Applied
+mod Filtered
+mod Folded
+mod Placing
+mod Rows
