@@ -23,7 +23,7 @@ const MOST_FIELDS: usize = 64;
 pub struct Head {
     /// How many bytes the head has.
     pub length: usize,
-    /// Where its method and its path lead, unless a page of another site posts it.
+    /// Where its method and its path lead; a POST from another site leads to a refusal.
     pub route: Route,
     /// The query of its target.
     pub query: Bytes,

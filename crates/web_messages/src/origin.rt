@@ -3,19 +3,12 @@ ghost use Rattle.std.specs.Prelude.{◌≡◌, IfOk, map, length, All};
 ghost use Rattle.std.specs.List.{list_any};
 ghost use Rattle.httparse.specs.Spans.{header_bytes, IsHeaderWithin};
 ghost use Rattle.web_messages.specs.Fields.{is_word, values_of};
-ghost use Rattle.web_messages.specs.Origins.{host, origin, sec_fetch_site, cross_site, is_alike, after_scheme, has_host, has_host_of, is_same_origin, is_cross_origin};
+ghost use Rattle.web_messages.specs.Origins.{host, origin, sec_fetch_site, cross_site, after_scheme, has_host, has_host_of, is_same_origin, is_cross_origin};
 
 use crate::fields::{is_same_word, values};
 use hl_base::Memory;
 use httparse::spans::HeaderSpan;
 use std::alloc::Global;
-
-/// Whether two texts are the same but for the case of their letters.
-fn is_alike(text: &[u8], other: &[u8]) -> bool
-    ensures { result ≡ is_alike text.now other.now }
-{
-    text.eq_ignore_ascii_case(other)
-}
 
 /// What follows the scheme and the colon of an origin.
 fn after_scheme(value: &[u8]) -> &[u8]
@@ -28,15 +21,15 @@ fn after_scheme(value: &[u8]) -> &[u8]
 }
 
 /// Whether an origin has this host and port.
-fn has_host(name: &[u8], value: &[u8]) -> bool
-    ensures { result ≡ has_host name.now value.now }
+fn has_host(site: &[u8], value: &[u8]) -> bool
+    ensures { result ≡ has_host site.now value.now }
 {
     let rest = after_scheme(value);
     if rest.len() < 2 {
         return false;
     }
-    let (slashes, site) = rest.split_at(2);
-    is_alike(slashes, b"//") && is_alike(site, name)
+    let (slashes, named) = rest.split_at(2);
+    slashes.eq_ignore_ascii_case(b"//") && named.eq_ignore_ascii_case(site)
 }
 
 /// Whether an origin has the host and port of the one field Host.
@@ -44,7 +37,7 @@ fn has_host_of(hosts: &[&[u8]], value: &[u8]) -> bool
     ensures { result ≡ has_host_of (map (λ v. v.now) hosts.now) value.now }
 {
     match hosts {
-        [name] => has_host(name, value),
+        [site] => has_host(site, value),
         _ => false,
     }
 }

@@ -13,7 +13,7 @@ pub enum Refusal {
     GetOnly,
     /// The path has the method POST alone.
     PostOnly,
-    /// A page of another site posts it.
+    /// A POST from a page of another site.
     Origin,
     /// A head past a limit.
     Head,
