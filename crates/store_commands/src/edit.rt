@@ -80,25 +80,31 @@ pub struct Replacement {
     pub day: Day,
 }
 
-/// Replaces the text of the store, whose second file has the other name.
+/// The names of a store's two files.
+#[derive(Clone, Copy)]
+struct Names<'a> {
+    first: &'a Text,
+    second: &'a Text,
+}
+
+/// Replaces the text of the store whose files have these names.
 fn replace_beside<S: Shelf, M: Maker, L: Ledger>(
     alloc: Global,
-    store: &Text,
+    names: &Names,
     what: Replacement,
-    beside: &Text,
     shelf: &mut S,
     maker: &mut M,
     steps: &mut Steps<L>,
 ) -> Result<Reply, JournalRefusal>
     requires day { IsDay what.day.0 }
-    requires name { beside.now ≡ second_name_of store.now }
-    ensures { ReplacesStore S.Shelf S.Disk.Disk store.now what.text what.base what.day
+    requires name { names.now.second.now ≡ second_name_of names.now.first.now }
+    ensures { ReplacesStore S.Shelf S.Disk.Disk names.now.first.now what.text what.base what.day
         (told_by M.Maker maker.old maker.new) shelf.old shelf.new result }
 {
-    match take_disks(alloc, shelf, store, beside, false) {
+    match take_disks(alloc, shelf, names.first, names.second, false) {
         Ok((first, second)) => {
             let (first, second, asked) = replace_in_disks(alloc, first, second, what, maker, steps);
-            give_back_disks(shelf, store, beside, first, second);
+            give_back_disks(shelf, names.first, names.second, first, second);
             asked
         }
         Err(refusal) => Err(of_store(refusal)),
@@ -122,5 +128,9 @@ pub fn replace_store<S: Shelf, M: Maker, L: Ledger>(
     let Ok(beside) = second_name(alloc, store) else {
         return Err(JournalRefusal::Memory);
     };
-    replace_beside(alloc, store, what, &beside, shelf, maker, steps)
+    let names = Names {
+        first: store,
+        second: &beside,
+    };
+    replace_beside(alloc, &names, what, shelf, maker, steps)
 }

@@ -194,11 +194,17 @@ fn of_copy(refusal: JournalRefusal) -> JournalRefusal
     }
 }
 
+/// The bytes of a store's two files.
+#[derive(Clone, Copy)]
+struct Files<'a> {
+    first: &'a [u8],
+    second: &'a [u8],
+}
+
 /// Asks a machine on copies of a store's files for an edit.
 fn ask_copies<D: Disk + Drop, M: Maker, L: Ledger>(
     alloc: Global,
-    first: &[u8],
-    second: &[u8],
+    files: &Files,
     copies: (D, D),
     edit: &StoreEdit,
     maker: &mut M,
@@ -206,16 +212,16 @@ fn ask_copies<D: Disk + Drop, M: Maker, L: Ledger>(
 ) -> Result<Preview, JournalRefusal>
     requires day { IsDay edit.now.day.0 }
     requires edit { IsEdit edit.now.request }
-    requires first { D.seen copies.0 ≡ Some first.now }
-    requires second { D.seen copies.1 ≡ Some second.now }
+    requires first { D.seen copies.0 ≡ Some files.now.first.now }
+    requires second { D.seen copies.1 ≡ Some files.now.second.now }
     requires clean { (D.failures copies.0 ≡ 0) × (D.failures copies.1 ≡ 0) }
-    ensures { spec.Previews first.now second.now edit.now.request edit.now.day.0
+    ensures { spec.Previews files.now.first.now files.now.second.now edit.now.request edit.now.day.0
         (told_by M.Maker maker.old maker.new) result }
 {
     let (one, other) = copies;
     let (one, other, asked) = ask_disks(alloc, one, other, edit, maker, steps);
     match asked {
-        Ok(reply) => preview_of_reply(alloc, first, second, one, other, reply),
+        Ok(reply) => preview_of_reply(alloc, files.first, files.second, one, other, reply),
         Err(refusal) => Err(of_copy(refusal)),
     }
 }
@@ -235,8 +241,9 @@ pub fn preview_edit<M: Maker, L: Ledger>(
     ensures { spec.Previews first.now second.now edit.now.request edit.now.day.0
         (told_by M.Maker maker.old maker.new) result }
 {
+    let files = Files { first, second };
     match copies_of(alloc, first, second) {
-        Ok(copies) => ask_copies(alloc, first, second, copies, edit, maker, steps),
+        Ok(copies) => ask_copies(alloc, &files, copies, edit, maker, steps),
         Err(_) => Err(JournalRefusal::Memory),
     }
 }

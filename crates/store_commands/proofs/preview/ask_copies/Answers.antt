@@ -17,7 +17,7 @@ returns-in-Ok g c =
     let p = told_by g.M.Maker c.args.maker.now d.new.maker in
     let asks = subst (λ (x : Result Reply JournalRefusal).
     AsksDisks g.D.Disk c.args.copies (d.result.0, d.result.1) edit.request edit.day p x) c.in-Ok.is d.ensures in
-    previews_told g.D.Disk c.args.copies c.args.first.now c.args.second.now c.requires.first c.requires.second edit.request edit.day
+    previews_told g.D.Disk c.args.copies c.args.files.now.first.now c.args.files.now.second.now c.requires.first c.requires.second edit.request edit.day
     p c.requires.edit c.in-Ok.reply (d.result.0, d.result.1) c.preview_of_reply.result
     (omega (arith, c.requires.clean.0, c.requires.clean.1)) asks c.preview_of_reply.ensures.says c.preview_of_reply.ensures.memory
 
@@ -28,6 +28,6 @@ returns-in-Err g c =
     let p = told_by g.M.Maker c.args.maker.now d.new.maker in
     let asks = subst (λ (x : Result Reply JournalRefusal).
     AsksDisks g.D.Disk c.args.copies (d.result.0, d.result.1) edit.request edit.day p x) c.in-Err.is d.ensures in
-    subst (λ (e : JournalRefusal). Previews c.args.first.now c.args.second.now edit.request edit.day.0 p (unmade e)) (sym c.of_copy.ensures)
-    (previews_unopened g.D.Disk c.args.copies c.args.first.now c.args.second.now c.requires.first c.requires.second edit.request edit.day
+    subst (λ (e : JournalRefusal). Previews c.args.files.now.first.now c.args.files.now.second.now edit.request edit.day.0 p (unmade e)) (sym c.of_copy.ensures)
+    (previews_unopened g.D.Disk c.args.copies c.args.files.now.first.now c.args.files.now.second.now c.requires.first c.requires.second edit.request edit.day
     p c.requires.edit c.in-Err.refusal (d.result.0, d.result.1) asks)
