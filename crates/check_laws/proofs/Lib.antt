@@ -1,0 +1,10 @@
+mod Around
+mod Causes
+mod Failing
+mod Firsts
+mod Makes
+mod Orders
+mod Ranges
+mod Rows
+mod Solving
+mod Whole
