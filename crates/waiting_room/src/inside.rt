@@ -3,7 +3,7 @@ use crate::accepting::{Accepted, PAUSE, accept_once};
 use crate::closing::first_to_close;
 use crate::connection::{Connection, Turn};
 use crate::deadlines::{Moment, Phase};
-use crate::limits::{MOST_BODIES, MOST_BYTES, MOST_HEADS};
+use crate::limits::{MOST_BODIES, MOST_HEADS, MOST_REPLIES};
 use crate::poller::Poller;
 use mio::unix::SourceFd;
 use mio::{Interest, Registry, Token};
@@ -426,7 +426,7 @@ impl Inside {
     /// Counts more bytes of a reply, where so many may wait.
     pub(crate) fn reserve(&mut self, count: usize) -> bool {
         let bytes = self.bytes.saturating_add(count);
-        if bytes > MOST_BYTES {
+        if bytes > MOST_REPLIES {
             return false;
         }
         self.bytes = bytes;

@@ -11,15 +11,16 @@ const OTHER_HANDLES: usize = 32;
 /// The handles of a process whose limit can't be read.
 const USUAL_HANDLES: u64 = 1024;
 
-/// The most bytes that wait in the room.
-pub(crate) const MOST_BYTES: usize = 67_108_864;
-
 /// How many bytes wait in the room before a connection is closed that sends a head. A turn of a connection receives 1 MiB at most,
-/// so that this and `MOST_BODIES` leave room for it.
+/// so that less than 64 MiB wait.
 pub(crate) const MOST_HEADS: usize = 58_720_256;
 
 /// How many bytes wait in the room before no more of a body is received into it.
 pub(crate) const MOST_BODIES: usize = 50_331_648;
+
+/// The most bytes that wait in the room with those of one more reply. Heads have the rest of the room, so that peers that don't
+/// take their replies don't keep others from being answered.
+pub(crate) const MOST_REPLIES: usize = 50_331_648;
 
 /// The most connections that the process's handles allow.
 pub(crate) fn most_connections() -> usize {
