@@ -1,0 +1,8 @@
+//! Replicas of a store whose records go on: whatever it fed, and when, a replica has the text after some of its accepted edits.
+#![tactic(auto)]
+
+mod laws;
+
+pub use laws::{
+    crashes_leave_either, fed_sources_lead_on, feeds_are_genuine, replicas_begin, replicas_go_on,
+};
