@@ -1,5 +1,5 @@
 -- Frames of any feeds of a store's life are those of one history.
-use Rattle.std.proofs.Common.{◌≡◌, ◌∙◌, ◌⊎◌, inl, inr, ℕ, zero, suc, ◌+◌, ◌^◌, ◌<◌, ◌≤◌, List, [], ◌∷◌, ◌++◌, length, Option, Some, Result, refl, sym, ap, subst, arith, append_assoc}
+use Rattle.std.proofs.Common.{◌≡◌, ◌∙◌, ◌⊎◌, inl, inr, ℕ, zero, suc, ◌^◌, ◌<◌, ◌≤◌, List, [], ◌∷◌, ◌++◌, length, Some, Result, refl, sym, ap, subst, arith, append_assoc}
 use Rattle.std.proofs.lemmas.List.{append-nil}
 use Rattle.text_store.specs.declared.change.Change.{Change}
 use Rattle.text_store.specs.declared.image.Image.{Image}
@@ -11,9 +11,8 @@ use Rattle.follower.specs.Histories.{AreGenuine, IsAfter, IsGenuine, IsRecord, I
 use Rattle.follower.specs.Images.{snapshot}
 use Rattle.follower.proofs.Following.{begins, never_falls}
 use Rattle.follow_commands.specs.Genuine.{AreOfOne, HasFrames, LeadsOn}
-use Rattle.follow_commands.specs.Whole.{AreRecords, IsNextRecord}
 use Rattle.follow_commands.proofs.CatchingUp.{first_genuine, records_count, records_genuine}
-use Rattle.replica_laws.specs.Lives.{AreFed, AreMade, AreStepsFed, Becomes, Event, GoesOn, HasFedFrames, IsFed, IsFeed, IsOfPrefix, LeadOver, Lives, Records, accepted, accepted_in, anew, changes_in, left, with_change, written_anew}
+use Rattle.replica_laws.specs.Lives.{AreFed, AreMade, AreStepsFed, Event, GoesOn, HasFedFrames, IsFed, IsFeed, IsOfPrefix, LeadOver, Lives, Records, accepted, accepted_in, anew, changes_in, left, with_change, written_anew}
 
 -- ---- changes before and behind others
 

@@ -1,2 +1,3 @@
 pub mod Fed
+pub mod Kept
 pub mod Left

@@ -1,11 +1,9 @@
 -- The life of a store's records: what becomes of them, what they feed, and what a replica has of that.
-use Rattle.std.specs.Prelude.{◌≡◌, ◌⊎◌, ℕ, ◌+◌, ◌^◌, ◌<◌, ◌≤◌, List, [], ◌∷◌, ◌++◌, length, Option, Some, Result}
+use Rattle.std.specs.Prelude.{◌≡◌, ℕ, ◌+◌, ◌^◌, ◌≤◌, List, [], ◌∷◌, ◌++◌, length, Some, Result}
 use Rattle.text_store.specs.declared.change.Change.{Change}
 use Rattle.text_store.specs.declared.image.Image.{Image}
-use Rattle.text_store.specs.Changes.{AreStates, HasShortName, IsChange, payload_of}
 use Rattle.text_store.specs.Edits.{edited}
 use Rattle.text_store.specs.Entries.{Entry}
-use Rattle.text_store.specs.Files.{IsWritable, whole_payload}
 use Rattle.text_store.specs.Frames.{base_of}
 use Rattle.follower.specs.declared.fault.Accepted.{Accepted}
 use Rattle.follower.specs.declared.fault.FollowFault.{FollowFault}

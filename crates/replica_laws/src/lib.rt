@@ -2,7 +2,9 @@
 #![tactic(auto)]
 
 mod laws;
+mod stores;
 
 pub use laws::{
     crashes_leave_either, fed_sources_lead_on, feeds_are_genuine, replicas_begin, replicas_go_on,
 };
+pub use stores::{append_change, feed_records, write_anew};
