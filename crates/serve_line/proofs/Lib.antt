@@ -1,5 +1,7 @@
 mod Clapping
 mod Digits
 mod Lending
+mod ReplyRuns
+mod ReportTasks
 mod ServeEnds
 mod Statuses

@@ -1,2 +1,3 @@
+pub mod RunReplies
 pub mod Runs
 pub mod Words

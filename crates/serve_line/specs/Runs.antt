@@ -35,6 +35,7 @@ use Rattle.command_line.specs.Scenes.{scene, soundness}
 use Rattle.command_line.specs.Tasks.{Stores}
 use Rattle.command_line.specs.declared.outside.Outside.{Outside}
 use Rattle.web_messages.specs.declared.page.Page.{Page}
+use Rattle.serve_line.specs.RunReplies.{RepliesAsRuns}
 use Rattle.serve_line.specs.declared.program.Site.{Site}
 use Rattle.serve_line.specs.declared.words.NoReading.{NoReading}
 use Rattle.serve_line.specs.declared.words.NoReading.TheVariants as no_reading
@@ -98,10 +99,12 @@ pub record NoneFailed (old new : Sinks) : Type 0 where
 -- ---- what is answered
 
 module _ {D : Type 0} {g : Disks D} where
-  -- A report is answered byte for byte as a fresh run of its words over the text there, which makes a journal.
+  -- A report is answered byte for byte as a fresh run of its words over the text there, which makes a journal: by the definition of what a
+  -- report is, and as each run of the program with these words writes it.
   abbrev pub AnswersReport : Desk D g → List (Entered Entry) → Entry → Type 0
   AnswersReport opening earlier entry = (words : List (List ℕ)) → entry.request ≡ request.Report words
       → (before : Desk D g) × IsLegal opening earlier before × Loads (state_of before) × IsFreshRun (state_of before) entry.day.0 words entry.reply
+      × RepliesAsRuns (state_of before) entry.day.0 words entry.reply
 
   -- Each request of a history is answered by the machine as those before it left it: a report as a fresh run, and a good edit by a
   -- fresh load of its text.
