@@ -117,6 +117,8 @@ answer_alike name s day (request.Change base item entry) h = plain_alike name s 
 answer_alike name s day (request.Replace base text) h = plain_alike name s (edits.Replace base text) (first_of (refusals s allow.Edit (plain (edits.Replace base text))))
 answer_alike name s day (request.Import other rules csv) h =
     file_alike name other s (map refused_line (pattern_lines rules)) (forbidden s.allowed allow.Add) (entries_of rules csv) (differ_by (bytes_eq other name) h)
+answer_alike name s day (request.Check entry) h = itself name s
+answer_alike name s day (request.Preview other rules csv) h = itself name s
 
 stays_alike : (name : List ℕ) (s : State) (d : Option Deed) (new : State) → Stays s d new → Alike name s new
 stays_alike name s d new (inl is) = alike_is name s s new is (itself name s)

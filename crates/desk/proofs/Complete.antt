@@ -51,6 +51,10 @@ others_rose (request.Replace base text) day before now last_before last_now s r 
     absurd (no_others s (plain (edits.Replace base text)) (first_of (refusals s allow.Edit (plain (edits.Replace base text)))) r among)
 others_rose (request.Import name rules csv) day before now last_before last_now s r among tells =
     import_rose (request.Import name rules csv) day before now last_before last_now s (forbidden s.allowed allow.Add) (pattern_lines rules) (file_answer s name (entries_of rules csv)) r among tells
+others_rose (request.Check entry) day before now last_before last_now s r among tells =
+    absurd (no_others s (plain (edits.Add entry)) (first_of (refusals s allow.Add (plain (edits.Add entry)))) r among)
+others_rose (request.Preview name rules csv) day before now last_before last_now s r among tells =
+    import_rose (request.Preview name rules csv) day before now last_before last_now s (forbidden s.allowed allow.Add) (pattern_lines rules) (file_answer s name (entries_of rules csv)) r among tells
 
 -- where no count rose the reply is the answer's own, or memory ran out
 pub completes : (q : Request) (day before now : ℕ) (last_before last_now : Option (List ℕ)) (s : State) (d : Option Deed) (faults : ℕ) (r : Reply) (new : State) (faults_now : ℕ)

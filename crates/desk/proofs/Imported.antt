@@ -1,8 +1,10 @@
 -- How a machine serves an import, by what became of its file.
-use Rattle.std.proofs.Common.{◌≡◌, inl, inr, ℕ, false, List, [], ◌∷◌, map, Option, Some, None, Result, Ok, refl, ap, sym, subst, ◌∙◌}
+use Rattle.std.proofs.Common.{◌≡◌, inl, inr, ℕ, false, List, [], ◌∷◌, map, Option, Some, None, Result, Ok, Err, refl, ap, sym, subst, ◌∙◌}
+use Rattle.std.specs.Prelude.{IfErr}
 use Rattle.hl_base.specs.declared.disk.Disk.{Ghosts}
 use Rattle.book.specs.declared.transaction.Txn.{Txn}
 use Rattle.query.specs.Building.{IsOneOf}
+use Rattle.query_terms.specs.Making.{Stays as MakerStays}
 use Rattle.desk.specs.declared.csv_fault.CsvFault.{CsvFault}
 use Rattle.desk.specs.declared.deed.Deed.{Deed}
 use Rattle.desk.specs.declared.desk.Desk.{Desk}
@@ -12,13 +14,12 @@ use Rattle.desk.specs.declared.request.Request.TheVariants as request
 use Rattle.desk.specs.declared.reply.Reply.{Reply}
 use Rattle.desk.specs.declared.reply.Reply.TheVariants as reply
 use Rattle.desk.specs.Desks.{Serves, state_of}
-use Rattle.desk.specs.Files.{TellsUnmade, Unmade}
+use Rattle.desk.specs.DryRuns.{IsRefusal}
+use Rattle.desk.specs.Files.{IsDeedOf, TellsDeed, TellsUnmade, Unmade}
 use Rattle.desk.specs.Imports.{entries_of, new_deed, pattern_lines}
 use Rattle.desk.specs.States.{Answer, State, deed_answer, deed_of_file, file_answer, forbidden, import_answer, or_replies, refusals, refused_line, stays, unless_forbidden}
 use Rattle.desk.specs.Steps.{Gives, TellsReply, is_done}
 use Rattle.desk.proofs.Quiet.{no_others}
-use Rattle.desk.proofs.Served.{out_of_memory, replied}
-use Rattle.desk.proofs.Still.{still}
 use Rattle.live_journal.specs.Loading.{first_of}
 
 -- a refused pattern is no edit that stands
@@ -28,7 +29,7 @@ refused_undone (line ∷ lines) r (inl is) = sym (ap is_done is)
 refused_undone (line ∷ lines) r (inr among) = refused_undone lines r among
 
 -- nothing else is replied to an import of entries
-no_more : (s : State) (d : Option Deed) (r : Reply) → IsOneOf r (deed_answer s d).others → ⊥
+pub no_more : (s : State) (d : Option Deed) (r : Reply) → IsOneOf r (deed_answer s d).others → ⊥
 no_more s None r among = among
 no_more s (Some d) r among = no_others s d (first_of (refusals s allow.Add d)) r among
 
@@ -40,43 +41,58 @@ wider others s made d old before r new after (inr (inr (inl h))) = inr (inr (inl
 wider others s made d old before r new after (inr (inr (inr h))) = absurd (no_more s made r h.0)
 
 -- the replies that a refused pattern may be given
-abbrev others_of : List ℕ → List Reply
+abbrev pub others_of : List ℕ → List Reply
 others_of rules = map refused_line (pattern_lines rules)
 
+-- ---- an import that is refused
+
 -- what an import is answered that is allowed
-allowed_answer : (name rules csv : List ℕ) (s : State) → forbidden s.allowed allow.Add ≡ None
+pub allowed_answer : (name rules csv : List ℕ) (s : State) → forbidden s.allowed allow.Add ≡ None
     → import_answer s name rules csv ≡ or_replies (others_of rules) (file_answer s name (entries_of rules csv))
 allowed_answer name rules csv s f = ap (λ (o : Option Reply). unless_forbidden s o (or_replies (others_of rules) (file_answer s name (entries_of rules csv)))) f
 
-module _ {D : Type 0} {g : Ghosts D} (name rules csv : List ℕ) where
+module _ (name rules csv : List ℕ) (s : State) where
   -- it isn't allowed
-  pub forbidden_import : (desk : Desk D g) (d : Option Deed) (r : Reply) → forbidden desk.allow allow.Add ≡ Some r → is_done r ≡ false
-      → Serves (import_answer (state_of desk) name rules csv) d desk r desk
-  forbidden_import desk d r f undone =
-      let answer = or_replies (others_of rules) (file_answer (state_of desk) name (entries_of rules csv)) in
-      subst (λ (o : Option Reply). Serves (unless_forbidden (state_of desk) o answer) d desk r desk) (sym f) (replied d desk r undone)
+  pub forbidden_import : (r : Reply) → forbidden s.allowed allow.Add ≡ Some r → is_done r ≡ false → IsRefusal s (import_answer s name rules csv) r
+  forbidden_import r f undone =
+      let answer = or_replies (others_of rules) (file_answer s name (entries_of rules csv)) in
+      subst (λ (o : Option Reply). IsRefusal s (unless_forbidden s o answer) r) (sym f) (undone, inr (inl (refl, refl)))
 
   -- its file becomes no entries
-  pub unmade : (desk : Desk D g) (d : Option Deed) (r : Reply) → forbidden desk.allow allow.Add ≡ None → Unmade rules csv r
-      → Serves (import_answer (state_of desk) name rules csv) d desk r desk
-  unmade desk d r f (inl h) =
-      subst (λ (x : Reply). Serves (import_answer (state_of desk) name rules csv) d desk x desk) (sym h) (out_of_memory (import_answer (state_of desk) name rules csv) d desk)
-  unmade desk d r f (inr (inl h)) =
-      let s = state_of desk in
+  pub unmade : (r : Reply) → forbidden s.allowed allow.Add ≡ None → Unmade rules csv r → IsRefusal s (import_answer s name rules csv) r
+  unmade r f (inl h) = (ap is_done h, inl h)
+  unmade r f (inr (inl h)) =
       let answer = allowed_answer name rules csv s f ∙ ap (λ (entries : Result (List Txn) CsvFault). or_replies (others_of rules) (file_answer s name entries)) h.1 in
-      let served = still (or_replies (others_of rules) (stays s (reply.Csv h.0))) d desk (reply.Csv h.0) (inl (refl, refl, refl)) refl in
-      subst (λ (x : Reply). Serves (import_answer s name rules csv) d desk x desk) (sym h.2)
-      (subst (λ (a : Answer). Serves a d desk (reply.Csv h.0) desk) (sym answer) served)
-  unmade desk d r f (inr (inr among)) =
-      let s = state_of desk in
-      let served = still (or_replies (others_of rules) (file_answer s name (entries_of rules csv))) d desk r (inr (inr (inr (among, refl, refl)))) (refused_undone (pattern_lines rules) r among) in
-      subst (λ (a : Answer). Serves a d desk r desk) (sym (allowed_answer name rules csv s f)) served
+      let refused : IsRefusal s (or_replies (others_of rules) (stays s (reply.Csv h.0))) (reply.Csv h.0) = (refl, inr (inl (refl, refl))) in
+      subst (λ (x : Reply). IsRefusal s (import_answer s name rules csv) x) (sym h.2)
+      (subst (λ (a : Answer). IsRefusal s a (reply.Csv h.0)) (sym answer) refused)
+  unmade r f (inr (inr among)) =
+      let refused : IsRefusal s (or_replies (others_of rules) (file_answer s name (entries_of rules csv))) r = (refused_undone (pattern_lines rules) r among, inr (inr among)) in
+      subst (λ (a : Answer). IsRefusal s a r) (sym (allowed_answer name rules csv s f)) refused
 
+-- memory ran out before it is known what it puts in
+pub out_of_room : (s : State) (answer : Answer) (made : Result (Option Deed) Reply) → IfErr made (λ r. r ≡ reply.Memory) → IfErr made (IsRefusal s answer)
+out_of_room s answer (Ok deed) h = tt
+out_of_room s answer (Err r) h = (ap is_done h, inl h)
+
+pub tells_room : (q : Request) (day before now : ℕ) (last_before last_now : Option (List ℕ)) (made : Result (Option Deed) Reply)
+    → MakerStays before now last_before last_now → IfErr made (λ r. r ≡ reply.Memory) → TellsDeed q day before now last_before last_now made
+tells_room q day before now last_before last_now (Ok deed) stays h = stays
+tells_room q day before now last_before last_now (Err r) stays h =
+    subst (λ (x : Reply). TellsReply q day before now last_before last_now x) (sym h) stays
+
+-- ---- an import that puts in entries
+
+-- what it puts in
+pub file_deed : (s : State) (name : List ℕ) (entries : Result (List Txn) CsvFault) (deed : Option Deed) → IsDeedOf s name entries deed → deed_of_file s name entries ≡ deed
+file_deed s name entries deed h = ap (λ (x : Result (List Txn) CsvFault). deed_of_file s name x) h.made ∙ sym h.is
+
+module _ {D : Type 0} {g : Ghosts D} (name rules csv : List ℕ) where
   -- its entries are put in
-  pub put_in : (old new : Desk D g) (txns : List Txn) (r : Reply) → forbidden old.allow allow.Add ≡ None → entries_of rules csv ≡ Ok txns
+  entries_in : (old new : Desk D g) (txns : List Txn) (r : Reply) → forbidden old.allow allow.Add ≡ None → entries_of rules csv ≡ Ok txns
       → Serves (deed_answer (state_of old) (new_deed old.live.text old.latest name txns)) (new_deed old.live.text old.latest name txns) old r new
       → Serves (import_answer (state_of old) name rules csv) (deed_of_file (state_of old) name (entries_of rules csv)) old r new
-  put_in old new txns r f made h =
+  entries_in old new txns r f made h =
       let s = state_of old in
       let d = new_deed old.live.text old.latest name txns in
       let served : Serves (or_replies (others_of rules) (deed_answer s d)) d old r new = record {
@@ -88,6 +104,11 @@ module _ {D : Type 0} {g : Ghosts D} (name rules csv : List ℕ) where
       } in
       subst (λ (a : Answer). Serves a (deed_of_file s name (entries_of rules csv)) old r new) (sym (allowed_answer name rules csv s f))
       (subst (λ (entries : Result (List Txn) CsvFault). Serves (or_replies (others_of rules) (file_answer s name entries)) (deed_of_file s name entries) old r new) (sym made) served)
+
+  pub put_in : (old new : Desk D g) (deed : Option Deed) (r : Reply) → IsDeedOf (state_of old) name (entries_of rules csv) deed → Serves (deed_answer (state_of old) deed) deed old r new
+      → Serves (import_answer (state_of old) name rules csv) (deed_of_file (state_of old) name (entries_of rules csv)) old r new
+  put_in old new deed r is h =
+      entries_in old new is.txns r is.allowed is.made (subst (λ (d : Option Deed). Serves (deed_answer (state_of old) d) d old r new) is.is h)
 
 module _ (name rules csv : List ℕ) (day before now : ℕ) (last_before last_now : Option (List ℕ)) where
   told_line : (lines : List ℕ) (r : Reply) → IsOneOf r (map refused_line lines) → TellsUnmade rules before now last_before last_now r

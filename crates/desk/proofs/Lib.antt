@@ -3,11 +3,14 @@ mod Again
 mod Complete
 mod Converted
 mod Done
+mod DryEdits
+pub mod DryLaws
 pub mod Edited
 mod Imported
 mod Keeping
 mod Named
 mod Opened
+mod Previewed
 pub mod Quiet
 mod ReadingLaws
 mod Refused

@@ -1,5 +1,5 @@
 -- Replies after which the maker of patterns tells what it told before.
-use Rattle.std.proofs.Common.{◌≡◌, ◌⊎◌, inl, inr, ℕ, ◌^◌, ◌-◌, Bool, true, false, if◌then◌else◌, nat_lt, List, [], ◌∷◌, length, Option, Some, None, refl, ap, ◌∙◌}
+use Rattle.std.proofs.Common.{◌≡◌, ◌⊎◌, inl, inr, ℕ, ◌+◌, ◌^◌, ◌-◌, Bool, true, false, if◌then◌else◌, nat_lt, List, [], ◌∷◌, length, Option, Some, None, refl, ap, ◌∙◌}
 use Rattle.std.specs.Str.{bytes_eq}
 use Rattle.hl_base.specs.declared.change.Latest.{Latest}
 use Rattle.query.specs.Building.{IsOneOf}
@@ -15,8 +15,10 @@ use Rattle.desk.specs.declared.request.Allow.TheVariants as allow
 use Rattle.desk.specs.declared.request.Request.{Request}
 use Rattle.desk.specs.declared.reply.Reply.{Reply}
 use Rattle.desk.specs.declared.reply.Reply.TheVariants as reply
-use Rattle.desk.specs.States.{State, change_of, covers, deed_answer, edit_answer, forbidden, is_due, journal_of, last_revision, long_name, many_states, no_room, or_done, record_size, refusals, states_with, unaccepted, unchanged}
+use Rattle.desk.specs.Previews.{revision_line}
+use Rattle.desk.specs.States.{State, change_of, check_answer, covers, deed_answer, edit_answer, forbidden, is_due, journal_of, last_revision, long_name, many_states, no_room, or_done, record_size, refusals, states_with, unaccepted, unchanged}
 use Rattle.desk.specs.Steps.{Gives, TellsReply, is_words}
+use Rattle.desk.proofs.DryLaws.{text_or}
 
 -- a reply that isn't about words or a file
 pub tells_quietly : (q : Request) (day before now : ℕ) (last_before last_now : Option (List ℕ)) (r : Reply) → is_words r ≡ false
@@ -140,3 +142,14 @@ deed_quiet s None e old before r new after (inr (inr (inr h))) = absurd h.0
 pub quiet_edit : (q : Request) (day count : ℕ) (last : Option (List ℕ)) (s : State) (need : Allow) (d : Deed) (e : Option Deed) (old : State) (before : ℕ) (r : Reply) (new : State) (after : ℕ)
     → Gives (edit_answer s need d) e old before r new after → TellsReply q day count count last last r
 quiet_edit q day count last s need d e old before r new after h = quiet q day count last r (gives_quiet s need d e old before r new after h)
+
+-- a check
+pub quiet_check : (q : Request) (day count : ℕ) (last : Option (List ℕ)) (s : State) (d : Deed) (e : Option Deed) (old : State) (before : ℕ) (r : Reply) (new : State) (after : ℕ)
+    → Gives (check_answer s d) e old before r new after → TellsReply q day count count last last r
+quiet_check q day count last s d e old before r new after (inl h) =
+    let line = revision_line (s.revision + 1) in
+    let own = done_quiet s d (first_of (refusals s allow.Add d)) (refusals_quiet s allow.Add d) in
+    quiet q day count last r (ap is_words h.0 ∙ text_or (λ (x : Reply). is_words x ≡ false) s.revision line (edit_answer s allow.Add d).reply refl own)
+quiet_check q day count last s d e old before r new after (inr (inl h)) = quiet q day count last r (ap is_words h.0)
+quiet_check q day count last s d e old before r new after (inr (inr (inl h))) = quiet q day count last r (ap is_words h.0)
+quiet_check q day count last s d e old before r new after (inr (inr (inr h))) = absurd (no_others s d (first_of (refusals s allow.Add d)) r h.0)

@@ -1,10 +1,13 @@
 -- What is counted for a request, by what it is.
-use Rattle.std.proofs.Common.{◌≡◌, inl, inr, ℕ, ◌-◌, ◌^◌, Bool, true, false, if◌then◌else◌, nat_lt, List, [], ◌∷◌, length, Option, Some, None, refl, sym, ap, subst, ◌∙◌}
+use Rattle.std.proofs.Common.{◌≡◌, inl, inr, ℕ, ◌+◌, ◌-◌, ◌^◌, Bool, true, false, if◌then◌else◌, nat_lt, List, [], ◌∷◌, length, Option, Some, None, Result, Ok, Err, refl, sym, ap, subst, ◌∙◌}
+use Rattle.std.specs.Prelude.{IfErr}
+use Rattle.std.specs.Str.{bytes_eq}
 use Rattle.std.proofs.lemmas.Bool.{false≢true}
 use Rattle.hl_base.specs.Counts.{Counts}
 use Rattle.hl_base.specs.declared.change.Latest.{Latest}
 use Rattle.live_journal.specs.Checking.{CountsEdit, CountsRefused}
-use Rattle.live_journal.specs.Journals.{Journal}
+use Rattle.live_journal.specs.Edits.{applied}
+use Rattle.live_journal.specs.Journals.{Journal, Planned}
 use Rattle.live_journal.specs.Loading.{first_of}
 use Rattle.live_journal.specs.declared.edit.Edit.{Edit}
 use Rattle.live_journal.specs.declared.fault.EditFault.{EditFault}
@@ -14,8 +17,9 @@ use Rattle.desk.specs.declared.deed.Deed.{Deed}
 use Rattle.desk.specs.declared.reply.Reply.{Reply}
 use Rattle.desk.specs.declared.reply.Reply.TheVariants as reply
 use Rattle.desk.specs.declared.request.Request.{Request}
-use Rattle.desk.specs.Reading.{CountsFault, CountsFor, CountsRequest, CountsSteps, CountsTried, is_accepted, is_planned, is_refused, is_unasked}
-use Rattle.desk.specs.States.{State, as_reply, full_cases, is_due, last_revision, long_name, many_states, no_room}
+use Rattle.desk.specs.DryRuns.{IsToldOf}
+use Rattle.desk.specs.Reading.{CountsDryRun, CountsFault, CountsFor, CountsRequest, CountsSteps, CountsTried, edit_reply, is_accepted, is_planned, is_refused, is_unasked}
+use Rattle.desk.specs.States.{State, as_reply, cases_left, change_of, full_cases, is_due, last_revision, long_name, many_states, no_room, record_size, states_with, unchanged}
 
 nothing_counted : (j : Journal) (d : Option Deed) (r : Reply) (c : Counts) → CountsFor j d r c c
 nothing_counted j None r c = tt
@@ -179,15 +183,77 @@ next_planned None rest h more = more
 next_planned (Some r) rest h more = h
 
 -- the refusals of a store without room are of an edit that the journal accepts
-pub full_planned : (s : State) (mark : Option Latest) (states : Option (List Latest)) (size : ℕ) (r : Reply) → first_of (full_cases s mark states size) ≡ Some r → is_planned r ≡ true
-full_planned s mark states size r h =
+full_are_planned : (s : State) (mark : Option Latest) (states : Option (List Latest)) (size : ℕ) → IsPlanned (first_of (full_cases s mark states size))
+full_are_planned s mark states size =
     let room = no_room s size in
     let last = last_revision s.revision in
     let name = long_name mark in
     let many = many_states states in
-    let planned : IsPlanned (first_of (full_cases s mark states size)) =
     next_planned room (last ∷ name ∷ many ∷ []) (room_planned (is_due s size) _ _ _)
     (next_planned last (name ∷ many ∷ []) (last_planned (nat_lt s.revision (2 ^ 62)) _ _)
     (next_planned name (many ∷ []) (name_planned mark)
-    (next_planned many [] (states_planned states) tt))) in
+    (next_planned many [] (states_planned states) tt)))
+
+pub full_planned : (s : State) (mark : Option Latest) (states : Option (List Latest)) (size : ℕ) (r : Reply) → first_of (full_cases s mark states size) ≡ Some r → is_planned r ≡ true
+full_planned s mark states size r h = subst (λ (o : Option Reply). IsPlanned o) h (full_are_planned s mark states size)
+
+same_planned : (same : Bool) (revision : ℕ) → IsPlanned (if same then Some (reply.Same revision) else None)
+same_planned true revision = refl
+same_planned false revision = tt
+
+-- so is what else is left to judge of it
+pub cases_planned : (s : State) (d : Deed) (r : Reply) → first_of (cases_left s d) ≡ Some r → is_planned r ≡ true
+cases_planned s d r h =
+    let full = full_cases s d.mark (states_with d.mark s.latest) (record_size (change_of s.text d)) in
+    let planned : IsPlanned (first_of (cases_left s d)) =
+    next_planned (unchanged (applied s.text d.edit) s.text s.revision) full (same_planned (bytes_eq (applied s.text d.edit) s.text) s.revision)
+    (full_are_planned s d.mark (states_with d.mark s.latest) (record_size (change_of s.text d))) in
     subst (λ (o : Option Reply). IsPlanned o) h planned
+
+-- ---- dry runs
+
+planned_edit : (r : Reply) → is_planned r ≡ true → is_planned (edit_reply r) ≡ true
+planned_edit (reply.Done next) h = h
+planned_edit (reply.Same current) h = h
+planned_edit (reply.Text now bytes) h = refl
+planned_edit (reply.Forbidden need have) h = h
+planned_edit (reply.Stale base current) h = h
+planned_edit (reply.BadBase base current) h = h
+planned_edit (reply.NoSuchItem n count) h = h
+planned_edit (reply.NotTransactions line) h = h
+planned_edit (reply.Load fault) h = h
+planned_edit (reply.TooLarge limit size) h = h
+planned_edit (reply.DiskFault before after) h = h
+planned_edit (reply.Words fault) h = h
+planned_edit (reply.Csv fault) h = h
+planned_edit (reply.Full size limit) h = h
+planned_edit reply.Memory h = h
+
+edit_fault : (fault : EditFault) → edit_reply (as_reply fault) ≡ as_reply fault
+edit_fault (refused.BadBase base current) = refl
+edit_fault (refused.Stale base current) = refl
+edit_fault (refused.NoSuchItem n count) = refl
+edit_fault (refused.NotTransactions line) = refl
+edit_fault (refused.TooLarge limit size) = refl
+edit_fault (refused.Load fault) = refl
+edit_fault refused.Memory = refl
+
+-- what is counted to plan an edit is counted for its dry run
+pub planned_dry : (j : Journal) (d : Deed) (made : Result Planned Reply) (old new : Counts) → IfErr made (λ r. is_planned r ≡ true) → CountsEdit j d.edit old new
+    → CountsDryRun j d made old new
+planned_dry j d (Ok plan) old new planned counts = counts
+planned_dry j d (Err r) old new planned counts = planned_steps j d (edit_reply r) old new (planned_edit r planned) counts
+
+pub fault_dry : (j : Journal) (d : Deed) (fault : EditFault) (r : Reply) (old new : Counts) → r ≡ as_reply fault → CountsFault j d.edit fault old new
+    → CountsSteps j (Some d) (edit_reply r) old new
+fault_dry j d fault r old new is counts = refused_steps j d fault (edit_reply r) old new (ap edit_reply is ∙ edit_fault fault) counts
+
+-- and for the reply to it
+pub told_steps : (j : Journal) (d : Deed) (revision : ℕ) (shown : Planned → List ℕ) (made : Result Planned Reply) (r : Reply) (old new : Counts)
+    → CountsDryRun j d made old new → IsToldOf revision shown made r → CountsSteps j (Some d) (edit_reply r) old new
+told_steps j d revision shown (Ok plan) r old new counts (inl h) =
+    subst (λ (x : Reply). CountsSteps j (Some d) (edit_reply x) old new) (sym h) (planned_steps j d reply.Memory old new refl counts)
+told_steps j d revision shown (Ok plan) r old new counts (inr h) =
+    subst (λ (x : Reply). CountsSteps j (Some d) (edit_reply x) old new) (sym h) (planned_steps j d (reply.Done (revision + 1)) old new refl counts)
+told_steps j d revision shown (Err x) r old new counts told =
+    subst (λ (y : Reply). CountsSteps j (Some d) (edit_reply y) old new) (sym told) counts

@@ -254,3 +254,9 @@ module _ (q : Request) (text : List ℕ) (day before now : ℕ) (last_now : Opti
 
   pub no_rule_of_import : (name rules csv : List ℕ) → q ≡ request.Import name rules csv → TellsRule q text day before now last_now r
   no_rule_of_import name rules csv is = same_rule (request.Import name rules csv) is tt
+
+  pub no_rule_of_check : (entry : List ℕ) → q ≡ request.Check entry → TellsRule q text day before now last_now r
+  no_rule_of_check entry is = same_rule (request.Check entry) is tt
+
+  pub no_rule_of_preview : (name rules csv : List ℕ) → q ≡ request.Preview name rules csv → TellsRule q text day before now last_now r
+  no_rule_of_preview name rules csv is = same_rule (request.Preview name rules csv) is tt

@@ -129,7 +129,7 @@ pub none_first : (o : Option Reply) (rest : List (Option Reply)) → first_of (o
 none_first None rest h = (refl, h)
 none_first (Some r) rest h = cc
 
-revision_below : (revision : ℕ) → last_revision revision ≡ None → revision < 2 ^ 62
+pub revision_below : (revision : ℕ) → last_revision revision ≡ None → revision < 2 ^ 62
 revision_below revision h = tested (ltb revision (2 ^ 62)) refl h
   where
     tested : (b : Bool) → ltb revision (2 ^ 62) ≡ b → (if b then None else Some (reply.Full (min (revision + 1) (2 ^ 64 - 1)) (2 ^ 62))) ≡ None → revision < 2 ^ 62

@@ -24,7 +24,7 @@ use Rattle.desk.specs.declared.reply.Reply.TheVariants as reply
 use Rattle.desk.specs.Desks.{Serves, state_of}
 use Rattle.desk.specs.Imports.{entries_of}
 use Rattle.desk.specs.Reports.{refusable_lines, refusable_words, words_over}
-use Rattle.desk.specs.States.{Answer, State, answer_to, as_reply, cases_left, change_of, covers, deed_in, deed_of_file, edit_answer, forbidden, full_cases, import_answer, is_due, journal_of, last_revision, long_name, many_states, no_room, or_done, plain, record_size, refusals, refused_pattern, refused_rule, report_answer, report_reply, Replies, states_with, stays, unaccepted, unchanged}
+use Rattle.desk.specs.States.{Answer, State, answer_to, as_reply, cases_left, change_of, check_answer, covers, deed_in, deed_of_file, edit_answer, forbidden, full_cases, import_answer, is_due, journal_of, last_revision, long_name, many_states, no_room, or_done, plain, preview_answer, record_size, refusals, refused_pattern, refused_rule, report_answer, report_reply, Replies, states_with, stays, unaccepted, unchanged}
 use Rattle.desk.specs.Steps.{is_done}
 use Rattle.desk.proofs.Still.{still}
 
@@ -108,6 +108,18 @@ unfolding answer_to
 was_import old new day q name rules csv r is h =
     subst (λ (x : Request). Serves (answer_to (state_of old) day x) (deed_in (state_of old) x) old r new) (sym is) h
 
+pub was_check : {D : Type 0} {g : Ghosts D} (old new : Desk D g) (day : ℕ) (q : Request) (entry : List ℕ) (r : Reply) → q ≡ request.Check entry
+    → Serves (check_answer (state_of old) (plain (edits.Add entry))) None old r new → Serves (answer_to (state_of old) day q) (deed_in (state_of old) q) old r new
+unfolding answer_to
+was_check old new day q entry r is h =
+    subst (λ (x : Request). Serves (answer_to (state_of old) day x) (deed_in (state_of old) x) old r new) (sym is) h
+
+pub was_preview : {D : Type 0} {g : Ghosts D} (old new : Desk D g) (day : ℕ) (q : Request) (name rules csv : List ℕ) (r : Reply) → q ≡ request.Preview name rules csv
+    → Serves (preview_answer (state_of old) name rules csv) None old r new → Serves (answer_to (state_of old) day q) (deed_in (state_of old) q) old r new
+unfolding answer_to
+was_preview old new day q name rules csv r is h =
+    subst (λ (x : Request). Serves (answer_to (state_of old) day x) (deed_in (state_of old) x) old r new) (sym is) h
+
 -- the same of a machine that is seen in the same parts
 pub reseen : {D : Type 0} {g : Ghosts D} (answer : State → Answer) (d : Option Deed) (old mid new : Desk D g) (r : Reply)
     → old.store ≡ mid.store → old.live ≡ mid.live → old.latest ≡ mid.latest → old.allow ≡ mid.allow → Serves (answer (state_of mid)) d mid r new → Serves (answer (state_of old)) d old r new
@@ -128,7 +140,7 @@ skip : (a : Option Reply) (rest : List (Option Reply)) → a ≡ None → first_
 skip None rest h = refl
 skip (Some x) rest h = cc
 
-stop : (a : Option Reply) (rest : List (Option Reply)) (r : Reply) → a ≡ Some r → first_of (a ∷ rest) ≡ Some r
+pub stop : (a : Option Reply) (rest : List (Option Reply)) (r : Reply) → a ≡ Some r → first_of (a ∷ rest) ≡ Some r
 stop None rest r h = cc
 stop (Some x) rest r h = h
 
@@ -157,7 +169,7 @@ plan_by plan given (Some x) h = cc
 pub plan_is : (j : Journal) (e : Edit) (plan : Planned) → prepared j e ≡ Ok plan → (refusal_of j e ≡ None) × (plan ≡ planned j e)
 plan_is j e plan h = plan_by plan (planned j e) (refusal_of j e) h
 
-fault_undone : (fault : EditFault) → is_done (as_reply fault) ≡ false
+pub fault_undone : (fault : EditFault) → is_done (as_reply fault) ≡ false
 fault_undone (refused.BadBase base current) = refl
 fault_undone (refused.Stale base current) = refl
 fault_undone (refused.NoSuchItem n count) = refl
@@ -276,6 +288,12 @@ same_undone false revision = tt
 accepted_undone : (o : Option EditFault) → Undone (unaccepted o)
 accepted_undone None = tt
 accepted_undone (Some fault) = fault_undone fault
+
+-- what is left to judge of a planned edit is refused
+pub cases_undone : (s : State) (d : Deed) (r : Reply) → first_of (cases_left s d) ≡ Some r → is_done r ≡ false
+cases_undone s d r h =
+    next_undone (unchanged (applied s.text d.edit) s.text s.revision) (full_of s d) r (same_undone (bytes_eq (applied s.text d.edit) s.text) s.revision)
+    (full_undone s d.mark (states_with d.mark s.latest) (record_size (change_of s.text d)) r) h
 
 -- what isn't allowed isn't done
 pub forbidden_undone : (have need : Allow) (r : Reply) → forbidden have need ≡ Some r → is_done r ≡ false

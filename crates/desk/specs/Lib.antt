@@ -1,10 +1,12 @@
 pub mod Desks
+pub mod DryRuns
 pub mod Entries
 pub mod Files
 pub mod Histories
 pub mod Imports
 pub mod Keeping
 pub mod Openings
+pub mod Previews
 pub mod Reading
 pub mod Reports
 pub mod Stands

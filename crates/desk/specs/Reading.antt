@@ -1,11 +1,11 @@
 -- What the counters of steps come to in a request.
-use Rattle.std.specs.Prelude.{◌≡◌, ◌⊎◌, ℕ, Bool, true, false, List, Option, Some, None, Ok, IfErr}
+use Rattle.std.specs.Prelude.{◌≡◌, ◌⊎◌, ℕ, ◌+◌, Bool, true, false, List, Option, Some, None, Result, Ok, Err, IfErr}
 use Rattle.hl_base.specs.Counts.{Counts}
 use Rattle.book.specs.declared.item.Book.{Book}
 use Rattle.book.specs.declared.item.Placed.{Placed}
 use Rattle.kept_reports.specs.Nodes.{Asks}
 use Rattle.live_journal.specs.Checking.{CountsEdit, CountsRefused}
-use Rattle.live_journal.specs.Journals.{Journal}
+use Rattle.live_journal.specs.Journals.{Journal, Planned}
 use Rattle.live_journal.specs.declared.edit.Edit.{Edit}
 use Rattle.live_journal.specs.declared.fault.EditFault.{EditFault}
 use Rattle.live_journal.specs.declared.fault.EditFault.TheVariants as faults
@@ -82,6 +82,16 @@ pub record CountsSteps (j : Journal) (d : Option Deed) (r : Reply) (old new : Co
   pub no_edit : d ≡ None → new ≡ old
   pub unasked : is_unasked r ≡ true → new ≡ old
 
+-- the reply of an edit whose dry run is replied so
+abbrev pub edit_reply : Reply → Reply
+edit_reply (reply.Text revision bytes) = reply.Done (revision + 1)
+edit_reply other = other
+
+-- what is counted for a dry run: what the plan of an edit counts that would be stored, and else what the edit counts with its reply
+abbrev pub CountsDryRun : Journal → Deed → Result Planned Reply → Counts → Counts → Type 0
+CountsDryRun j d (Ok plan) old new = CountsEdit j d.edit old new
+CountsDryRun j d (Err r) old new = CountsSteps j (Some d) (edit_reply r) old new
+
 -- What the words of a report ask over a text that begins in a year, on a day: nothing is read or checked. A plain balance asks no more
 -- nodes than its book has accounts and symbols, 44 for each in each column, and any other report none.
 pub record AsksReport (day : ℕ) (year : Option ℕ) (text : List ℕ) (words : List (List ℕ)) (old new : Counts) : Type 0 where
@@ -92,7 +102,7 @@ pub record AsksReport (day : ℕ) (year : Option ℕ) (text : List ℕ) (words :
       → book_of year text ≡ Ok book → Asks asked day items book old new
 
 -- What is counted for a request: for a report what its words ask, and for any other by the edit that it is. An import is the addition
--- of its new entries.
+-- of its new entries. A dry run counts what its edit would.
 abbrev pub CountsRequest : Journal → State → ℕ → Request → Reply → Counts → Counts → Type 0
 CountsRequest j s day (request.Report words) r old new = AsksReport day j.year j.text words old new
 CountsRequest j s day request.Download r old new = CountsSteps j None r old new
@@ -100,3 +110,5 @@ CountsRequest j s day (request.Add entry) r old new = CountsSteps j (deed_in s (
 CountsRequest j s day (request.Change base item entry) r old new = CountsSteps j (deed_in s (request.Change base item entry)) r old new
 CountsRequest j s day (request.Replace base text) r old new = CountsSteps j (deed_in s (request.Replace base text)) r old new
 CountsRequest j s day (request.Import name rules csv) r old new = CountsSteps j (deed_in s (request.Import name rules csv)) r old new
+CountsRequest j s day (request.Check entry) r old new = CountsSteps j (deed_in s (request.Add entry)) (edit_reply r) old new
+CountsRequest j s day (request.Preview name rules csv) r old new = CountsSteps j (deed_in s (request.Import name rules csv)) (edit_reply r) old new

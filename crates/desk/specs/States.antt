@@ -37,6 +37,7 @@ use Rattle.plan_commands.specs.declared.fault.PlanFault.{PlanFault}
 use Rattle.plan_commands.specs.declared.fault.PlanFault.TheVariants as plan_fault
 use Rattle.query.specs.Building.{IsOneOf}
 use Rattle.desk.specs.Imports.{entries_of, new_deed, pattern_lines}
+use Rattle.desk.specs.Previews.{added_to, revision_line}
 use Rattle.desk.specs.Reports.{refusable_lines, refusable_words, words_over}
 
 -- the text, the states of its imports, its revision, what is allowed, and the size of the store and its limit
@@ -265,6 +266,29 @@ import_answer s name rules csv =
     unless_forbidden s (forbidden s.allowed allow.Add)
     (or_replies (map refused_line (pattern_lines rules)) (file_answer s name (entries_of rules csv)))
 
+-- the reply of a dry run: a text where the edit would be stored, and else what the edit is replied
+abbrev pub dry_reply : ℕ → List ℕ → Reply → Reply
+dry_reply revision text (reply.Done next) = reply.Text revision text
+dry_reply revision text other = other
+
+-- what an edit is answered in a dry run: nothing is stored, and the state stays
+abbrev pub dry_run : State → List ℕ → Answer → Answer
+dry_run s text answer = record { reply = dry_reply s.revision text answer.reply; state = s; others = answer.others }
+
+-- what an answer adds at the end of the text, without the blank line before it
+abbrev pub added_by : State → Answer → List ℕ
+added_by s answer = added_to s.text answer.state.text
+
+-- what the check of an addition is answered: the line that the addition would be replied
+abbrev pub check_answer : State → Deed → Answer
+check_answer s d = dry_run s (revision_line (s.revision + 1)) (edit_answer s allow.Add d)
+
+-- what the preview of an import is answered: the entries that the import would add
+abbrev pub preview_answer : State → List ℕ → List ℕ → List ℕ → Answer
+preview_answer s name rules csv =
+    let answer = import_answer s name rules csv in
+    dry_run s (added_by s answer) answer
+
 -- What a request is answered on a day, and the state after it.
 unfoldable pub answer_to : State → ℕ → Request → Answer
 answer_to s day (request.Report words) = report_answer s day words
@@ -273,12 +297,14 @@ answer_to s day (request.Add entry) = edit_answer s allow.Add (plain (edits.Add 
 answer_to s day (request.Change base item entry) = edit_answer s allow.Edit (plain (edits.Change base item entry))
 answer_to s day (request.Replace base text) = edit_answer s allow.Edit (plain (edits.Replace base text))
 answer_to s day (request.Import name rules csv) = import_answer s name rules csv
+answer_to s day (request.Check entry) = check_answer s (plain (edits.Add entry))
+answer_to s day (request.Preview name rules csv) = preview_answer s name rules csv
 
 abbrev pub deed_of_file : State → List ℕ → Result (List Txn) CsvFault → Option Deed
 deed_of_file s name (Ok txns) = new_deed s.text s.latest name txns
 deed_of_file s name (Err fault) = None
 
--- the edit that a request is
+-- the edit that a request is; a dry run is none
 abbrev pub deed_in : State → Request → Option Deed
 deed_in s (request.Report words) = None
 deed_in s request.Download = None
@@ -286,3 +312,5 @@ deed_in s (request.Add entry) = Some (plain (edits.Add entry))
 deed_in s (request.Change base item entry) = Some (plain (edits.Change base item entry))
 deed_in s (request.Replace base text) = Some (plain (edits.Replace base text))
 deed_in s (request.Import name rules csv) = deed_of_file s name (entries_of rules csv)
+deed_in s (request.Check entry) = None
+deed_in s (request.Preview name rules csv) = None

@@ -59,9 +59,10 @@ Gives answer d old before r new after =
 abbrev pub Step : State → ℕ → ℕ → Request → Reply → State → ℕ → Type 0
 Step old before day q r new after = Gives (answer_to old day q) (deed_in old q) old before r new after
 
--- the rules of an import
+-- the rules of an import or its preview
 abbrev pub rules_in : Request → List ℕ
 rules_in (request.Import name rules csv) = rules
+rules_in (request.Preview name rules csv) = rules
 rules_in other = []
 
 -- what the maker of patterns tells stays, but where that of a line is refused

@@ -26,9 +26,11 @@ use std::alloc::Global;
 use std::sync::ledger::Ledger;
 
 impl<D: Disk> Desk<D> {
-    ghost use Rattle.std.specs.Prelude.{◌≡◌, ℕ, true};
+    ghost use Rattle.std.specs.Prelude.{◌≡◌, ℕ, true, IfErr, IfOk};
     ghost use Rattle.csv_rules.specs.Importing.{is_ordered};
     ghost use Rattle.desk.specs.Desks.{Serves, counts_of, state_of};
+    ghost use Rattle.desk.specs.DryRuns.{IsRefusal};
+    ghost use Rattle.desk.specs.Files.{IsDeedOf, TellsDeed};
     ghost use Rattle.desk.specs.Imports.{entries_of as entries_told, new_deed};
     ghost use Rattle.desk.specs.Reading.{CountsSteps};
     ghost use Rattle.desk.specs.Steps.{TellsReply};
@@ -55,41 +57,56 @@ impl<D: Disk> Desk<D> {
             result
             steps.old steps.new }
     {
-        if !covers(self.allow, Allow::Add) {
-            let have = self.allow;
-            return Reply::Forbidden {
-                need: Allow::Add,
-                have,
-            };
-        }
-        match entries_of(alloc, rules, csv, maker) {
-            Ok(txns) => self.import_entries(alloc, name, txns, steps),
+        match self.deed_in_file(alloc, name, rules, csv, maker) {
+            Ok(deed) => self.put_deed(alloc, deed, steps),
             Err(reply) => reply,
         }
     }
 
-    /// Answers an import of some entries.
-    fn import_entries<L: Ledger>(
-        &mut self,
+    /// What an import of a file by rules puts in under a name, which is nothing where none of its entries is new; or the
+    /// refusal, where it isn't allowed or the file becomes no entries.
+    pub(crate) fn deed_in_file<M: Maker>(
+        &self,
         alloc: Global,
         name: &Text,
-        txns: List<Txn>,
-        steps: &mut Steps<L>,
-    ) -> Reply
+        rules: &[u8],
+        csv: &[u8],
+        maker: &mut M,
+    ) -> Result<Option<Deed>, Reply>
+        ensures deed { IfOk result (IsDeedOf (state_of self.now) name.now
+            (entries_told rules.now csv.now)) }
+        ensures refusal { let s = state_of self.now in IfErr result
+            (IsRefusal s (state.import_answer s name.now rules.now csv.now)) }
+        ensures maker { (day : ℕ) → TellsDeed (Request.Import name.now rules.now csv.now) day
+            (M.refusals maker.old) (M.refusals maker.new)
+            (M.last_refused maker.old) (M.last_refused maker.new) result }
+    {
+        if !covers(self.allow, Allow::Add) {
+            let have = self.allow;
+            return Err(Reply::Forbidden {
+                need: Allow::Add,
+                have,
+            });
+        }
+        match entries_of(alloc, rules, csv, maker) {
+            Ok(txns) => self.deed_of(alloc, name, txns),
+            Err(reply) => Err(reply),
+        }
+    }
+
+    /// What an import of some entries puts in.
+    fn deed_of(&self, alloc: Global, name: &Text, txns: List<Txn>) -> Result<Option<Deed>, Reply>
         requires { is_ordered txns ≡ true }
-        ensures served { let s = state_of self.old in
-            Serves (state.deed_answer s (new_deed s.text s.latest name.now txns))
-            (new_deed s.text s.latest name.now txns) self.old result self.new }
-        ensures counts { counts_of self.new ≡ counts_of self.old }
-        ensures steps { CountsSteps self.old.live
-            (new_deed self.old.live.text self.old.latest name.now txns) result steps.old steps.new }
+        ensures deed { IfOk result (λ deed. deed
+            ≡ new_deed self.now.live.text self.now.latest name.now txns) }
+        ensures memory { IfErr result (λ r. r ≡ Reply.Memory) }
     {
         if txns.len() as u64 >= 1 << 32 {
-            return Reply::Memory;
+            return Err(Reply::Memory);
         }
         match import_deed(alloc, &self.live, self.latest.as_slice(), name, txns) {
-            Ok(deed) => self.put_deed(alloc, deed, steps),
-            Err(Memory) => Reply::Memory,
+            Ok(deed) => Ok(deed),
+            Err(Memory) => Err(Reply::Memory),
         }
     }
 

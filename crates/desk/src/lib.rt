@@ -4,6 +4,7 @@
 pub mod csv_fault;
 pub mod deed;
 mod desk;
+mod dry_runs;
 mod editing;
 mod fault;
 mod importing;
@@ -24,6 +25,7 @@ mod states;
 pub use csv_fault::CsvFault;
 pub use deed::Deed;
 pub use desk::Desk;
+pub use dry_runs::past_line_ends;
 pub use fault::DeskFault;
 pub use laws::import_again;
 pub use reply::Reply;

@@ -180,14 +180,14 @@ impl<D: Disk> Desk<D> {
 }
 
 /// A reply by which a plan is let go.
-fn dropped(_plan: Boxed<Plan>, reply: Reply) -> Reply
+pub(crate) fn dropped(_plan: Boxed<Plan>, reply: Reply) -> Reply
     ensures { result ≡ reply }
 {
     reply
 }
 
 /// What an edit is kept as whose change of the text is `splice`.
-fn make_ready(
+pub(crate) fn make_ready(
     alloc: Global,
     deed: &Deed,
     splice: &Splice,

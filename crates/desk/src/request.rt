@@ -44,4 +44,14 @@ pub enum Request {
         rules: Bytes,
         csv: Bytes,
     },
+    /// A dry run of the addition of an entry: the line that the addition would be replied, and nothing is stored.
+    Check {
+        entry: Bytes,
+    },
+    /// A dry run of an import: the entries that it would add, and nothing is stored.
+    Preview {
+        name: Text,
+        rules: Bytes,
+        csv: Bytes,
+    },
 }

@@ -32,7 +32,8 @@ impl<D: Disk> Desk<D> {
     /// revision, an import's name or the number of the states of imports has come to its end. Else it is put into the
     /// store, and stands. After want of memory, a disk fault and a refused pattern the journal is as it was. The entries
     /// of an import are put in as one addition, and its state is kept in the same record. An import of 2^32 entries or
-    /// more is answered as want of memory.
+    /// more is answered as want of memory. A dry run is refused as its edit would be, and stores nothing: a check is
+    /// answered with the line that its addition would be replied, and a preview with the entries that its import would add.
     pub fn request<M: Maker, L: Ledger>(
         &mut self,
         alloc: Global,
@@ -142,6 +143,15 @@ impl<D: Disk> Desk<D> {
                 maker,
                 steps,
             ),
+            Request::Check { entry } => self.check(alloc, add(alloc, entry), steps),
+            Request::Preview { name, rules, csv } => self.preview(
+                alloc,
+                name,
+                rules.as_slice(),
+                csv.as_slice(),
+                maker,
+                steps,
+            ),
         }
     }
 
@@ -198,6 +208,12 @@ fn is_plain(alloc: Global, request: &Request, day: Day) -> bool
         } => false,
         Request::Replace { base: _, text: _ } => false,
         Request::Import {
+            name: _,
+            rules: _,
+            csv: _,
+        } => false,
+        Request::Check { entry: _ } => false,
+        Request::Preview {
             name: _,
             rules: _,
             csv: _,

@@ -1,14 +1,15 @@
-use Rattle.std.proofs.Common.{Some}
+use Rattle.std.proofs.Common.{None, Some}
 use Rattle.live_journal.specs.declared.edit.Edit.TheVariants as edit
 use Rattle.live_journal.specs.declared.edit.Edit.{Edit}
 use Rattle.desk.specs.declared.request.Allow.TheVariants as allow
 use Rattle.desk.specs.Desks.{state_of}
 use Rattle.desk.specs.States.{plain}
 use Rattle.desk.proofs.Imported.{tells_import}
-use Rattle.desk.proofs.Quiet.{quiet_download, quiet_edit}
+use Rattle.desk.proofs.Previewed.{seen_preview}
+use Rattle.desk.proofs.Quiet.{quiet_check, quiet_download, quiet_edit}
 use Rattle.desk.proofs.ReadingLaws.{idle, seen_steps}
-use Rattle.desk.proofs.Refused.{no_rule_of_add, no_rule_of_change, no_rule_of_download, no_rule_of_import, no_rule_of_replace, rule_of_report}
-use Rattle.desk.proofs.Served.{downloaded, reported, was_add, was_change, was_import, was_replace}
+use Rattle.desk.proofs.Refused.{no_rule_of_add, no_rule_of_change, no_rule_of_check, no_rule_of_download, no_rule_of_import, no_rule_of_preview, no_rule_of_replace, rule_of_report}
+use Rattle.desk.proofs.Served.{downloaded, reported, was_add, was_change, was_check, was_import, was_preview, was_replace}
 use Rattle.desk.proofs.desk.Desk.answer.Goals as goal
 
 pub returns-in-Report-clause-served : goal.returns-in-Report-clause-served
@@ -123,3 +124,43 @@ pub returns-in-Import-clause-steps : goal.returns-in-Import-clause-steps
 returns-in-Import-clause-steps g c =
     seen_steps c.args.self.now.live (state_of c.args.self.now) c.args.day.0 c.args.request.now _ _ _ _ c.in-Import.is
     (rw (c.as_slice-in-Import.ensures, c.as_slice-in-Import-2.ensures) at c.import.ensures.steps)
+
+pub returns-in-Check-clause-served : goal.returns-in-Check-clause-served
+returns-in-Check-clause-served g c =
+    was_check c.args.self.now _ c.args.day.0 c.args.request.now _ _ c.in-Check.is (c.check.ensures.served (edit.Add c.in-Check.entry) c.add-in-Check.ensures)
+
+pub returns-in-Preview-clause-served : goal.returns-in-Preview-clause-served
+returns-in-Preview-clause-served g c =
+    was_preview c.args.self.now _ c.args.day.0 c.args.request.now _ _ _ _ c.in-Preview.is (rw (c.as_slice-in-Preview.ensures, c.as_slice-in-Preview-2.ensures) at c.preview.ensures.served)
+
+pub returns-in-Check-clause-maker : goal.returns-in-Check-clause-maker
+returns-in-Check-clause-maker g c =
+    let maker = g.M.Maker in
+    let e : Edit = edit.Add c.in-Check.entry in
+    let served = c.check.ensures.served e c.add-in-Check.ensures in
+    quiet_check c.args.request.now c.args.day.0 (maker.refusals c.args.maker.now) (maker.last_refused c.args.maker.now) (state_of c.args.self.now) (plain e) None _ _ _ _ _ served.gives
+
+pub returns-in-Preview-clause-maker : goal.returns-in-Preview-clause-maker
+returns-in-Preview-clause-maker g c =
+    let maker = g.M.Maker in
+    seen_preview c.args.request.now _ _ _ c.args.day.0 (maker.refusals c.args.maker.now) (maker.refusals c.preview.new.maker) (maker.last_refused c.args.maker.now) (maker.last_refused c.preview.new.maker) c.preview.result c.in-Preview.is
+    (rw (c.as_slice-in-Preview.ensures, c.as_slice-in-Preview-2.ensures) at (c.preview.ensures.maker c.args.day.0))
+
+pub returns-in-Check-clause-rule : goal.returns-in-Check-clause-rule
+returns-in-Check-clause-rule g c =
+    let maker = g.M.Maker in
+    no_rule_of_check c.args.request.now c.args.self.now.live.text c.args.day.0 (maker.refusals c.args.maker.now) (maker.refusals c.args.maker.now) (maker.last_refused c.args.maker.now) c.check.result _ c.in-Check.is
+
+pub returns-in-Preview-clause-rule : goal.returns-in-Preview-clause-rule
+returns-in-Preview-clause-rule g c =
+    let maker = g.M.Maker in
+    no_rule_of_preview c.args.request.now c.args.self.now.live.text c.args.day.0 (maker.refusals c.args.maker.now) (maker.refusals c.preview.new.maker) (maker.last_refused c.preview.new.maker) c.preview.result _ _ _ c.in-Preview.is
+
+pub returns-in-Check-clause-steps : goal.returns-in-Check-clause-steps
+returns-in-Check-clause-steps g c =
+    seen_steps c.args.self.now.live (state_of c.args.self.now) c.args.day.0 c.args.request.now _ _ _ _ c.in-Check.is (c.check.ensures.steps (edit.Add c.in-Check.entry) c.add-in-Check.ensures)
+
+pub returns-in-Preview-clause-steps : goal.returns-in-Preview-clause-steps
+returns-in-Preview-clause-steps g c =
+    seen_steps c.args.self.now.live (state_of c.args.self.now) c.args.day.0 c.args.request.now _ _ _ _ c.in-Preview.is
+    (rw (c.as_slice-in-Preview.ensures, c.as_slice-in-Preview-2.ensures) at c.preview.ensures.steps)
