@@ -27,6 +27,7 @@ use Rattle.desk.specs.declared.request.Request.{Request}
 use Rattle.desk.specs.declared.request.Request.TheVariants as request
 use Rattle.desk.specs.Desks.{faults_of, shown_by, state_of}
 use Rattle.desk.specs.Imports.{entries_of, pattern_lines}
+use Rattle.desk.specs.Previews.{added_to}
 use Rattle.desk.specs.States.{Answer, State, answer_to, deed_in, edit_answer, file_answer, forbidden, image_of, or_done, or_replies, plain, refusals, refused_line, unless_forbidden}
 use Rattle.desk.specs.Steps.{Gives, is_fault, next_of}
 use Rattle.store_text.specs.declared.refusal.StoreRefusal.{StoreRefusal}
@@ -35,7 +36,7 @@ use Rattle.store_text.specs.Refusals.{text_of}
 use Rattle.store_making.specs.declared.refusal.JournalRefusal.{JournalRefusal}
 use Rattle.store_making.specs.declared.refusal.JournalRefusal.TheVariants as journal
 use Rattle.store_commands.specs.Asking.{AsksDisks, IsAsked, IsRefusedBy, OpensAs, Patterns, ShowsAfter, of_opening}
-use Rattle.store_commands.specs.Previews.{Added, IsOfCopy, Previews, Says, SaysReply, is_accepted, of_copy, past_line_ends, state_in}
+use Rattle.store_commands.specs.Previews.{Added, IsOfCopy, Previews, Says, SaysReply, is_accepted, of_copy, state_in}
 use Rattle.store_commands.specs.Replies.{IsEdit, IsEditReply}
 use Rattle.store_commands.specs.declared.preview.Preview.{Preview}
 use Rattle.store_commands.specs.declared.preview.Preview.TheVariants as preview
@@ -74,6 +75,8 @@ answer_refuses s day (request.Replace base text) is = edit_refuses s allow.Edit 
 answer_refuses s day (request.Import name rules csv) is =
     unless_refuses s (forbidden s.allowed allow.Add) (or_replies (map refused_line (pattern_lines rules)) (file_answer s name (entries_of rules csv)))
     (lines_refuse (pattern_lines rules))
+answer_refuses s day (request.Check entry) is = absurd is
+answer_refuses s day (request.Preview name rules csv) is = absurd is
 
 -- so an edit that is accepted is the answer's own
 accepted_own : (answer : Answer) (d : Option Deed) (old : State) (before : ℕ) (r : Reply) (new : State) (after : ℕ) → Refuses answer
@@ -144,8 +147,7 @@ module _ {D : Type 0} (g : Disks D) (old : D × D) (f s : List ℕ) (is_first : 
         (sym (added.now read.0 read.1 read.2 read.3) ∙ ap text_of shown ∙ ap (λ (x : State). text_of (Ok (image_of x))) own.1) in
         let before_is : added.before ≡ st.text = text_is added.before st.text (sym added.was ∙ ap text_of (opens.shown f s is_first is_second).0) in (
           subst (λ (x : Reply). is_accepted x ≡ true) own.0 accepted,
-          added.is ∙ ap (λ (x : List ℕ). past_line_ends (drop (length added.before) x)) after_is
-              ∙ ap (λ (x : List ℕ). past_line_ends (drop (length x) answer.state.text)) before_is,
+          added.is ∙ ap (λ (x : List ℕ). added_to added.before x) after_is ∙ ap (λ (x : List ℕ). added_to x answer.state.text) before_is,
         )
 
     says_refused : is_accepted r ≡ false → is_fault r ≡ false → fault_count g old ≡ 0 → Says st day.0 request p (preview.Refused r)

@@ -134,6 +134,8 @@ answer_plain s day (request.Add entry) is = edit_plain s allow.Add (plain (edits
 answer_plain s day (request.Change base item entry) is = edit_plain s allow.Edit (plain (edits.Change base item entry))
 answer_plain s day (request.Replace base text) is = edit_plain s allow.Edit (plain (edits.Replace base text))
 answer_plain s day (request.Import name rules csv) is = import_plain s name rules csv
+answer_plain s day (request.Check entry) is = absurd is
+answer_plain s day (request.Preview name rules csv) is = absurd is
 
 no_fault : (r : Reply) → is_fault r ≡ false → is_fault r ≡ true → (a b : ℕ) → Rose a b
 no_fault r lacks has a b = absurd (of (sym lacks ∙ has))

@@ -1,6 +1,5 @@
 -- What an edit would make of a store, of whose two files a copy is edited.
-use Rattle.std.specs.Prelude.{◌≡◌, ◌⊎◌, ℕ, Bool, true, false, List, [], ◌∷◌, ◌==◌, drop, length, None, Some, Result, Ok, Err, if◌then◌else◌}
-use Rattle.hl_base.specs.Ascii.{line_feed}
+use Rattle.std.specs.Prelude.{◌≡◌, ◌⊎◌, ℕ, Bool, true, false, List, None, Some, Result, Ok, Err}
 use Rattle.hl_base.specs.Causes.{Rose}
 use Rattle.hl_base.specs.declared.disk.Disk.{Ghosts as Disks}
 use Rattle.hl_base.specs.declared.fault.Memory.{Memory}
@@ -15,7 +14,8 @@ use Rattle.store_text.specs.declared.refusal.StoreRefusal.TheVariants as refusal
 use Rattle.desk.specs.declared.reply.Reply.{Reply}
 use Rattle.desk.specs.declared.reply.Reply.TheVariants as reply
 use Rattle.desk.specs.declared.request.Request.{Request}
-use Rattle.desk.specs.States.{Answer, State, answer_to}
+use Rattle.desk.specs.Previews.{added_to}
+use Rattle.desk.specs.States.{Answer, State, added_by, answer_to}
 use Rattle.desk.specs.Steps.{TellsReply, is_fault}
 use Rattle.store_making.specs.declared.refusal.JournalRefusal.{JournalRefusal}
 use Rattle.store_making.specs.declared.refusal.JournalRefusal.TheVariants as journal
@@ -34,15 +34,6 @@ is_accepted (reply.Done revision) = true
 is_accepted (reply.Same revision) = true
 is_accepted other = false
 
--- bytes without the line ends at their front
-abbrev pub past_line_ends : List ℕ → List ℕ
-past_line_ends [] = []
-past_line_ends (byte ∷ bytes) = if byte == line_feed then past_line_ends bytes else byte ∷ bytes
-
--- what an answer adds at the end of the text, without the blank line before it
-abbrev pub added_by : State → Answer → List ℕ
-added_by s answer = past_line_ends (drop (length s.text) answer.state.text)
-
 -- The preview of a request to a state: what the answer to it would add, where that is accepted; or a refusal, which is the answer's unless
 -- memory ran out or a pattern was refused. That of a pattern has the pattern's line.
 abbrev pub Says : State → ℕ → Request → Patterns → Preview → Type 0
@@ -57,7 +48,7 @@ pub record Added {D : Type 0} (g : Disks D) (first second : List ℕ) (disks : D
   pub after : List ℕ
   pub was : text_of (image first second) ≡ Ok before
   pub now : Told g disks (λ f s. text_of (image f s) ≡ Ok after)
-  pub is : bytes ≡ past_line_ends (drop (length before) after)
+  pub is : bytes ≡ added_to before after
 
 -- the preview that a reply makes, which answers an edit of two files; disks now hold these
 abbrev pub SaysReply : {D : Type 0} → Disks D → List ℕ → List ℕ → D × D → Reply → Preview → Type 0

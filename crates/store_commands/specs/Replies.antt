@@ -21,6 +21,8 @@ use Rattle.desk.specs.declared.reply.Reply.TheVariants as reply
 abbrev pub IsEdit : Request → Type 0
 IsEdit (request.Report words) = ⊥
 IsEdit request.Download = ⊥
+IsEdit (request.Check entry) = ⊥
+IsEdit (request.Preview name rules csv) = ⊥
 IsEdit _ = Unit {0}
 
 -- the reply is one to an edit

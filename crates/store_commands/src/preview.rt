@@ -1,8 +1,9 @@
 //! What an edit would make of a store: it is made of a copy of the store's files in memory.
-ghost use Rattle.std.specs.Prelude.{◌≡◌, Some, Ok, drop, length, IfErr, IfOk};
+ghost use Rattle.std.specs.Prelude.{◌≡◌, Some, Ok, drop, IfErr, IfOk};
 ghost use Rattle.hl_time.specs.Calendar.{IsDay};
 ghost use Rattle.text_store.specs.Image.{image};
 ghost use Rattle.text_store.specs.Refusals.{Told};
+ghost use Rattle.desk.specs.Previews.{added_to};
 ghost use Rattle.desk.specs.Steps.{is_fault};
 ghost use Rattle.store_text.specs.Refusals.{text_of};
 ghost use Rattle.store_commands.specs.Asking.{told_by};
@@ -11,7 +12,7 @@ ghost use Rattle.store_commands.specs.Replies.{IsEdit};
 
 use crate::asking::ask_disks;
 use crate::edit::StoreEdit;
-use desk::Reply;
+use desk::{Reply, past_line_ends};
 use hl_base::{Bytes, Disk, MemDisk, Memory, Steps};
 use query::Maker;
 use std::alloc::Global;
@@ -75,20 +76,6 @@ fn text_before(alloc: Global, first: &[u8], second: &[u8]) -> Result<Bytes, Memo
     read_text(alloc, one, other)
 }
 
-/// Bytes without the line ends at their front.
-fn past_line_ends(bytes: &[u8]) -> &[u8]
-    ensures { result.now ≡ spec.past_line_ends bytes.now }
-{
-    let mut left = bytes;
-    while let Some((byte, rest)) = left.split_first() {
-        if *byte != b'\n' {
-            return left;
-        }
-        left = rest;
-    }
-    left
-}
-
 /// What a text has after its first bytes.
 fn behind(text: &[u8], len: usize) -> &[u8]
     ensures { result.now ≡ drop len text.now }
@@ -98,8 +85,7 @@ fn behind(text: &[u8], len: usize) -> &[u8]
 
 /// A copy of what a text has after the length of an earlier one, without the line ends before it.
 fn added_text(alloc: Global, before: &[u8], after: &[u8]) -> Result<Bytes, Memory>
-    ensures { IfOk result (λ bytes.
-        bytes ≡ spec.past_line_ends (drop (length before.now) after.now)) }
+    ensures { IfOk result (λ bytes. bytes ≡ added_to before.now after.now) }
 {
     Bytes::copied(alloc, past_line_ends(behind(after, before.len())))
 }

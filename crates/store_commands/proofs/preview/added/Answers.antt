@@ -1,6 +1,6 @@
-use Rattle.std.proofs.Common.{ℕ, List, drop, length, ap, ◌∙◌}
+use Rattle.std.proofs.Common.{ℕ, List, ap, ◌∙◌}
 use Rattle.std.proofs.lemmas.Result.{IfOk-weaker}
-use Rattle.store_commands.specs.Previews.{past_line_ends}
+use Rattle.desk.specs.Previews.{added_to}
 use Rattle.store_commands.proofs.preview.added.Goals as goal
 
 pub returns : goal.returns
@@ -11,6 +11,6 @@ returns g c =
       after = c.in_ok-after.after;
       was = c.in_ok-before.ensures;
       now = c.in_ok-after.ensures;
-      is = h ∙ ap (λ (x : List ℕ). past_line_ends (drop (length x) c.as_slice-2.result.now)) c.as_slice.ensures
-          ∙ ap (λ (x : List ℕ). past_line_ends (drop (length before) x)) c.as_slice-2.ensures;
+      is = h ∙ ap (λ (x : List ℕ). added_to x c.as_slice-2.result.now) c.as_slice.ensures
+          ∙ ap (λ (x : List ℕ). added_to before x) c.as_slice-2.ensures;
     }) c.added_text.ensures
