@@ -73,6 +73,8 @@ fresh s day (request.Add entry) r before after new gives = tt
 fresh s day (request.Change base item entry) r before after new gives = tt
 fresh s day (request.Replace base text) r before after new gives = tt
 fresh s day (request.Import name rules csv) r before after new gives = tt
+fresh s day (request.Check entry) r before after new gives = tt
+fresh s day (request.Preview name rules csv) r before after new gives = tt
 
 module _ {A : Type 0} where
   -- a refusal that isn't there
@@ -216,6 +218,8 @@ judged s day (request.Change base item entry) r before after new gives =
     plain_judged s allow.Edit (plain (edits.Change base item entry)) r before after new gives
 judged s day (request.Replace base text) r before after new gives = plain_judged s allow.Edit (plain (edits.Replace base text)) r before after new gives
 judged s day (request.Import name rules csv) r before after new gives = import_judged s name rules csv r before after new gives
+judged s day (request.Check entry) r before after new gives = tt
+judged s day (request.Preview name rules csv) r before after new gives = tt
 
 module _ {D : Type 0} {g : Ghosts D} where
   pub answered : (opening last : Desk D g) (earlier later : List (Entered Entry)) (x : Entered Entry)

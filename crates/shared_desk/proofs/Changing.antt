@@ -32,8 +32,10 @@ use Rattle.desk.specs.Desks.{IsServed, faults_of, shown_by, state_of}
 use Rattle.desk.specs.Entries.{Entry}
 use Rattle.desk.specs.Imports.{entries_of, new_deed, pattern_lines}
 use Rattle.desk.specs.Reports.{refusable_lines, refusable_words, words_over}
-use Rattle.desk.specs.States.{Answer, State, answer_to, change_of, covers, deed_answer, deed_in, deed_of_file, edit_answer, file_answer, forbidden, image_of, is_due, journal_of, last_revision, long_name, many_states, no_room, or_done, or_replies, plain, record_size, refusals, refused_line, refused_pattern, refused_rule, report_reply, states_with, unaccepted, unchanged, unless_forbidden}
+use Rattle.desk.specs.Previews.{revision_line}
+use Rattle.desk.specs.States.{Answer, State, added_by, answer_to, change_of, covers, deed_answer, deed_in, deed_of_file, dry_reply, edit_answer, file_answer, forbidden, image_of, import_answer, is_due, journal_of, last_revision, long_name, many_states, no_room, or_done, or_replies, plain, record_size, refusals, refused_line, refused_pattern, refused_rule, report_reply, states_with, unaccepted, unchanged, unless_forbidden}
 use Rattle.desk.specs.Steps.{Gives, is_done}
+use Rattle.desk.proofs.DryLaws.{dry_undone}
 use Rattle.desk.proofs.Edited.{edited_is}
 use Rattle.shared_desk.proofs.Freshness.{none_first}
 
@@ -227,6 +229,12 @@ answer_made s day (request.Import name rules csv) h =
     unless_made s (forbidden s.allowed allow.Add) (or_replies (map refused_line (pattern_lines rules)) (file_answer s name (entries_of rules csv)))
     (deed_of_file s name (entries_of rules csv)) (allowed_not (covers s.allowed allow.Add) allow.Add s.allowed)
     (λ done. file_made s name (entries_of rules csv) done) h
+answer_made s day (request.Check entry) h =
+    let own = (edit_answer s allow.Add (plain (edits.Add entry))).reply in
+    absurd (unlike (dry_reply s.revision (revision_line (s.revision + 1)) own) (dry_undone s.revision (revision_line (s.revision + 1)) own) h)
+answer_made s day (request.Preview name rules csv) h =
+    let answer = import_answer s name rules csv in
+    absurd (unlike (dry_reply s.revision (added_by s answer) answer.reply) (dry_undone s.revision (added_by s answer) answer.reply) h)
 
 -- ---- no other reply stands
 
@@ -264,6 +272,9 @@ others_not s day (request.Change base item entry) r among =
 others_not s day (request.Replace base text) r among =
     or_done_not s (plain (edits.Replace base text)) (first_of (refusals s allow.Edit (plain (edits.Replace base text)))) r among
 others_not s day (request.Import name rules csv) r among =
+    import_not s (forbidden s.allowed allow.Add) (pattern_lines rules) (file_answer s name (entries_of rules csv)) r among
+others_not s day (request.Check entry) r among = or_done_not s (plain (edits.Add entry)) (first_of (refusals s allow.Add (plain (edits.Add entry)))) r among
+others_not s day (request.Preview name rules csv) r among =
     import_not s (forbidden s.allowed allow.Add) (pattern_lines rules) (file_answer s name (entries_of rules csv)) r among
 
 -- ---- a step

@@ -29,8 +29,10 @@ use Rattle.desk.specs.Desks.{IsServed, faults_of, state_of}
 use Rattle.desk.specs.Entries.{Entry}
 use Rattle.desk.specs.Imports.{entries_of, new_deed, pattern_lines}
 use Rattle.desk.specs.Reports.{refusable_lines, refusable_words, words_over}
-use Rattle.desk.specs.States.{Answer, State, answer_to, change_of, covers, deed_answer, deed_in, edit_answer, file_answer, forbidden, full_cases, import_answer, is_due, journal_of, last_revision, long_name, many_states, no_room, or_done, or_replies, past_end, plain, record_size, refusals, refused_line, refused_pattern, refused_rule, report_reply, states_with, stays, unaccepted, unchanged, unless_forbidden}
+use Rattle.desk.specs.Previews.{revision_line}
+use Rattle.desk.specs.States.{Answer, State, added_by, answer_to, change_of, covers, deed_answer, deed_in, dry_run, edit_answer, file_answer, forbidden, full_cases, import_answer, is_due, journal_of, last_revision, long_name, many_states, no_room, or_done, or_replies, past_end, plain, record_size, refusals, refused_line, refused_pattern, refused_rule, report_reply, states_with, stays, unaccepted, unchanged, unless_forbidden}
 use Rattle.desk.specs.Steps.{Gives, is_fault}
+use Rattle.desk.proofs.DryLaws.{text_or}
 use Rattle.shared_desk.specs.Histories.{IsLegal, has_fault}
 
 -- a reply, if there is one, tells no disk fault
@@ -130,6 +132,9 @@ import_no s name rules csv =
     unless_no s (forbidden s.allowed allow.Add) (or_replies (map refused_line (pattern_lines rules)) (file_answer s name (entries_of rules csv)))
     (allowed_no (covers s.allowed allow.Add) _ _) (file_no s name (entries_of rules csv))
 
+dry_no : (s : State) (text : List ℕ) (answer : Answer) → is_fault answer.reply ≡ false → is_fault (dry_run s text answer).reply ≡ false
+dry_no s text answer none = text_or (λ (r : Reply). is_fault r ≡ false) s.revision text answer.reply refl none
+
 -- an answer tells none
 answer_no : (s : State) (day : ℕ) (q : Request) → is_fault (answer_to s day q).reply ≡ false
 unfolding answer_to
@@ -139,6 +144,12 @@ answer_no s day (request.Add entry) = edit_no s allow.Add (plain (edits.Add entr
 answer_no s day (request.Change base item entry) = edit_no s allow.Edit (plain (edits.Change base item entry))
 answer_no s day (request.Replace base text) = edit_no s allow.Edit (plain (edits.Replace base text))
 answer_no s day (request.Import name rules csv) = import_no s name rules csv
+answer_no s day (request.Check entry) =
+    let answer = edit_answer s allow.Add (plain (edits.Add entry)) in
+    dry_no s (revision_line (s.revision + 1)) answer (edit_no s allow.Add (plain (edits.Add entry)))
+answer_no s day (request.Preview name rules csv) =
+    let answer = import_answer s name rules csv in
+    dry_no s (added_by s answer) answer (import_no s name rules csv)
 
 -- no reply of a list tells one
 those_no : {X : Type 0} (f : X → Reply) (xs : List X) (r : Reply) → ((x : X) → is_fault (f x) ≡ false) → IsOneOf r (map f xs) → is_fault r ≡ false
@@ -162,6 +173,11 @@ unless_others_no : (s : State) (o : Option Reply) (answer : Answer) (r : Reply) 
 unless_others_no s None answer r none among = none among
 unless_others_no s (Some x) answer r none among = absurd among
 
+import_others_no : (s : State) (name rules csv : List ℕ) (r : Reply) → IsOneOf r (import_answer s name rules csv).others → is_fault r ≡ false
+import_others_no s name rules csv r among =
+    unless_others_no s (forbidden s.allowed allow.Add) (or_replies (map refused_line (pattern_lines rules)) (file_answer s name (entries_of rules csv))) r
+    (λ other. those_no refused_line (pattern_lines rules) r (λ line. refl) other) among
+
 -- nor does another reply of it
 others_no : (s : State) (day : ℕ) (q : Request) (r : Reply) → IsOneOf r (answer_to s day q).others → is_fault r ≡ false
 unfolding answer_to
@@ -176,9 +192,10 @@ others_no s day (request.Change base item entry) r among =
     or_done_no s (plain (edits.Change base item entry)) (first_of (refusals s allow.Edit (plain (edits.Change base item entry)))) r among
 others_no s day (request.Replace base text) r among =
     or_done_no s (plain (edits.Replace base text)) (first_of (refusals s allow.Edit (plain (edits.Replace base text)))) r among
-others_no s day (request.Import name rules csv) r among =
-    unless_others_no s (forbidden s.allowed allow.Add) (or_replies (map refused_line (pattern_lines rules)) (file_answer s name (entries_of rules csv))) r
-    (λ other. those_no refused_line (pattern_lines rules) r (λ line. refl) other) among
+others_no s day (request.Import name rules csv) r among = import_others_no s name rules csv r among
+others_no s day (request.Check entry) r among =
+    or_done_no s (plain (edits.Add entry)) (first_of (refusals s allow.Add (plain (edits.Add entry)))) r among
+others_no s day (request.Preview name rules csv) r among = import_others_no s name rules csv r among
 
 -- one step: the count stays, and no fault is told; or it rose
 counts_so : (s : State) (day : ℕ) (q : Request) (before : ℕ) (r : Reply) (new : State) (after : ℕ)

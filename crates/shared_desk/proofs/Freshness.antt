@@ -112,6 +112,8 @@ answer_loads s day (request.Replace base text) loads = edit_loads s allow.Edit (
 answer_loads s day (request.Import name rules csv) loads =
     unless_loads s (forbidden s.allowed allow.Add) (or_replies (map refused_line (pattern_lines rules)) (file_answer s name (entries_of rules csv)))
     loads (file_loads s name (entries_of rules csv) loads)
+answer_loads s day (request.Check entry) loads = loads
+answer_loads s day (request.Preview name rules csv) loads = loads
 
 -- ---- along a history
 
