@@ -1,18 +1,22 @@
 -- Entries that tell a disk fault: the count of the disks rose.
-use Rattle.std.proofs.Common.{◌≡◌, ◌⊎◌, inl, inr, ⊎_elim, ℕ, ◌≤◌, Bool, true, false, ◌||◌, List, [], ◌∷◌, ◌++◌, map, Option, None, Ok, Err, refl, sym, ap, subst, ◌∙◌, arith}
+use Rattle.std.proofs.Common.{◌≡◌, ◌⊎◌, inl, inr, ⊎_elim, ℕ, ◌+◌, ◌≤◌, Bool, true, false, ◌||◌, List, [], ◌∷◌, ◌++◌, map, Option, None, Ok, Err, refl, sym, ap, subst, ◌∙◌, arith}
 use Rattle.hl_base.specs.Causes.{Rose}
 use Rattle.hl_base.specs.declared.disk.Disk.{Ghosts as Disks}
 use Rattle.query.specs.Building.{IsOneOf}
 use Rattle.desk.specs.declared.deed.Deed.{Deed}
 use Rattle.desk.specs.declared.desk.Desk.{Desk}
 use Rattle.desk.specs.declared.reply.Reply.{Reply}
+use Rattle.desk.specs.declared.request.Allow.TheVariants as allow
 use Rattle.desk.specs.declared.request.Request.{Request}
 use Rattle.desk.specs.declared.request.Request.TheVariants as request
 use Rattle.desk.specs.Desks.{IsServed, Leads, faults_of, state_of}
 use Rattle.desk.specs.Entries.{Entry}
 use Rattle.desk.specs.Reports.{refusable_lines, refusable_words, words_over}
-use Rattle.desk.specs.States.{Answer, State, answer_to, deed_in, refused_pattern, refused_rule, report_reply}
+use Rattle.desk.specs.Previews.{revision_line}
+use Rattle.desk.specs.States.{Answer, State, added_by, answer_to, deed_in, dry_run, edit_answer, import_answer, plain, refused_pattern, refused_rule, report_reply}
 use Rattle.desk.specs.Steps.{Gives, is_fault}
+use Rattle.desk.proofs.DryLaws.{text_or}
+use Rattle.live_journal.specs.declared.edit.Edit.TheVariants as edits
 use Rattle.plan_commands.specs.Reports.{Report}
 use Rattle.store_text.proofs.LendingLaws.{rose_then}
 use Rattle.store_commands.specs.Replies.{IsEdit}
@@ -49,6 +53,12 @@ either_plain [] ys r first second among = second among
 either_plain (x ∷ xs) ys r first second (inl is) = first (inl is)
 either_plain (x ∷ xs) ys r first second (inr among) = either_plain xs ys r (λ a. first (inr a)) second among
 
+of_dry : (s : State) (text : List ℕ) (answer : Answer) → IsFaultless answer → IsFaultless (dry_run s text answer)
+of_dry s text answer h = record {
+  one = text_or (λ (r : Reply). is_fault r ≡ false) s.revision text answer.reply refl h.one;
+  others = h.others;
+}
+
 faultless : (s : State) (day : ℕ) (q : Request) → IsFaultless (answer_to s day q)
 unfolding answer_to
 faultless s day (request.Report words) = record {
@@ -62,6 +72,11 @@ faultless s day (request.Add entry) = of_edit s day (request.Add entry) tt
 faultless s day (request.Change base item entry) = of_edit s day (request.Change base item entry) tt
 faultless s day (request.Replace base text) = of_edit s day (request.Replace base text) tt
 faultless s day (request.Import name rules csv) = of_edit s day (request.Import name rules csv) tt
+faultless s day (request.Check entry) =
+    of_dry s (revision_line (s.revision + 1)) (edit_answer s allow.Add (plain (edits.Add entry))) (of_edit s day (request.Add entry) tt)
+faultless s day (request.Preview name rules csv) =
+    let answer = import_answer s name rules csv in
+    of_dry s (added_by s answer) answer (of_edit s day (request.Import name rules csv) tt)
 
 no_fault : (r : Reply) → is_fault r ≡ false → is_fault r ≡ true → (a b : ℕ) → Rose a b
 no_fault r lacks has a b = absurd (of (sym lacks ∙ has))
