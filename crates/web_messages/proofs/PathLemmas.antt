@@ -11,7 +11,7 @@ use Rattle.matchit.specs.Seek.{own, step, or_else, seek, first, param_step, has_
 use Rattle.matchit.specs.Router.{RouteOf}
 use Rattle.web_messages.specs.Paths.{resource_at, found_at, FindsEach, literal_route}
 use Rattle.web_messages.specs.declared.resource.Resource.{Resource}
-use Rattle.web_messages.specs.declared.resource.Resource.TheVariants.{Report, Download, Add, Edit, Upload, Import, Page}
+use Rattle.web_messages.specs.declared.resource.Resource.TheVariants.{Report, Download, Add, Edit, Upload, Import, Page, Check, Preview}
 use Rattle.report_options.specs.declared.command.Command.TheVariants.{Balance, Print, Register, IncomeStatement, BalanceSheet, Accounts}
 
 -- each route is made of bytes alone
@@ -100,11 +100,13 @@ all_routes =
     ∷ (codes "/add", literal_route (codes "/add") Add)
     ∷ (codes "/balancesheet", literal_route (codes "/balancesheet") (Report BalanceSheet))
     ∷ (codes "/balance", literal_route (codes "/balance") (Report Balance))
+    ∷ (codes "/check", literal_route (codes "/check") Check)
     ∷ (codes "/download", literal_route (codes "/download") Download)
     ∷ (codes "/edit", literal_route (codes "/edit") Edit)
     ∷ (codes "/import", literal_route (codes "/import") Import)
     ∷ (codes "/incomestatement", literal_route (codes "/incomestatement") (Report IncomeStatement))
     ∷ (codes "/journal", literal_route (codes "/journal") (Report Print))
+    ∷ (codes "/preview", literal_route (codes "/preview") Preview)
     ∷ (codes "/register", literal_route (codes "/register") (Report Register))
     ∷ (codes "/upload", literal_route (codes "/upload") Upload)
     ∷ (codes "/", literal_route (codes "/") Page)
@@ -136,16 +138,20 @@ lookup_finds path =
     by_text path (codes "/upload") refl (λ no_upload.
     by_text path (codes "/import") refl (λ no_import.
     by_text path (codes "/") refl (λ no_home.
+    by_text path (codes "/check") refl (λ no_check.
+    by_text path (codes "/preview") refl (λ no_preview.
     rw (
       same_flip (codes "/accounts") path,
       same_flip (codes "/add") path,
       same_flip (codes "/balancesheet") path,
       same_flip (codes "/balance") path,
+      same_flip (codes "/check") path,
       same_flip (codes "/download") path,
       same_flip (codes "/edit") path,
       same_flip (codes "/import") path,
       same_flip (codes "/incomestatement") path,
       same_flip (codes "/journal") path,
+      same_flip (codes "/preview") path,
       same_flip (codes "/register") path,
       same_flip (codes "/upload") path,
       same_flip (codes "/") path,
@@ -161,7 +167,9 @@ lookup_finds path =
       no_upload,
       no_import,
       no_home,
-    ) refl))))))))))))
+      no_check,
+      no_preview,
+    ) refl))))))))))))))
 
 -- none of them has a parameter
 all_literal : AreLiteral all_routes
@@ -198,6 +206,8 @@ no_text path h =
       differs (codes "/upload") (search rules),
       differs (codes "/import") (search rules),
       differs (codes "/") (search rules),
+      differs (codes "/check") (search rules),
+      differs (codes "/preview") (search rules),
     ) refl
   where
     differs : (text : List ℕ) → AreAscii text → bytes_eq path text ≡ false

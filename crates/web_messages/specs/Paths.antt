@@ -6,7 +6,7 @@ use Rattle.matchit.specs.Route.{Scan, outside}
 use Rattle.matchit.specs.Router.{RouteOf}
 use Rattle.matchit.specs.Seek.{first}
 use Rattle.web_messages.specs.declared.resource.Resource.{Resource}
-use Rattle.web_messages.specs.declared.resource.Resource.TheVariants.{Report, Download, Add, Edit, Upload, Import, Page}
+use Rattle.web_messages.specs.declared.resource.Resource.TheVariants.{Report, Download, Add, Edit, Upload, Import, Page, Check, Preview}
 use Rattle.report_options.specs.declared.command.Command.TheVariants.{Balance, Print, Register, IncomeStatement, BalanceSheet, Accounts}
 
 -- what a path names, if it leads somewhere
@@ -24,6 +24,8 @@ resource_at path =
     else if bytes_eq path (codes "/upload") then Some Upload
     else if bytes_eq path (codes "/import") then Some Import
     else if bytes_eq path (codes "/") then Some Page
+    else if bytes_eq path (codes "/check") then Some Check
+    else if bytes_eq path (codes "/preview") then Some Preview
     else None
 
 -- what a route that was found leads to

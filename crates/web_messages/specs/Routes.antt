@@ -26,9 +26,9 @@ query_of target = after_first (λ b. b == 63) target
 abbrev pub by_method : List ℕ → List ℕ → Route → Refusal → Route
 by_method method wanted found refused = if bytes_eq method wanted then found else route.Refused refused
 
--- where a method leads at the page's path, if the server has a page
-abbrev pub page_by_method : List ℕ → List ℕ → PageRoute
-page_by_method method wanted = if bytes_eq method wanted then page.Home else page.Refused refusal.GetOnly
+-- where a method leads at a path of the page, which this method alone takes, if the server has a page
+abbrev pub page_by_method : List ℕ → List ℕ → PageRoute → Refusal → PageRoute
+page_by_method method wanted found refused = if bytes_eq method wanted then found else page.Refused refused
 
 -- where a method leads at what a path names
 abbrev pub route_at : List ℕ → Option Resource → Route
@@ -39,18 +39,26 @@ route_at method (Some resource.Add) = by_method method (codes "POST") route.Add 
 route_at method (Some resource.Edit) = by_method method (codes "POST") route.Edit refusal.PostOnly
 route_at method (Some resource.Upload) = by_method method (codes "POST") route.Upload refusal.PostOnly
 route_at method (Some resource.Import) = by_method method (codes "POST") route.Import refusal.PostOnly
-route_at method (Some resource.Page) = route.Page (page_by_method method (codes "GET"))
+route_at method (Some resource.Page) = route.Page (page_by_method method (codes "GET") page.Home refusal.GetOnly)
+route_at method (Some resource.Check) = route.Page (page_by_method method (codes "POST") page.Check refusal.PostOnly)
+route_at method (Some resource.Preview) = route.Page (page_by_method method (codes "POST") page.Preview refusal.PostOnly)
 
 -- where a method and a path lead
 abbrev pub route_of : List ℕ → List ℕ → Route
 route_of method path = route_at method (resource_at path)
 
 -- where a cross-origin request leads: one that reads is answered, one that posts is refused
+abbrev pub page_from_elsewhere : PageRoute → PageRoute
+page_from_elsewhere page.Check = page.Refused refusal.Origin
+page_from_elsewhere page.Preview = page.Refused refusal.Origin
+page_from_elsewhere other = other
+
 abbrev pub from_elsewhere : Route → Route
 from_elsewhere route.Add = route.Refused refusal.Origin
 from_elsewhere route.Edit = route.Refused refusal.Origin
 from_elsewhere route.Upload = route.Refused refusal.Origin
 from_elsewhere route.Import = route.Refused refusal.Origin
+from_elsewhere (route.Page found) = route.Page (page_from_elsewhere found)
 from_elsewhere other = other
 
 abbrev pub route_from : Bool → Route → Route

@@ -74,6 +74,8 @@ impl Paths {
         add(&mut router, "/upload", Resource::Upload)?;
         add(&mut router, "/import", Resource::Import)?;
         add(&mut router, "/", Resource::Page)?;
+        add(&mut router, "/check", Resource::Check)?;
+        add(&mut router, "/preview", Resource::Preview)?;
         Ok(Paths { router })
     }
 

@@ -19,4 +19,8 @@ pub enum Resource {
     Import,
     /// The page, which not every server has.
     Page,
+    /// The check of an entry, for the page.
+    Check,
+    /// The preview of a bank's file, for the page.
+    Preview,
 }

@@ -1,6 +1,6 @@
 //! Where the method and the target of a head lead.
-ghost use Rattle.std.specs.Prelude.{◌≡◌};
-ghost use Rattle.web_messages.specs.Routes.{path_of, query_of, by_method, page_by_method, route_of, from_elsewhere, route_from};
+ghost use Rattle.std.specs.Prelude.{◌≡◌, Some, codes};
+ghost use Rattle.web_messages.specs.Routes.{path_of, query_of, by_method, page_by_method, page_from_elsewhere, route_at, route_of, from_elsewhere, route_from};
 
 use crate::paths::Paths;
 use crate::refusal::Refusal;
@@ -22,17 +22,21 @@ pub enum Route {
     Upload,
     /// To the entries of a file.
     Import,
-    /// To the page's path, which leads nowhere where the server has no page.
+    /// To a path of the page, which leads nowhere where the server has no page.
     Page(PageRoute),
     /// Nowhere.
     Refused(Refusal),
 }
 
-/// Where the page's path leads, if the server has a page.
+/// Where a path of the page leads, if the server has a page.
 #[derive(Clone, Copy, Debug, PartialEq, Eq)]
 pub enum PageRoute {
     /// To the page.
     Home,
+    /// To the check of an entry, which adds nothing.
+    Check,
+    /// To the entries that a bank's file would add.
+    Preview,
     /// Nowhere.
     Refused(Refusal),
 }
@@ -59,15 +63,29 @@ fn by_one_method(method: &[u8], wanted: &[u8], found: Route, refusal: Refusal) -
     }
 }
 
-/// Where a method leads at the page's path, which is taken by one method alone.
-fn page_by_one_method(method: &[u8], wanted: &[u8]) -> PageRoute
-    ensures { result ≡ page_by_method method.now wanted.now }
+/// Where a method leads at a path of the page, which is taken by one method alone.
+fn page_by_one_method(method: &[u8], wanted: &[u8], found: PageRoute, refusal: Refusal) -> PageRoute
+    ensures { result ≡ page_by_method method.now wanted.now found refusal }
 {
     if method == wanted {
-        PageRoute::Home
+        found
     } else {
-        PageRoute::Refused(Refusal::GetOnly)
+        PageRoute::Refused(refusal)
     }
+}
+
+/// Where a method leads at the page's own path.
+fn to_home(method: &[u8]) -> Route
+    ensures { result ≡ route_at method.now (Some Resource.Page) }
+{
+    Route::Page(page_by_one_method(method, b"GET", PageRoute::Home, Refusal::GetOnly))
+}
+
+/// Where a method leads at a path where the page posts.
+fn to_dry_run(method: &[u8], found: PageRoute) -> Route
+    ensures { result ≡ Route.Page (page_by_method method.now (codes "POST") found Refusal.PostOnly) }
+{
+    Route::Page(page_by_one_method(method, b"POST", found, Refusal::PostOnly))
 }
 
 /// Where a method and a path lead.
@@ -91,8 +109,20 @@ pub fn find_route(paths: &Paths, method: &[u8], path: &[u8]) -> Route
         Some(Resource::Edit) => by_one_method(method, b"POST", Route::Edit, Refusal::PostOnly),
         Some(Resource::Upload) => by_one_method(method, b"POST", Route::Upload, Refusal::PostOnly),
         Some(Resource::Import) => by_one_method(method, b"POST", Route::Import, Refusal::PostOnly),
-        Some(Resource::Page) => Route::Page(page_by_one_method(method, b"GET")),
+        Some(Resource::Page) => to_home(method),
+        Some(Resource::Check) => to_dry_run(method, PageRoute::Check),
+        Some(Resource::Preview) => to_dry_run(method, PageRoute::Preview),
         None => Route::Refused(Refusal::Path),
+    }
+}
+
+/// Where a cross-origin request leads at a path of the page: the page is shown, and what posts is refused.
+fn page_from_elsewhere(found: PageRoute) -> PageRoute
+    ensures { result ≡ page_from_elsewhere found }
+{
+    match found {
+        PageRoute::Check | PageRoute::Preview => PageRoute::Refused(Refusal::Origin),
+        other => other,
     }
 }
 
@@ -102,6 +132,7 @@ fn from_elsewhere(route: Route) -> Route
 {
     match route {
         Route::Add | Route::Edit | Route::Upload | Route::Import => Route::Refused(Refusal::Origin),
+        Route::Page(found) => Route::Page(page_from_elsewhere(found)),
         other => other,
     }
 }

@@ -51,9 +51,19 @@ pub add-requires-12-clause-literal : goal.add-requires-12-clause-literal
 unfolding matchit_on_literals
 add-requires-12-clause-literal c = refl
 
+pub add-requires-13-clause-literal : goal.add-requires-13-clause-literal
+unfolding matchit_on_literals
+add-requires-13-clause-literal c = refl
+
+pub add-requires-14-clause-literal : goal.add-requires-14-clause-literal
+unfolding matchit_on_literals
+add-requires-14-clause-literal c = refl
+
 pub invariant_of-result : goal.invariant_of-result
 invariant_of-result c =
     rw (
+      c.in_ok-add-14.ensures,
+      c.in_ok-add-13.ensures,
       c.in_ok-add-12.ensures,
       c.in_ok-add-11.ensures,
       c.in_ok-add-10.ensures,
