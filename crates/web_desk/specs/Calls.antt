@@ -2,7 +2,7 @@
 use Rattle.std.specs.Prelude.{ℕ, List, [], ◌∷◌, Option, Some, None, Result, Ok, Err, codes}
 use Rattle.httparse.specs.Grammar.{RequestHead}
 use Rattle.desk.specs.declared.request.Request.{Request}
-use Rattle.desk.specs.declared.request.Request.TheVariants.{Report, Download, Add, Replace}
+use Rattle.desk.specs.declared.request.Request.TheVariants.{Report, Download, Add, Replace, Import, Check, Preview}
 use Rattle.report_options.specs.declared.command.Command.{Command}
 use Rattle.report_options.specs.declared.command.Command.TheVariants as commands
 use Rattle.web_messages.specs.declared.form.Parameter.{Parameter}
@@ -62,7 +62,7 @@ abbrev pub or_own : Result Request Refusal → Result Request OwnReply
 or_own (Ok request) = Ok request
 or_own (Err refused) = Err (own.Refused refused)
 
--- where the page's path leads, of a message that goes there
+-- where a path of the page leads, of a message that goes there
 abbrev pub page_route_in : Route → Option PageRoute
 page_route_in (route.Page found) = Some found
 page_route_in (route.Report command) = None
@@ -78,19 +78,32 @@ abbrev pub shown_at : List ℕ → List ℕ → List Parameter → OwnReply
 shown_at text policy [] = own.Page text policy
 shown_at text policy (p ∷ ps) = own.Refused refusal.Form
 
--- What is answered at the page's path: the page to GET; and where there is none, that the path leads nowhere.
-abbrev pub page_at : Page → PageRoute → List ℕ → OwnReply
-page_at pages.Absent found query = own.Refused refusal.Path
-page_at (pages.Shown text policy) page_route.Home query = shown_at text policy (parameters_of query)
-page_at (pages.Shown text policy) (page_route.Refused refused) query = own.Refused refused
+-- the dry run of an addition or an import
+abbrev pub dry_run_of : Request → Request
+dry_run_of (Add entry) = Check entry
+dry_run_of (Import name rules csv) = Preview name rules csv
+dry_run_of other = other
 
-abbrev pub call_by : Page → Option PageRoute → List ℕ → Result Request Refusal → Result Request OwnReply
-call_by page (Some found) query asked = Err (page_at page found query)
-call_by page None query asked = or_own asked
+abbrev pub dry_run_asked : Result Request Refusal → Result Request OwnReply
+dry_run_asked (Ok request) = Ok (dry_run_of request)
+dry_run_asked (Err refused) = Err (own.Refused refused)
+
+-- What a message asks at a path of the page: GET / is answered with the page; POST /check asks for the dry run of POST /add, and
+-- POST /preview for that of POST /import. Where there is no page, the paths lead nowhere.
+abbrev pub page_at : Page → PageRoute → List ℕ → List ℕ → Result Request OwnReply
+page_at pages.Absent found query body = Err (own.Refused refusal.Path)
+page_at (pages.Shown text policy) page_route.Home query body = Err (shown_at text policy (parameters_of query))
+page_at (pages.Shown text policy) page_route.Check query body = dry_run_asked (request_at route.Add query body)
+page_at (pages.Shown text policy) page_route.Preview query body = dry_run_asked (request_at route.Import query body)
+page_at (pages.Shown text policy) (page_route.Refused refused) query body = Err (own.Refused refused)
+
+abbrev pub call_by : Page → Option PageRoute → List ℕ → List ℕ → Result Request Refusal → Result Request OwnReply
+call_by page (Some found) query body asked = page_at page found query body
+call_by page None query body asked = or_own asked
 
 -- what a message asks of the desk, or what it is answered without
 abbrev pub call_at : Page → Route → List ℕ → List ℕ → Result Request OwnReply
-call_at page found query body = call_by page (page_route_in found) query (request_at found query body)
+call_at page found query body = call_by page (page_route_in found) query body (request_at found query body)
 
 abbrev pub call_of : Page → RequestHead → List ℕ → Result Request OwnReply
 call_of page h body = call_at page (route_to h) (query_of h.target) body

@@ -1,6 +1,6 @@
 //! What a message asks, by where its head leads and what its parameters say, or how it is answered without the journal.
 ghost use Rattle.std.specs.Prelude.{◌≡◌, IfOk, []};
-ghost use Rattle.web_desk.specs.Calls.{call_at, or_own, page_at, page_route_in, request_at, shown_at, word_of};
+ghost use Rattle.web_desk.specs.Calls.{call_at, dry_run_asked, dry_run_of, or_own, page_at, page_route_in, request_at, shown_at, word_of};
 ghost use Rattle.web_messages.specs.Forms.{parameters_of};
 
 use crate::edits::{edit_of, import_of};
@@ -131,7 +131,7 @@ fn or_own(asked: Result<Request, Refusal>) -> Result<Request, OwnReply>
     }
 }
 
-/// Where the page's path leads, of a message that goes there.
+/// Where a path of the page leads, of a message that goes there.
 fn page_route_in(route: Route) -> Option<PageRoute>
     ensures { result ≡ page_route_in route }
 {
@@ -159,38 +159,74 @@ fn page_reply(alloc: Global, text: &Bytes, policy: &Text, query: &[u8]) -> Resul
     Ok(OwnReply::Page { text, policy })
 }
 
-/// The reply at the path of a page that is there.
-fn shown_reply(
+/// The dry run of an addition or an import.
+fn dry_run_of(request: Request) -> Request
+    ensures { result ≡ dry_run_of request }
+{
+    match request {
+        Request::Add { entry } => Request::Check { entry },
+        Request::Import { name, rules, csv } => Request::Preview { name, rules, csv },
+        other => other,
+    }
+}
+
+/// The dry run of what a message asks of the journal.
+fn dry_run(
+    alloc: Global,
+    route: Route,
+    query: &[u8],
+    body: &[u8],
+) -> Result<Result<Request, OwnReply>, Memory>
+    ensures { IfOk result (λ call.
+        call ≡ dry_run_asked (request_at route query.now body.now)) }
+{
+    match request(alloc, route, query, body)? {
+        Ok(asked) => Ok(Ok(dry_run_of(asked))),
+        Err(refusal) => Ok(Err(OwnReply::Refused(refusal))),
+    }
+}
+
+/// What a message asks at a path of a page that is there, or its reply.
+fn shown_call(
     alloc: Global,
     text: &Bytes,
     policy: &Text,
     found: PageRoute,
     query: &[u8],
-) -> Result<OwnReply, Memory>
-    ensures { IfOk result (λ own. own ≡ page_at (Page.Shown text.now policy.now) found query.now) }
+    body: &[u8],
+) -> Result<Result<Request, OwnReply>, Memory>
+    ensures { IfOk result (λ call.
+        call ≡ page_at (Page.Shown text.now policy.now) found query.now body.now) }
 {
     match found {
-        PageRoute::Home => page_reply(alloc, text, policy, query),
-        PageRoute::Refused(refusal) => Ok(OwnReply::Refused(refusal)),
+        PageRoute::Home => {
+            let own = page_reply(alloc, text, policy, query)?;
+            Ok(Err(own))
+        }
+        PageRoute::Check => dry_run(alloc, Route::Add, query, body),
+        PageRoute::Preview => dry_run(alloc, Route::Import, query, body),
+        PageRoute::Refused(refusal) => Ok(Err(OwnReply::Refused(refusal))),
     }
 }
 
-/// The reply at the page's path.
-fn page_path_reply(
+/// What a message asks at a path of the page, or its reply.
+fn page_call(
     alloc: Global,
     page: &Page,
     found: PageRoute,
     query: &[u8],
-) -> Result<OwnReply, Memory>
-    ensures { IfOk result (λ own. own ≡ page_at page.now found query.now) }
+    body: &[u8],
+) -> Result<Result<Request, OwnReply>, Memory>
+    ensures { IfOk result (λ call. call ≡ page_at page.now found query.now body.now) }
 {
     match page {
-        Page::Absent => Ok(OwnReply::Refused(Refusal::Path)),
-        Page::Shown { text, policy } => shown_reply(alloc, text, policy, found, query),
+        Page::Absent => Ok(Err(OwnReply::Refused(Refusal::Path))),
+        Page::Shown { text, policy } => shown_call(alloc, text, policy, found, query, body),
     }
 }
 
-/// What a message asks of the journal, or its reply where it asks nothing. Only the replies at `/` depend on the page.
+/// What a message asks of the journal, or its reply where it asks nothing. Only what is asked at the paths of the page
+/// depends on it.
 pub fn call(
     alloc: Global,
     page: &Page,
@@ -201,10 +237,7 @@ pub fn call(
     ensures { IfOk result (λ call. call ≡ call_at page.now route query.now body.now) }
 {
     match page_route_in(route) {
-        Some(found) => {
-            let own = page_path_reply(alloc, page, found, query)?;
-            Ok(Err(own))
-        }
+        Some(found) => page_call(alloc, page, found, query, body),
         None => {
             let asked = request(alloc, route, query, body)?;
             Ok(or_own(asked))
