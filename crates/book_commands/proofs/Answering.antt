@@ -14,8 +14,8 @@ use Rattle.plan_commands.specs.declared.fault.PlanFault.TheVariants as plan_faul
 use Rattle.plan_commands.proofs.Plain.{plain_reports}
 use Rattle.plan_commands.proofs.Telling.{defined_so, plain_tells}
 use Rattle.query.specs.Made.{IsPatternRefused}
-use Rattle.refusals.specs.Errors.{plan_line, plan_status, rules_line, rules_status, words_line, words_status}
-use Rattle.refusals.specs.Outcomes.{Judged, Outcome, outcome_of, refused, written}
+use Rattle.refusals.specs.Errors.{rules_line, rules_status, words_line, words_status}
+use Rattle.refusals.specs.Outcomes.{Judged, Outcome, refused, written}
 use Rattle.refusals.specs.Refusing.{IsOfReport, IsOfText, Refuses, RefusesPattern, RefusesPlan, RefusesReport, RefusesRules}
 use Rattle.refusals.specs.declared.refusal.PatternOf.{PatternOf}
 use Rattle.refusals.specs.declared.refusal.PatternOf.TheVariants as pattern_of

@@ -4,7 +4,7 @@ use Rattle.std.specs.Option.{option_or}
 use Rattle.book.specs.declared.item.Book.{Book}
 use Rattle.book.specs.declared.item.Placed.{Placed}
 use Rattle.book.specs.declared.transaction.Txn.{Txn}
-use Rattle.book_care.specs.Breaks.{IsFault, first_by, first_fault}
+use Rattle.book_care.specs.Breaks.{IsFault, first_by}
 use Rattle.book_care.specs.DeclaredNames.{AreDeclaredIn}
 use Rattle.book_care.specs.declared.declarations.Declarations.{Declarations}
 use Rattle.book_care.specs.declared.faults.Check.{Check}
@@ -14,7 +14,7 @@ use Rattle.refusals.specs.Refusing.{Refuses}
 use Rattle.book_commands.specs.Answers.{Finds}
 use Rattle.book_commands.specs.FaultLines.{strict_line}
 use Rattle.refusals.specs.Outcomes.{refused, written}
-use Rattle.book_commands.specs.Works.{by_kept, first_broken, first_kept, first_said, strict_made, strict_outcome}
+use Rattle.book_commands.specs.Works.{first_broken, first_kept, first_said, strict_made, strict_outcome}
 use Rattle.refusals.specs.declared.refusal.Refusal.{Refusal}
 use Rattle.refusals.specs.declared.refusal.Refusal.TheVariants as refusal
 use Rattle.book_care.proofs.Naming.{first_by_is}

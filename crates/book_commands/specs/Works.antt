@@ -1,5 +1,5 @@
 -- What each command answers to a text.
-use Rattle.std.specs.Prelude.{ℕ, ◌≤◌, length, Bool, List, [], ◌∷◌, ◌++◌, Option, Some, None, Result, Ok, Err}
+use Rattle.std.specs.Prelude.{ℕ, ◌≤◌, length, List, [], ◌∷◌, ◌++◌, Option, Some, None, Result, Ok, Err}
 use Rattle.std.specs.List.{flat_map}
 use Rattle.std.specs.Option.{option_or}
 use Rattle.hl_base.specs.Ascii.{line_feed}

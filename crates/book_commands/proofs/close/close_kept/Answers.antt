@@ -1,4 +1,4 @@
-use Rattle.std.proofs.Common.{◌≡◌, ℕ, List, Err, sym, subst}
+use Rattle.std.proofs.Common.{ℕ, List, Err, sym, subst}
 use Rattle.plan_commands.specs.Telling.{Never}
 use Rattle.query.specs.Made.{IsQueryOf, Makes}
 use Rattle.report_commands.specs.declared.fault.WordsFault.{WordsFault}

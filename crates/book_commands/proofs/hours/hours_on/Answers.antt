@@ -1,4 +1,3 @@
-use Rattle.std.proofs.Common.{Err}
 use Rattle.entry_reader.specs.Lines.{contents_of}
 use Rattle.book_commands.specs.FaultLines.{log_line, log_status}
 use Rattle.book_commands.specs.Works.{hours_made, log_txns}

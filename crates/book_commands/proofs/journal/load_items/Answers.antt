@@ -1,4 +1,4 @@
-use Rattle.std.proofs.Common.{arith, length, subst, sym}
+use Rattle.std.proofs.Common.{arith, subst, sym}
 use Rattle.journal_reader.specs.Whole.{AreWithin}
 use Rattle.journal_reader.proofs.Whole.{within}
 use Rattle.book_commands.proofs.journal.load_items.Goals as goal

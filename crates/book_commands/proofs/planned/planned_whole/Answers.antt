@@ -1,4 +1,3 @@
-use Rattle.std.proofs.Common.{Ok, Err}
 use Rattle.book_commands.specs.Answers.{ReportRule, told_by}
 use Rattle.book_commands.specs.Works.{report_made}
 use Rattle.book_commands.proofs.Answering.{fault_found, fault_maker, report_tells, report_told}
