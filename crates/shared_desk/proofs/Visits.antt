@@ -31,6 +31,14 @@ spent_is (conn.CutOff had said) h = absurd (cc (h))
 spent_is (conn.HeadCut had) h = absurd (cc (h))
 spent_is conn.Memory h = absurd (cc (h))
 
+-- the serving goes on or is spent, which is no fault of the door
+no_fault : (b : Bool) → (if b then door_end.Spent else door_end.Enough) ≡ door_end.Failed → ⊥
+no_fault true h = absurd (cc (h))
+no_fault false h = absurd (cc (h))
+
+pub not_failed : (end : ConnEnd) → end_after end ≡ door_end.Failed → ⊥
+not_failed end h = no_fault (is_spent end) h
+
 -- the visit that was handed out last comes back, where those before it are back
 pub last_back : (visits : List Visit) (had : Option (List ℕ)) (back : Returned) → AreBack visits
     → come_back back (visits ++ record { had = had; back = None } ∷ []) ≡ visits ++ record { had = had; back = Some back } ∷ []

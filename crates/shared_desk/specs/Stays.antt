@@ -1,5 +1,5 @@
 -- What a worker did at its door.
-use Rattle.std.specs.Prelude.{◌≡◌, ℕ, ◌<◌, ◌≤◌, Bool, true, false, if◌then◌else◌, List, [], ◌∷◌, ◌++◌, length, map, All, Option, Some, IfSome, is_none}
+use Rattle.std.specs.Prelude.{◌≡◌, ◌≢◌, ℕ, ◌<◌, ◌≤◌, Bool, true, false, if◌then◌else◌, List, [], ◌∷◌, ◌++◌, length, map, All, Option, Some, IfSome, is_none}
 use Rattle.std.specs.List.{flat_map}
 use Rattle.std.specs.Option.{option_map}
 use Rattle.hl_base.specs.Causes.{Rose}
@@ -72,6 +72,10 @@ is_spent other = false
 -- how the serving of a door goes on after a connection
 abbrev pub end_after : ConnEnd → DoorEnd
 end_after end = if is_spent end then door_end.Spent else door_end.Enough
+
+-- Where no call of the door was to fail, none did, and none is to fail afterwards.
+abbrev pub StaysSound : Type 0 → Type 0 → DoorEnd → Type 0
+StaysSound old new end = old → (end ≢ door_end.Failed) × new
 
 abbrev pub AreUnspent : {K : Type 0} → List (Stay K) → Type 0
 AreUnspent stays = All (λ stay. is_spent stay.end ≡ false) stays

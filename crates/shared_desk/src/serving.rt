@@ -1,6 +1,6 @@
 //! One worker at its door.
 ghost use Rattle.std.specs.Prelude.{◌≡◌, ◌↔◌, IsTrue};
-ghost use Rattle.shared_desk.specs.Stays.{ServesDoor, ServesGiven, end_after, kit_told};
+ghost use Rattle.shared_desk.specs.Stays.{ServesDoor, ServesGiven, StaysSound, end_after, kit_told};
 ghost use Rattle.turn_lock.specs.Passes.{IsFree};
 
 use crate::connection::serve_connection;
@@ -61,9 +61,10 @@ fn serve_given<D: Disk, W: Wait, R: Door, C: Clock, M: Maker, L: Ledger>(
 ) -> DoorEnd
     requires free { IsFree turn.now pass.old }
     requires fresh { (R.Link.read_faults link ≡ 0) × (R.Link.write_faults link ≡ 0) }
-    ensures { ServesGiven R.Link.coming R.Link.sent page.now result link
+    ensures served { ServesGiven R.Link.coming R.Link.sent page.now result link
         (kit_told R.Door C.Clock M.Maker kit.old)
         (kit_told R.Door C.Clock M.Maker kit.new) pass.old pass.new }
+    ensures sound { StaysSound (R.IsSound kit.old.door) (R.IsSound kit.new.door) result }
 {
     let mut link = link;
     let end = serve_connection(
@@ -92,9 +93,10 @@ fn serve_next<D: Disk, W: Wait, R: Door, C: Clock, M: Maker, L: Ledger>(
     steps: &mut Steps<L>,
 ) -> DoorEnd
     requires { IsFree turn.now pass.old }
-    ensures { ServesDoor R.Link.coming R.Link.sent page.now 1 result
+    ensures served { ServesDoor R.Link.coming R.Link.sent page.now 1 result
         (kit_told R.Door C.Clock M.Maker kit.old)
         (kit_told R.Door C.Clock M.Maker kit.new) pass.old pass.new }
+    ensures sound { StaysSound (R.IsSound kit.old.door) (R.IsSound kit.new.door) result }
 {
     match kit.door.next() {
         Knock::Link(link) => serve_given(rt, alloc, page, turn, pass, kit, link, steps),
@@ -116,9 +118,10 @@ pub fn serve_door<D: Disk, W: Wait, R: Door, C: Clock, M: Maker, L: Ledger>(
     steps: &mut Steps<L>,
 ) -> DoorEnd
     requires { IsFree turn.now pass.old }
-    ensures { ServesDoor R.Link.coming R.Link.sent page.now limit result
+    ensures served { ServesDoor R.Link.coming R.Link.sent page.now limit result
         (kit_told R.Door C.Clock M.Maker kit.old)
         (kit_told R.Door C.Clock M.Maker kit.new) pass.old pass.new }
+    ensures sound { StaysSound (R.IsSound kit.old.door) (R.IsSound kit.new.door) result }
 {
     'links: for _served in 0..limit {
         let end = serve_next(rt, alloc, page, turn, pass, kit, steps);

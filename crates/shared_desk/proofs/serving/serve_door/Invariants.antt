@@ -11,4 +11,5 @@ invariant-links g l =
       free : IsFree l.turn l.pass;
       served : ServesDoor link.coming link.sent l.page l._served door_end.Enough (kit_told g.R.Door g.C.Clock g.M.Maker l.fn.kit)
           (kit_told g.R.Door g.C.Clock g.M.Maker l.kit) l.fn.pass l.pass;
+      sound : g.R.Door.IsSound l.fn.kit.door → g.R.Door.IsSound l.kit.door;
     }

@@ -1,10 +1,10 @@
 use Rattle.std.proofs.Common.{ℕ, refl, sym, subst, ◌∙◌}
 use Rattle.web_desk.specs.Counts.{Counted}
-use Rattle.shared_desk.proofs.Visits.{spent_is}
+use Rattle.shared_desk.proofs.Visits.{not_failed, spent_is}
 use Rattle.shared_desk.proofs.serving.serve_given.Goals as goal
 
-pub returns : goal.returns
-returns g c =
+pub returns-clause-served : goal.returns-clause-served
+returns-clause-served g c =
     let link = g.R.Link.Link in
     let one = c.serve_connection-end in
     let after = one.new.link in
@@ -35,3 +35,6 @@ returns g c =
       goes = c.after_end.ensures;
       full = λ h. one.ensures.spent (spent_is end (sym c.after_end.ensures ∙ h));
     }
+
+pub returns-clause-sound : goal.returns-clause-sound
+returns-clause-sound g c = λ sound. (λ is. not_failed c.serve_connection-end.result (sym c.after_end.ensures ∙ is), c.give_back.ensures.sound sound)
