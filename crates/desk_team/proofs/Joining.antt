@@ -23,6 +23,7 @@ use Rattle.shared_desk.specs.Stays.{KitTold, kit_told, runs_of}
 use Rattle.web_messages.specs.declared.page.Page.{Page}
 use Rattle.desk_team.specs.Teams.{AllServe, AllWorked, DoneTold, ServesTeam, ServesUnder, Worked, has_failed, hired, is_failed, member_of, seated, told_of}
 use Rattle.shared_desk.specs.declared.kit.Kit.{Kit}
+use Rattle.shared_desk.specs.declared.serving.DoorEnd.{DoorEnd}
 use Rattle.shared_desk.specs.declared.serving.DoorEnd.TheVariants as door_end
 use Rattle.desk_team.specs.declared.worker.Worker.{Worker}
 use Rattle.shared_desk.proofs.Passes.{free_still}
@@ -30,6 +31,12 @@ use Rattle.shared_desk.proofs.Passes.{free_still}
 or_no : (b : Bool) → (b || false) ≡ b
 or_no true = refl
 or_no false = refl
+
+not_failed : (end : DoorEnd) → end ≢ door_end.Failed → is_failed end ≡ false
+not_failed door_end.Failed other = absurd (other refl)
+not_failed door_end.End other = refl
+not_failed door_end.Enough other = refl
+not_failed door_end.Spent other = refl
 
 -- the longer of two histories is as long as each
 abbrev NoLonger : List (Entered Entry) → List (Entered Entry) → Type 0
@@ -138,7 +145,7 @@ module _ {T R K C M : Type 0} (r : Doors R K) (c : Clocks C) (m : Makers M) (com
   worked-free lock (o ∷ os) (w ∷ ws) same all free =
       let Idle : Worker (Standing T Entry) R C M → Type 0 = λ v. IsFree lock v.pass in
       let one : Worked r c m coming sent page limit o w = all 0 w (omega arith) in
-      All-cons Idle w ws (free_still lock o.pass w.pass (runs_of one.stays) (All-head Idle o os free) one.grown)
+      All-cons Idle w ws (free_still lock o.pass w.pass (runs_of one.0.stays) (All-head Idle o os free) one.0.grown)
       (worked-free lock os ws (omega (arith, same)) (later_worked o w os ws all) (All-tail Idle o os free))
 
   -- what is told of a worker that ended
@@ -150,16 +157,16 @@ module _ {T R K C M : Type 0} (r : Doors R K) (c : Clocks C) (m : Makers M) (com
       → Worked r c m coming sent page limit (seated lock n k) w → made_by w.pass.number history ≡ w.pass.mine → lock.done ≡ 0 → SawNoMore history w
       → ServesUnder coming sent page limit history (n + 1) (kit_told r c m k) (told_done w)
   one_served lock n history k w one made none seen = record {
-    stays = one.stays;
-    served = one.served;
-    ends = one.ends;
+    stays = one.0.stays;
+    served = one.0.served;
+    ends = one.0.ends;
     full = λ is.
-        let at_end : w.pass.lock.done + length w.pass.seen + 1 ≡ 2 ^ 63 = one.full is in
-        let same : w.pass.lock.done ≡ 0 = ap (λ (l : Lock T). l.done) one.grown.lock ∙ none in
+        let at_end : w.pass.lock.done + length w.pass.seen + 1 ≡ 2 ^ 63 = one.0.full is in
+        let same : w.pass.lock.done ≡ 0 = ap (λ (l : Lock T). l.done) one.0.grown.lock ∙ none in
         omega (arith, at_end, same, seen);
-    made = ap (λ (number : ℕ). made_by number history) (sym one.grown.number) ∙ made ∙ one.grown.mine;
-    asked = one.asked;
-    day = one.day;
+    made = ap (λ (number : ℕ). made_by number history) (sym one.0.grown.number) ∙ made ∙ one.0.grown.mine;
+    asked = one.0.asked;
+    day = one.0.day;
   }
 
   pub all_served : (lock : Lock T) (n : ℕ) (history : List (Entered Entry)) (ks : List (Kit R C M)) (ws : List (Worker (Standing T Entry) R C M))
@@ -188,9 +195,22 @@ module _ {T R K C M : Type 0} (r : Doors R K) (c : Clocks C) (m : Makers M) (com
   none_other lock n (k ∷ ks) [] number same all past = absurd (omega (arith, same))
   none_other lock n (k ∷ ks) (w ∷ ws) number same all past =
       let one : Worked r c m coming sent page limit (seated lock n k) w = all 0 w (omega arith) in
-      let is : w.pass.number ≡ n + 1 = one.grown.number in
+      let is : w.pass.number ≡ n + 1 = one.0.grown.number in
       All-cons (λ (member : Member Entry). member.number ≢ number) (member_of w) (map member_of ws) (λ e. omega (arith, e, is, past))
       (none_other lock (n + 1) ks ws number (omega (arith, same)) (later_worked (seated lock n k) w (hired lock (n + 1) ks) ws all) (omega (arith, past)))
+
+  -- no call of a door failed where none was to
+  pub none_failed : (lock : Lock T) (n : ℕ) (ks : List (Kit R C M)) (ws : List (Worker (Standing T Entry) R C M)) → length ws ≡ length ks
+      → AllWorked r c m coming sent page limit (hired lock n ks) ws → All (λ (k : Kit R C M). r.IsSound k.door) ks → list_any has_failed ws ≡ false
+  none_failed lock n [] [] same all sound = refl
+  none_failed lock n [] (w ∷ ws) same all sound = absurd (omega (arith, same))
+  none_failed lock n (k ∷ ks) [] same all sound = absurd (omega (arith, same))
+  none_failed lock n (k ∷ ks) (w ∷ ws) same all sound =
+      let Sound : Kit R C M → Type 0 = λ (kit : Kit R C M). r.IsSound kit.door in
+      let one : Worked r c m coming sent page limit (seated lock n k) w = all 0 w (omega arith) in
+      let here : is_failed w.end ≡ false = not_failed w.end (one.1 (All-head Sound k ks sound)).0 in
+      ap (λ (b : Bool). b || list_any has_failed ws) here
+      ∙ none_failed lock (n + 1) ks ws (omega (arith, same)) (later_worked (seated lock n k) w (hired lock (n + 1) ks) ws all) (All-tail Sound k ks sound)
 
   -- the kits of workers that ended, and whether a call of a door failed
   kits_told : (ws : List (Worker (Standing T Entry) R C M))

@@ -1,8 +1,8 @@
 -- Kits that a house handed out and took back.
 use Rattle.std.proofs.Common.{◌≡◌, ◌⊎◌, inl, inr, ℕ, suc, ◌+◌, ◌-◌, ◌<◌, ◌≤◌, ◌^◌, ◌==◌, Bool, true, false, ◌||◌, if◌then◌else◌, List, [], ◌∷◌, ◌++◌, length, map, Option, Some, None, IfSome, Result, Ok, Err, refl, sym, ap, subst, ◌∙◌, append_assoc, append-nil, length-append, arith}
-use Rattle.std.specs.Prelude.{All, IfErr, IfOk, MatchBool}
+use Rattle.std.specs.Prelude.{◌≢◌, All, IfErr, IfOk, MatchBool}
 use Rattle.std.specs.List.{list_any}
-use Rattle.std.proofs.lemmas.Bool.{cases_lt}
+use Rattle.std.proofs.lemmas.Bool.{cases_lt, false≢true}
 use Rattle.std.proofs.lemmas.Bool.Decides.{nat_tests}
 use Rattle.std.proofs.lemmas.List.{length-map, map-append}
 use Rattle.std.proofs.lemmas.List.Elements.{All-head, All-map, All-tail}
@@ -21,7 +21,7 @@ use Rattle.shared_desk.specs.declared.serving.DoorEnd.TheVariants as door_end
 use Rattle.shared_desk.proofs.Refusing.{counted}
 use Rattle.web_messages.specs.declared.page.Page.{Page}
 use Rattle.desk_team.specs.Hostings.{AreAllOut, Hosts, IsFreshKit, Takes, TakesAll, Unserved, after_doors, after_makers, entries_in}
-use Rattle.desk_team.specs.Houses.{AreOut, Binds, HandsOut, HouseTold, TakesBack, after_door, after_maker, and_then, bound_once_more}
+use Rattle.desk_team.specs.Houses.{AreOut, Binds, HandsOut, HouseTold, IsFaultless, TakesBack, after_door, after_maker, and_first, and_then, bound_once_more}
 use Rattle.desk_team.specs.Teams.{AllServe, DoneTold, ServesTeam, is_failed}
 use Rattle.desk_team.specs.declared.hosting.HouseFault.{HouseFault}
 use Rattle.desk_team.specs.declared.hosting.HouseFault.TheVariants as house_fault
@@ -57,6 +57,14 @@ module _ {A : Type 0} where
   then_none None = refl
   then_none (Some l) = ap (λ (m : List A). Some m) (append-nil l)
 
+  first_more : (o : Option (List A)) (xs ys : List A) → and_first xs (and_first ys o) ≡ and_first (xs ++ ys) o
+  first_more None xs ys = refl
+  first_more (Some l) xs ys = ap (λ (m : List A). Some m) (sym (append_assoc xs ys l))
+
+  first_none : (o : Option (List A)) → o ≡ and_first [] o
+  first_none None = refl
+  first_none (Some l) = refl
+
   -- so many are out, by the two lists that are told
   abbrev Out : Option (List A) → Option (List A) → ℕ → Type 0
   Out given back n = IfSome given (λ g. IfSome back (λ b. length b + n ≤ length g))
@@ -64,6 +72,7 @@ module _ {A : Type 0} where
   -- no kit yet
   pub takes_none : (house : HouseTold A) → Takes house house []
   takes_none house = record {
+    came = first_none house.coming;
     given = sym (then_none house.given);
     order = λ some. absurd (omega (arith, some));
     back = refl;
@@ -81,6 +90,7 @@ module _ {A : Type 0} where
   pub takes_more : {E : Type 0} (old mid new : HouseTold A) (kits news : List A) (kit : A) → Takes old mid kits
       → HandsOut {E = E} mid new (Ok kit) → news ≡ kits ++ kit ∷ [] → Takes old new news
   takes_more old mid new kits news kit t h is = subst (λ (l : List A). Takes old new l) (sym is) (record {
+    came = t.came ∙ ap (λ (o : Option (List A)). and_first kits o) h.came ∙ first_more new.coming kits (kit ∷ []);
     given = h.given ∙ ap (λ (o : Option (List A)). and_then o (kit ∷ [])) t.given ∙ then_more old.given kits (kit ∷ []);
     order = λ some. first_order old mid kits t h.order;
     back = h.back ∙ t.back;
@@ -92,6 +102,7 @@ module _ {A : Type 0} where
   pub takes_stop : {E : Type 0} (old mid new : HouseTold A) (kits : List A) (failed : E) → Takes old mid kits
       → HandsOut {E = E} mid new (Err failed) → Takes old new kits
   takes_stop old mid new kits failed t h = record {
+    came = t.came ∙ ap (λ (o : Option (List A)). and_first kits o) (h.came ∙ sym (first_none new.coming));
     given = h.given ∙ then_none mid.given ∙ t.given;
     order = t.order;
     back = h.back ∙ t.back;
@@ -131,7 +142,7 @@ module _ {K : Type 0} where
 module _ {A K : Type 0} (tell : A → KitTold K) where
   -- no kit came back yet
   pub none_back : (house : HouseTold A) → TakesAll tell house house []
-  none_back house = record { back = sym (then_none house.back); faults = refl; refusals = refl; given = refl; bound = refl }
+  none_back house = record { back = sym (then_none house.back); faults = refl; refusals = refl; coming = refl; given = refl; bound = refl }
 
   -- one more came back
   pub one_back : (old mid new : HouseTold A) (kits : List A) (kit : A) → TakesAll tell old mid kits
@@ -150,6 +161,7 @@ module _ {A K : Type 0} (tell : A → KitTold K) where
             ∙ ap (after_makers old.refusals) (sym both);
         given = t.given ∙ p.given;
         bound = t.bound ∙ p.bound;
+        coming = t.coming ∙ p.coming;
       }
 
   -- the next one is out
@@ -297,8 +309,8 @@ module _ {A K D : Type 0} {g : Ghosts D} (tell : A → KitTold K) (coming sent :
   pub hosts_of : (opening last : Desk D g) (old mid new : HouseTold A) (kits kits_now : List A) (failed : Bool) (history : List (Entered Entry))
       → Takes old mid kits → length kits ≡ workers → mid.faults ≡ old.faults → All (λ (kit : A). IsFreshKit (tell kit)) kits
       → ServesTeam coming sent page limit opening (map tell kits) (map tell kits_now) failed history last → TakesAll tell mid new kits_now
-      → Hosts tell coming sent page workers limit old.bound opening old new failed history last
-  hosts_of opening last old mid new kits kits_now failed history t many same fresh team b =
+      → (IsFaultless old workers → failed ≡ false) → Hosts tell coming sent page workers limit old.bound opening old new failed history last
+  hosts_of opening last old mid new kits kits_now failed history t many same fresh team b sound =
       let olds = map tell kits in
       let done = team.done in
       let kit : DoneTold K → KitTold K = λ (d : DoneTold K). d.kit in
@@ -316,6 +328,7 @@ module _ {A K D : Type 0} {g : Ghosts D} (tell : A → KitTold K) (coming sent :
         kits_now = kits_now;
         many = many;
         fresh = fresh;
+        came = t.came ∙ ap (λ (o : Option (List A)). and_first kits o) (sym b.coming);
         given = b.given ∙ t.given;
         back = b.back ∙ ap (λ (o : Option (List A)). and_then o kits_now) t.back;
         team = team;
@@ -323,6 +336,7 @@ module _ {A K D : Type 0} {g : Ghosts D} (tell : A → KitTold K) (coming sent :
         faults = subst (λ (n : ℕ). MatchBool failed (Rose old.faults n) (n ≡ old.faults)) (sym faults)
             (subst (λ (f : Bool). MatchBool f (Rose old.faults (after_doors mid.faults (map kit done))) (after_doors mid.faults (map kit done) ≡ old.faults))
             (sym team.failed_is) doors);
+        sound = sound;
         refusals = subst (λ (n : ℕ). RoseBy old.refusals n (pattern_refusals (entries_in history))) (sym refusals)
             (subst (λ (n : ℕ). RoseBy old.refusals (after_makers mid.refusals (map kit done)) n) (sym all) makers);
       }
@@ -337,11 +351,13 @@ module _ {A K D : Type 0} {g : Ghosts D} (tell : A → KitTold K) (coming sent :
     kits_now = h.kits_now;
     many = h.many;
     fresh = h.fresh;
+    came = sym b.coming ∙ h.came;
     given = h.given ∙ ap (λ (o : Option (List A)). and_then o h.kits) b.given;
     back = h.back ∙ ap (λ (o : Option (List A)). and_then o h.kits_now) b.back;
     team = h.team;
     bound_is = h.bound_is ∙ b.bound;
     faults = subst (λ (n : ℕ). MatchBool failed (Rose n new.faults) (new.faults ≡ n)) b.cause.same h.faults;
+    sound = λ none. h.sound (subst (λ (n : ℕ). (0 < n) × (workers ≤ n)) (sym b.faultless) none);
     refusals = subst (λ (n : ℕ). RoseBy n new.refusals (pattern_refusals (entries_in history))) b.refusals h.refusals;
   }
 
@@ -349,15 +365,18 @@ module _ {A K : Type 0} (tell : A → KitTold K) where
   -- kits were handed out, and came back as they were
   pub unserved : (workers : ℕ) (old mid new : HouseTold A) (kits : List A) (fault : HouseFault) → length kits ≤ workers
       → (fault ≡ house_fault.Failed → (kits ≡ []) ⊎ (length kits < workers)) → Takes old mid kits → TakesAll tell mid new kits
-      → (fault ≡ house_fault.Failed → Rose old.faults new.faults) → Unserved workers old.bound old new fault
-  unserved workers old mid new kits fault few short t b cause = record {
+      → (fault ≡ house_fault.Failed → Rose old.faults new.faults)
+      → (IsFaultless old workers → (fault ≢ house_fault.Failed) × (new.faults ≡ old.faults)) → Unserved workers old.bound old new fault
+  unserved workers old mid new kits fault few short t b cause sound = record {
     kits = kits;
     few = few;
     short = short;
+    came = t.came ∙ ap (λ (o : Option (List A)). and_first kits o) (sym b.coming);
     given = b.given ∙ t.given;
     back = b.back ∙ ap (λ (o : Option (List A)). and_then o kits) t.back;
     bound_is = b.bound ∙ t.bound;
     cause = cause;
+    sound = sound;
   }
 
   -- no kit was handed out
@@ -367,10 +386,12 @@ module _ {A K : Type 0} (tell : A → KitTold K) where
     kits = [];
     few = omega arith;
     short = λ is. absurd (other is);
+    came = first_none house.coming;
     given = sym (then_none house.given);
     back = sym (then_none house.back);
     bound_is = refl;
     cause = λ is. absurd (other is);
+    sound = λ none. (other, refl);
   }
 
   -- no door of a kit that came back as it was has a fault
@@ -385,11 +406,12 @@ module _ {A K : Type 0} (tell : A → KitTold K) where
   -- not all kits were handed out, and those that were came back as they were
   pub unserved_some : (workers : ℕ) (old mid new : HouseTold A) (taken kits : List A) → length taken < workers → kits ≡ taken → Takes old mid taken
       → All (λ (kit : A). IsFreshKit (tell kit)) taken → Rose old.faults mid.faults → TakesAll tell mid new kits
-      → Unserved workers old.bound old new house_fault.Failed
-  unserved_some workers old mid new taken kits less is t fresh rose b =
+      → (workers ≤ old.faultless → ⊥) → Unserved workers old.bound old new house_fault.Failed
+  unserved_some workers old mid new taken kits less is t fresh rose b fails =
       let b' = subst (λ (l : List A). TakesAll tell mid new l) is b in
       let same : new.faults ≡ mid.faults = b'.faults ∙ still tell mid.faults taken fresh in
       unserved tell workers old mid new taken house_fault.Failed (omega (arith, less)) (λ failed. inr less) t b' (λ failed. subst (λ (n : ℕ). Rose old.faults n) (sym same) rose)
+      (λ none. absurd (fails none.1))
 
 module _ {A : Type 0} where
   -- after a bind
@@ -400,10 +422,14 @@ module _ {A : Type 0} where
     kits = u.kits;
     few = u.few;
     short = u.short;
+    came = sym b.coming ∙ u.came;
     given = u.given ∙ ap (λ (o : Option (List A)). and_then o u.kits) b.given;
     back = u.back ∙ ap (λ (o : Option (List A)). and_then o u.kits) b.back;
     bound_is = u.bound_is ∙ b.bound;
     cause = λ failed. subst (λ (n : ℕ). Rose n new.faults) b.cause.same (u.cause failed);
+    sound = λ none.
+        let so = u.sound (subst (λ (n : ℕ). (0 < n) × (workers ≤ n)) (sym b.faultless) none) in
+        (so.0, so.1 ∙ b.cause.same);
   }
 
   -- the bind failed
@@ -413,8 +439,10 @@ module _ {A : Type 0} where
     kits = [];
     few = omega arith;
     short = λ is. inl refl;
+    came = sym b.coming ∙ first_none new.coming;
     given = b.given ∙ sym (then_none old.given);
     back = b.back ∙ sym (then_none old.back);
     bound_is = b.bound;
     cause = λ is. b.cause.rose;
+    sound = λ none. absurd (false≢true (b.sound none.0));
   }

@@ -1,6 +1,6 @@
 -- What a house tells of its kits.
-use Rattle.std.specs.Prelude.{◌≡◌, ℕ, ◌+◌, ◌-◌, ◌^◌, ◌≤◌, min, List, [], ◌∷◌, ◌++◌, ◌==◌, if◌then◌else◌, length, map, Option, None, Some, IfSome, Result, Ok, Err}
-use Rattle.std.specs.List.{sum_by}
+use Rattle.std.specs.Prelude.{◌≡◌, ℕ, ◌+◌, ◌-◌, ◌^◌, ◌<◌, ◌≤◌, Bool, min, List, [], ◌∷◌, ◌++◌, ◌==◌, if◌then◌else◌, length, map, Option, None, Some, IfSome, IsOk, Result, Ok, Err}
+use Rattle.std.specs.List.{prefix_len, sum_by}
 use Rattle.std.specs.Option.{option_map}
 use Rattle.std.specs.declared.snapshot.Snapshot.{Snapshot}
 use Rattle.hl_base.specs.Causes.{HasCause}
@@ -25,12 +25,15 @@ not_bound = bound_of 0 None
 abbrev pub bound_once_more : Bound → List ℕ → ℕ → Bound
 bound_once_more before host port = bound_of (one_more before.times) (Some (host, port))
 
--- What a house tells: the kits that it handed out, in order, and those that came back, each at the place at which it was handed
--- out, where it tells them; its binds; the binds and workers that failed and the doors that came back with a fault; and the
--- patterns that the makers of the kits that came back refused.
+-- What a house tells: the kits that are still to come, those that it handed out, and those that came back, each at the place at
+-- which it was handed out, in order, where it tells them; how many more it hands out before any call of the house or of a door
+-- of theirs may fail; its binds; the binds and workers that failed and the doors that came back with a fault; and the patterns
+-- that the makers of the kits that came back refused.
 pub record HouseTold (A : Type 0) : Type 0 where
+  pub coming : Option (List A)
   pub given : Option (List A)
   pub back : Option (List A)
+  pub faultless : ℕ
   pub bound : Bound
   pub faults : ℕ
   pub refusals : ℕ
@@ -38,6 +41,10 @@ pub record HouseTold (A : Type 0) : Type 0 where
 -- a list that is told, with more at its end
 abbrev pub and_then : {A : Type 0} → Option (List A) → List A → Option (List A)
 and_then told more = option_map (λ before. before ++ more) told
+
+-- a list that is told, with these before it
+abbrev pub and_first : {A : Type 0} → List A → Option (List A) → Option (List A)
+and_first first told = option_map (λ rest. first ++ rest) told
 
 -- the kits that came, if one did
 abbrev pub kits_in : {A E : Type 0} → Result A E → List A
@@ -61,18 +68,28 @@ module _ {A : Type 0} where
   abbrev pub IsOneOut : HouseTold A → Type 0
   IsOneOut house = AreOut house 1
 
+  -- No call fails before so many workers have served: neither a bind nor a worker, nor a call of their doors.
+  abbrev pub IsFaultless : HouseTold A → ℕ → Type 0
+  IsFaultless house workers = (0 < house.faultless) × (workers ≤ house.faultless)
+
   -- The house was asked to bind, and so it answered.
   pub record Binds {T E : Type 0} (old new : HouseTold A) (host : List ℕ) (port : ℕ) (result : Result T E) : Type 0 where
     pub bound : new.bound ≡ bound_once_more old.bound host port
     pub cause : HasCause old.faults new.faults result
+    pub sound : 0 < old.faultless → IsOk result
+    pub faultless : new.faultless ≡ old.faultless
+    pub coming : new.coming ≡ old.coming
     pub given : new.given ≡ old.given
     pub back : new.back ≡ old.back
     pub refusals : new.refusals ≡ old.refusals
 
-  -- The house was asked for a kit, and so it answered; no more kits had come back than were handed out.
+  -- The house was asked for a kit, and so it answered: with the first of those that were to come; no more kits had come back than
+  -- were handed out.
   pub record HandsOut {E : Type 0} (old new : HouseTold A) (result : Result A E) : Type 0 where
+    pub came : old.coming ≡ and_first (kits_in result) new.coming
     pub given : new.given ≡ and_then old.given (kits_in result)
     pub cause : HasCause old.faults new.faults result
+    pub sound : 0 < old.faultless → IsOk result × (old.faultless ≡ new.faultless + 1)
     pub order : AreOut old 0
     pub back : new.back ≡ old.back
     pub bound : new.bound ≡ old.bound
@@ -83,6 +100,8 @@ module _ {A : Type 0} where
     pub back : new.back ≡ and_then old.back (kit ∷ [])
     pub faults : new.faults ≡ after_door old.faults door_faults
     pub refusals : new.refusals ≡ after_maker old.refusals refused
+    pub faultless : new.faultless ≡ old.faultless
+    pub coming : new.coming ≡ old.coming
     pub given : new.given ≡ old.given
     pub bound : new.bound ≡ old.bound
 
@@ -102,11 +121,22 @@ pub record IsNew (door : MemDoor) (refusals : ℕ) : Type 0 where
 abbrev pub values_of : {A : Type 0} → List (Snapshot A) → List A
 values_of snapshots = map (λ snapshot. snapshot.value) snapshots
 
--- what a house in memory tells, by the kits that it handed out, those that came back, its binds and its faults
-abbrev pub mem_told : {A : Type 0} → (A → ℕ) → List (Snapshot A) → List A → Bound → ℕ → HouseTold A
-mem_told refusals made back bound faults = record {
+-- no call of a door in memory is to fail
+abbrev pub is_sound : MemDoor → Bool
+is_sound door = length door.fails.items == 0
+
+-- how many kits a house in memory hands out before a call may fail, by its calls that are to fail and the kits that are to come
+abbrev pub mem_faultless : {A : Type 0} → (A → Bool) → List ℕ → List A → ℕ
+mem_faultless sound fails coming = if length fails == 0 then prefix_len sound coming else 0
+
+-- what a house in memory tells, by the kits that are to come, those that it handed out and those that came back, its calls that
+-- are to fail, its binds and its faults
+abbrev pub mem_told : {A : Type 0} → (A → Bool) → (A → ℕ) → List A → List (Snapshot A) → List A → List ℕ → Bound → ℕ → HouseTold A
+mem_told sound refusals coming made back fails bound faults = record {
+  coming = Some coming;
   given = Some (values_of made);
   back = Some back;
+  faultless = mem_faultless sound fails coming;
   bound = bound;
   faults = faults;
   refusals = min (sum_by refusals back) (2 ^ 64 - 1);

@@ -13,7 +13,7 @@ use Rattle.turn_lock.specs.declared.known.Member.{Member}
 use Rattle.desk.specs.declared.desk.Desk.{Desk}
 use Rattle.desk.specs.Entries.{Entry}
 use Rattle.shared_desk.specs.Histories.{IsLegal}
-use Rattle.shared_desk.specs.Stays.{AreServed, AskedWith, EndsDoor, KitTold, ServesDoor, Stay, kit_told, runs_of}
+use Rattle.shared_desk.specs.Stays.{AreServed, AskedWith, EndsDoor, KitTold, ServesDoor, Stay, StaysSound, kit_told, runs_of}
 use Rattle.shared_desk.specs.declared.kit.Kit.{Kit}
 use Rattle.shared_desk.specs.declared.serving.DoorEnd.{DoorEnd}
 use Rattle.shared_desk.specs.declared.serving.DoorEnd.TheVariants as door_end
@@ -30,9 +30,11 @@ abbrev pub told_of : {R K C M : Type 0} → Doors R K → Clocks C → Makers M 
 told_of r c m kits = map (λ kit. kit_told r c m kit) kits
 
 module _ {T R K C M : Type 0} (r : Doors R K) (c : Clocks C) (m : Makers M) (coming sent : K → Option (List ℕ)) (page : Page) where
-  -- a worker served its door up to so many links
+  -- a worker served its door up to so many links, and no call of it failed where none was to
   abbrev pub Worked : ℕ → Worker (Standing T Entry) R C M → Worker (Standing T Entry) R C M → Type 0
-  Worked limit old new = ServesDoor coming sent page limit new.end (kit_told r c m old.kit) (kit_told r c m new.kit) old.pass new.pass
+  Worked limit old new =
+      ServesDoor coming sent page limit new.end (kit_told r c m old.kit) (kit_told r c m new.kit) old.pass new.pass
+      × StaysSound (r.IsSound old.kit.door) (r.IsSound new.kit.door) new.end
 
   -- each of some workers did
   abbrev pub AllWorked : ℕ → List (Worker (Standing T Entry) R C M) → List (Worker (Standing T Entry) R C M) → Type 0

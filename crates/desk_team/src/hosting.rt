@@ -1,5 +1,5 @@
 //! A journal that is served at the doors of a house.
-ghost use Rattle.std.specs.Prelude.{◌≡◌, ◌≤◌, ◌<◌, [], All, IfOk, IfErr, List, MatchBool, length, map, vec_capacity};
+ghost use Rattle.std.specs.Prelude.{◌≡◌, ◌≤◌, ◌<◌, true, false, [], All, IfOk, IfErr, List, MatchBool, length, map, vec_capacity};
 ghost use Rattle.hl_base.specs.Causes.{Rose};
 ghost use Rattle.shared_desk.specs.Stays.{kit_told};
 ghost use Rattle.shared_desk.specs.declared.kit.Kit.{Kit};
@@ -65,6 +65,8 @@ fn take_kits<H: House>(
         ((length result.0.items ≡ count) × ((H.told house.new).faults ≡ (H.told house.old).faults))
         ((length result.0.items < count)
         × Rose (H.told house.old).faults (H.told house.new).faults) }
+    ensures sound { count ≤ (H.told house.old).faultless
+        → (result.1 ≡ true) × All (λ kit. H.Door.IsSound kit.door) result.0.items }
 {
     for _taken in 0..count {
         match house.worker() {
@@ -126,6 +128,8 @@ fn serve_kits<H: House, D: Disk + Send, W: Threads + Wait + Sync>(
         hosted.pass.seen hosted.desk
         × TakesAll (kit_told H.Door.Door H.Clock.Clock H.Maker.Maker) (H.told house.old)
         (H.told house.new) kits_now) }
+    ensures sound { All (λ kit. H.Door.IsSound kit.door) kits
+        → IfOk result (λ hosted. hosted.failed ≡ false) }
     ensures unserved { IfErr result (λ left. (left ≡ desk)
         × TakesAll (kit_told H.Door.Door H.Clock.Clock H.Maker.Maker) (H.told house.old)
         (H.told house.new) kits) }

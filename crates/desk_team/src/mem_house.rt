@@ -1,7 +1,7 @@
 //! A house in memory, which fails where it is told to.
-ghost use Rattle.std.specs.Prelude.{◌≡◌, ◌≤◌, ◌+◌, [], Some, All, IfOk, length, vec_capacity};
+ghost use Rattle.std.specs.Prelude.{◌≡◌, ◌≤◌, ◌<◌, ◌+◌, [], Some, All, IfOk, IsOk, length, vec_capacity};
 ghost use Rattle.hl_base.specs.Causes.{HasCause, Rose};
-ghost use Rattle.desk_team.specs.Houses.{IsNew, after_door, not_bound};
+ghost use Rattle.desk_team.specs.Houses.{IsNew, after_door, is_sound, mem_faultless, not_bound};
 
 use crate::house::House;
 use hl_base::{Failed, List, MemClock, MemDoor, Memory, Text};
@@ -24,13 +24,16 @@ impl Calls {
     fn fail(&mut self)
         ensures later { self.old.faults ≤ self.new.faults }
         ensures rose { Rose self.old.faults self.new.faults }
+        ensures same { self.new.fails ≡ self.old.fails }
     {
         self.faults = self.faults.saturating_add(1);
     }
 
     /// Counts the next call, and fails where it is to.
     fn next(&mut self) -> Result<(), Failed>
-        ensures { HasCause self.old.faults self.new.faults result }
+        ensures cause { HasCause self.old.faults self.new.faults result }
+        ensures sound { self.old.fails.items ≡ [] → IsOk result }
+        ensures same { self.new.fails ≡ self.old.fails }
     {
         self.count = self.count.saturating_add(1);
         if self.fails.contains(&self.count) {
@@ -42,7 +45,8 @@ impl Calls {
 
     /// Counts a door that came back with so many faults.
     fn take_door(&mut self, faults: u64)
-        ensures { self.new.faults ≡ after_door self.old.faults faults }
+        ensures faults { self.new.faults ≡ after_door self.old.faults faults }
+        ensures same { self.new.fails ≡ self.old.fails }
     {
         if faults != 0 {
             self.faults = self.faults.saturating_add(1);
@@ -74,11 +78,12 @@ impl<M: Maker + Drop + Send> MemHouse<M> {
         fails: &[u64],
     ) -> Result<MemHouse<M>, Memory>
         requires { All (λ kit. IsNew kit.door (M.refusals kit.maker)) kits }
-        ensures coming { IfOk result (λ house. house.coming.items ≡ kits) }
         ensures told { IfOk result (λ house. ⟦<MemHouse<M> as House>⟧.told house
             ≡ record {
+              coming = Some kits;
               given = Some [];
               back = Some [];
+              faultless = mem_faultless (λ kit. is_sound kit.door) fails.now kits;
               bound = not_bound;
               faults = 0;
               refusals = 0;
@@ -111,17 +116,21 @@ impl<M: Maker + Drop + Send> MemHouse<M> {
 }
 
 impl<M: Maker> MemHouse<M> {
-    ghost use Rattle.desk_team.specs.Houses.{HandsOut, bound_of, mem_told};
+    ghost use Rattle.desk_team.specs.Houses.{HandsOut, bound_of, is_sound, mem_told};
 
     /// Hands out the next kit, if one is left.
     fn hand_out(&mut self) -> Result<Kit<MemDoor, MemClock, M>, Failed>
         ensures hands_out { HandsOut
-            (mem_told (λ kit. M.refusals kit.maker) self.old.made.items self.old.back.items
+            (mem_told (λ kit. is_sound kit.door) (λ kit. M.refusals kit.maker)
+            self.old.coming.items self.old.made.items self.old.back.items self.old.calls.fails.items
             (bound_of self.old.binds self.old.last) self.old.calls.faults)
-            (mem_told (λ kit. M.refusals kit.maker) self.new.made.items self.new.back.items
+            (mem_told (λ kit. is_sound kit.door) (λ kit. M.refusals kit.maker)
+            self.new.coming.items self.new.made.items self.new.back.items self.new.calls.fails.items
             (bound_of self.new.binds self.new.last) self.new.calls.faults)
             result }
         ensures fresh { IfOk result (λ kit. IsNew kit.door (M.refusals kit.maker)) }
+        ensures sound { 0 < mem_faultless (λ kit. is_sound kit.door) self.old.calls.fails.items
+            self.old.coming.items → IfOk result (λ kit. kit.door.fails.items ≡ []) }
     {
         match self.coming.pop_front() {
             Some(kit) => {
@@ -143,9 +152,10 @@ impl<M: Maker + Drop + Send> House for MemHouse<M> {
 
     type Maker = M;
 
-    ghost use Rattle.desk_team.specs.Houses.{IsOneOut, TakesBack, bound_of, mem_told};
+    ghost use Rattle.desk_team.specs.Houses.{IsOneOut, TakesBack, bound_of, is_sound, mem_told};
 
-    ghost told = { λ h. mem_told (λ kit. M.refusals kit.maker) h.made.items h.back.items
+    ghost told = { λ h. mem_told (λ kit. is_sound kit.door) (λ kit. M.refusals kit.maker)
+        h.coming.items h.made.items h.back.items h.calls.fails.items
         (bound_of h.binds h.last) h.calls.faults };
 
     fn bind(&mut self, host: Text, port: u16) -> Result<(), Failed> {
@@ -162,13 +172,15 @@ impl<M: Maker + Drop + Send> House for MemHouse<M> {
     }
 
     fn give_back(&mut self, kit: Kit<MemDoor, MemClock, M>)
-        requires { IsOneOut (mem_told (λ kit. M.refusals kit.maker)
-            self.old.made.items self.old.back.items (bound_of self.old.binds self.old.last)
-            self.old.calls.faults) }
+        requires { IsOneOut (mem_told (λ kit. is_sound kit.door) (λ kit. M.refusals kit.maker)
+            self.old.coming.items self.old.made.items self.old.back.items self.old.calls.fails.items
+            (bound_of self.old.binds self.old.last) self.old.calls.faults) }
         ensures { TakesBack
-            (mem_told (λ kit. M.refusals kit.maker) self.old.made.items self.old.back.items
+            (mem_told (λ kit. is_sound kit.door) (λ kit. M.refusals kit.maker)
+            self.old.coming.items self.old.made.items self.old.back.items self.old.calls.fails.items
             (bound_of self.old.binds self.old.last) self.old.calls.faults)
-            (mem_told (λ kit. M.refusals kit.maker) self.new.made.items self.new.back.items
+            (mem_told (λ kit. is_sound kit.door) (λ kit. M.refusals kit.maker)
+            self.new.coming.items self.new.made.items self.new.back.items self.new.calls.fails.items
             (bound_of self.new.binds self.new.last) self.new.calls.faults)
             kit kit.door.faults (M.refusals kit.maker) }
     {

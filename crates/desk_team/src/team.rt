@@ -1,5 +1,5 @@
 //! A team of workers that serves one journal, and the history that its lock gives when it is closed.
-ghost use Rattle.std.specs.Prelude.{◌≡◌, ◌≤◌, ◌++◌, [], All, IfOk, IfErr, length, map, vec_capacity};
+ghost use Rattle.std.specs.Prelude.{◌≡◌, ◌≤◌, ◌++◌, false, [], All, IfOk, IfErr, length, map, vec_capacity};
 ghost use Rattle.std.specs.List.{list_any};
 ghost use Rattle.desk_team.specs.Teams.{ServesTeam, has_failed, hired, member_of, told_of};
 ghost use Rattle.turn_lock.specs.Passes.{IsFirst, IsFree, first_pass};
@@ -100,9 +100,10 @@ fn serve_under<
     requires done { lock.0.done ≡ 0 }
     requires none { (rooms.0.items ≡ []) × (rooms.1.items ≡ []) }
     requires room { (length kits ≤ vec_capacity rooms.0) × (length kits ≤ vec_capacity rooms.1) }
-    ensures { ServesTeam R.Link.coming R.Link.sent page.now limit lock.0.opening.desk
+    ensures served { ServesTeam R.Link.coming R.Link.sent page.now limit lock.0.opening.desk
         (told_of R.Door C.Clock M.Maker kits)
         (told_of R.Door C.Clock M.Maker result.kits) result.failed result.pass.seen result.desk }
+    ensures sound { All (λ kit. R.IsSound kit.door) kits → result.failed ≡ false }
 {
     let (turn, mut first) = lock;
     let (workers, done) = rooms;
@@ -120,7 +121,7 @@ fn serve_under<
 
 /// Serves a journal with as many workers as there are kits, at the same time, each at its own door and up to so many
 /// links, until all have ended. All of them show the page, if there is one. Where memory runs out before the first link,
-/// the machine and the kits come back as they were.
+/// the machine and the kits come back as they were. Where no call of a door is to fail, none is reported as failed.
 pub fn serve_all<
     D: Disk + Send,
     W: Threads + Wait + Sync,
@@ -139,6 +140,8 @@ pub fn serve_all<
         ServesTeam R.Link.coming R.Link.sent page.now limit desk
         (told_of R.Door C.Clock M.Maker kits)
         (told_of R.Door C.Clock M.Maker closed.kits) closed.failed closed.pass.seen closed.desk) }
+    ensures sound { All (λ kit. R.IsSound kit.door) kits
+        → IfOk result (λ closed. closed.failed ≡ false) }
     ensures back { IfErr result (λ refusal. (refusal.0 ≡ desk) × (refusal.1 ≡ kits)) }
 {
     let count = kits.len();

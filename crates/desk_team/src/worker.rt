@@ -1,7 +1,7 @@
 //! Workers, each at its own door.
 ghost use Rattle.std.specs.Prelude.{◌≡◌, ◌||◌, All, length};
 ghost use Rattle.desk_team.specs.Teams.{AllWorked, Worked, is_failed};
-ghost use Rattle.shared_desk.specs.Stays.{ServesDoor, kit_told};
+ghost use Rattle.shared_desk.specs.Stays.{ServesDoor, StaysSound, kit_told};
 ghost use Rattle.turn_lock.specs.Passes.{IsFree};
 
 use hl_base::{Clock, Disk, Door, Steps};
@@ -55,9 +55,10 @@ fn serve_counted<D: Disk, W: Wait, R: Door, C: Clock, M: Maker, L: Ledger>(
     requires name { blank.name ≡ L.name }
     requires parts { blank.parts ≡ L.parts }
     requires three { blank.parts ≡ 3 }
-    ensures { ServesDoor R.Link.coming R.Link.sent page.now limit result
+    ensures served { ServesDoor R.Link.coming R.Link.sent page.now limit result
         (kit_told R.Door C.Clock M.Maker kit.old)
         (kit_told R.Door C.Clock M.Maker kit.new) pass.old pass.new }
+    ensures sound { StaysSound (R.IsSound kit.old.door) (R.IsSound kit.new.door) result }
 {
     let mut steps = Steps::<L>::start(blank);
     serve_door(rt, alloc, page, turn, pass, kit, limit, &mut steps)

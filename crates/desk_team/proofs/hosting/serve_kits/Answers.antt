@@ -1,4 +1,4 @@
-use Rattle.std.proofs.Common.{sym, subst}
+use Rattle.std.proofs.Common.{sym, subst, ◌∙◌}
 use Rattle.shared_desk.specs.Stays.{kit_told}
 use Rattle.desk_team.specs.Hostings.{AreAllOut, TakesAll}
 use Rattle.desk_team.proofs.Takings.{served_as, still_out}
@@ -27,6 +27,9 @@ returns-in-Ok-clause-served g c =
           closed.failed hosted.failed c.conclude.ensures.desk c.conclude.ensures.pass c.conclude.ensures.failed c.in-Ok.ensures.served,
       c.conclude.ensures.back,
     )
+
+pub returns-in-Ok-clause-sound : goal.returns-in-Ok-clause-sound
+returns-in-Ok-clause-sound g c = λ sound. c.conclude.ensures.failed ∙ c.in-Ok.ensures.sound sound
 
 pub returns-in-Err-clause-unserved : goal.returns-in-Err-clause-unserved
 returns-in-Err-clause-unserved g c =

@@ -1,5 +1,6 @@
-use Rattle.std.proofs.Common.{◌≡◌, ℕ, [], ◌∷◌, ◌+◌, length, refl, sym, ap, subst, ◌∙◌, length-append, arith}
+use Rattle.std.proofs.Common.{◌≡◌, ◌<◌, ℕ, [], ◌∷◌, ◌+◌, length, refl, sym, ap, subst, ◌∙◌, length-append, arith}
 use Rattle.std.specs.Prelude.{All}
+use Rattle.std.proofs.lemmas.Bool.{false≢true}
 use Rattle.std.proofs.lemmas.List.Elements.{All-nil, All-push}
 use Rattle.hl_base.specs.Causes.{Rose}
 use Rattle.shared_desk.specs.Stays.{kit_told}
@@ -18,6 +19,7 @@ loop-taken-init g c =
       faults = refl;
       fresh = subst (λ kits. All fresh kits) (sym none) (All-nil fresh);
       room = refl;
+      sound = λ most. (omega arith, subst (All (λ kit. g.H.Door.Door.IsSound kit.door)) (sym none) (All-nil (λ kit. g.H.Door.Door.IsSound kit.door)));
     }
 
 pub push_reserved-requires : goal.push_reserved-requires
@@ -40,6 +42,14 @@ loop-taken-preserved g c =
       faults = one.hands_out.cause.same ∙ kept.faults;
       fresh = subst (λ kits. All fresh kits) (sym pushed) (All-push fresh c.loop-taken.kits.items c.in-Ok.kit kept.fresh one.fresh);
       room = c.push_reserved.ensures.capacity ∙ kept.room;
+      sound = λ most.
+          let so = kept.sound most in
+          let some : 0 < mid.faultless = omega (arith, so.0, most) in
+          let left = (one.hands_out.sound some).1 in (
+            omega (arith, so.0, left),
+            subst (All (λ kit. g.H.Door.Door.IsSound kit.door)) (sym pushed)
+                (All-push (λ kit. g.H.Door.Door.IsSound kit.door) c.loop-taken.kits.items c.in-Ok.kit so.1 (one.sound some)),
+          );
     }
 
 pub returns-in-Err : goal.returns-in-Err
@@ -53,10 +63,13 @@ returns-in-Err g c =
       takes = takes_stop old mid new c.loop-taken.kits.items _ kept.takes one.hands_out;
       fresh = kept.fresh;
       whole = (omega (arith, kept.many), subst (λ n. Rose n new.faults) kept.faults one.hands_out.cause.rose);
+      sound = λ most.
+          let some : 0 < mid.faultless = omega (arith, (kept.sound most).0, most) in
+          absurd (false≢true (one.hands_out.sound some).0);
     }
 
 pub returns : goal.returns
 returns g c =
     let kept = c.loop-taken.invariant in
     let all : c.loop-taken._taken ≡ c.args.count = omega arith in
-    record { takes = kept.takes; fresh = kept.fresh; whole = (kept.many ∙ all, kept.faults) }
+    record { takes = kept.takes; fresh = kept.fresh; whole = (kept.many ∙ all, kept.faults); sound = λ most. (refl, (kept.sound most).1) }

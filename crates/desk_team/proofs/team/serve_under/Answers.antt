@@ -1,7 +1,7 @@
 use Rattle.std.proofs.Common.{◌++◌, length, map, refl, sym, ap, subst, ◌∙◌, arith}
 use Rattle.std.specs.Prelude.{All}
 use Rattle.desk_team.specs.Teams.{AllWorked, hired, member_of}
-use Rattle.desk_team.proofs.Joining.{SawNoMore, hired-length, members-length, team_served}
+use Rattle.desk_team.proofs.Joining.{SawNoMore, hired-length, members-length, none_failed, team_served}
 use Rattle.desk_team.proofs.team.serve_under.Goals as goal
 
 pub dismiss-kits-requires-clause-room : goal.dismiss-kits-requires-clause-room
@@ -17,8 +17,8 @@ close-desk-requires-clause-all g c κs within =
     let joined = c.dismiss-kits.ensures.joined ∙ ap (λ p. p.joined ++ map member_of news) first in
     omega (arith, made, ap length joined, members-length news (map member_of news) refl, c.work_all.ensures.many, ap length c.hire-workers.ensures.hired, hired-length c.args.lock.0 0 kits)
 
-pub returns : goal.returns
-returns g c =
+pub returns-clause-served : goal.returns-clause-served
+returns-clause-served g c =
     let link = g.R.Link.Link in
     let lock = c.args.lock.0 in
     let kits = c.args.kits in
@@ -36,3 +36,16 @@ returns g c =
     team_served g.R.Door g.C.Clock g.M.Maker link.coming link.sent c.args.page.now c.args.limit lock lock.opening.desk closed.0.desk closed.1.seen kits news
     done.result.0 done.result.1 closed.1.mine closed.1.joined done.ensures.kits done.ensures.failed
     many all mine joined c.close-desk.ensures.led c.close-desk.ensures.whole c.requires.done seen
+
+pub returns-clause-sound : goal.returns-clause-sound
+returns-clause-sound g c =
+    let link = g.R.Link.Link in
+    let lock = c.args.lock.0 in
+    let kits = c.args.kits in
+    let news = c.work_all.new.workers.items in
+    let hired_are = c.hire-workers.ensures.hired in
+    let many = c.work_all.ensures.many ∙ ap length hired_are ∙ hired-length lock 0 kits in
+    let all = subst (λ olds. AllWorked g.R.Door g.C.Clock g.M.Maker link.coming link.sent c.args.page.now c.args.limit olds news) hired_are c.work_all.ensures.worked in
+    λ sound.
+    c.dismiss-kits.ensures.failed
+    ∙ none_failed g.R.Door g.C.Clock g.M.Maker link.coming link.sent c.args.page.now c.args.limit lock 0 kits news many all sound
