@@ -1,8 +1,10 @@
 -- How a run of `serve` ends.
-use Rattle.std.proofs.Common.{◌≡◌, ◌⊎◌, ◌∙◌, inl, inr, ℕ, Bool, true, false, List, Option, Some, IfSome, Result, Ok, Err, refl, sym, ap, ap₂, subst}
+use Rattle.std.proofs.Common.{◌≡◌, ◌⊎◌, ◌∙◌, inl, inr, ℕ, ◌-◌, ◌^◌, ◌<◌, Bool, true, false, List, Option, Some, IfSome, Result, Ok, Err, refl, sym, ap, ap₂, subst, arith}
+use Rattle.std.specs.Prelude.{MatchBool}
 use Rattle.std.proofs.lemmas.Bool.{false≢true}
 use Rattle.hl_base.specs.Causes.{Rose}
 use Rattle.hl_base.specs.declared.disk.Disk.{Ghosts as Disks}
+use Rattle.hl_base.specs.declared.outside.Sink.{Ghosts as Outputs}
 use Rattle.hl_base.specs.declared.shelf.Shelf.{Ghosts as Shelves}
 use Rattle.refusals.specs.Errors.{usage_line}
 use Rattle.refusals.specs.Refusing.{Refuses}
@@ -14,7 +16,7 @@ use Rattle.desk.specs.Desks.{state_of}
 use Rattle.desk.specs.Entries.{Entry}
 use Rattle.shared_desk.specs.Histories.{IsLegal, Loads}
 use Rattle.shared_desk.specs.Stays.{KitTold}
-use Rattle.desk_team.specs.Houses.{HouseTold}
+use Rattle.desk_team.specs.Houses.{HouseTold, IsFaultless}
 use Rattle.serve_commands.specs.Answering.{IsComplete, IsMemory, post_of}
 use Rattle.serve_commands.specs.Stores.{IsUnopened, ServesStore}
 use Rattle.serve_commands.specs.declared.answer.Ended.{Ended}
@@ -25,7 +27,7 @@ use Rattle.serve_commands.specs.declared.outcome.Unserved.TheVariants as unserve
 use Rattle.serve_commands.specs.declared.store.Post.{Post}
 use Rattle.command_line.specs.Answers.{Says, line_of, status_of}
 use Rattle.command_line.specs.Complete.{IsDone}
-use Rattle.serve_line.specs.Runs.{AnswersAll, AnswersEach, AnswersOrMemory, AnswersServe, CompletesServe, EndsServe, IsEnd, WasntOpened, IsWritten, NoneFailed, ServesSite, Sinks, door_fault_line}
+use Rattle.serve_line.specs.Runs.{AnswersAll, AnswersEach, AnswersOrMemory, AnswersServe, CompletesServe, CompletesSurely, CountsNone, EndsServe, EndsSoundly, HasRoomFor, IsEnd, WasntOpened, IsWritten, NoneFailed, ServesSite, Sinks, door_fault_line, end_status}
 use Rattle.serve_line.specs.Words.{no_reading_cause}
 use Rattle.web_messages.specs.declared.page.Page.{Page}
 use Rattle.serve_line.specs.declared.program.Site.{Site}
@@ -140,3 +142,78 @@ module _ {J O E S D M H A K : Type 0} (s : Shelves S D) (g : Disks D) (tell : A 
   completes (Ok asked) status before now answer h ends = λ quiet none.
       served_done status before now none s g tell coming sent told asked old new answer h quiet ends
   completes (Err u) status before now answer h ends = tt
+
+-- ---- where nothing was to fail
+
+not_risen : (before now : ℕ) → now ≡ before → before < 2 ^ 64 - 1 → Rose before now → ⊥
+not_risen before now same small (inl less) = omega (arith, same, less)
+not_risen before now same small (inr last) = omega (arith, same, small, last)
+
+refused_surely : (status : ℕ) (x : Refusal) → IsMemory x → status ≡ status_of x → IsDone status
+refused_surely status refusal.Memory memory is = inr is
+refused_surely status (refusal.Line own line) memory is = inr (is ∙ memory)
+refused_surely status (refusal.Pattern what line) memory is = absurd memory
+refused_surely status refusal.ReadFault memory is = absurd memory
+refused_surely status refusal.DiskFault memory is = absurd memory
+
+module _ {J O E S D M H A K : Type 0} (s : Shelves S D) (g : Disks D) (tell : A → KitTold K) (coming sent : K → Option (List ℕ))
+    (told : H → HouseTold A) (asked : Asked) (old new : Site J O E S M H) where
+  abbrev Held : Result Tally Unserved → Type 0
+  Held served = ServesStore s g asked.store tell coming sent asked.page (post_of asked) old.outside.shelf new.outside.shelf
+      (told old.house) (told new.house) served
+
+  -- a house without faults counts none, whether the store was served or not
+  held_quiet : (served : Result Tally Unserved) → Held served → IsFaultless (told old.house) asked.crew.workers
+      → (told new.house).faults ≡ (told old.house).faults
+  held_quiet (Ok tally) serves none =
+      let same : Type 0 = (told new.house).faults ≡ (told old.house).faults in
+      subst (λ (failed : Bool). MatchBool failed (Rose (told old.house).faults (told new.house).faults) same) (serves.hosts.sound none) serves.hosts.faults
+  held_quiet (Err (unserved.House fault)) serves none = (serves.hosting.sound none).1
+  held_quiet (Err (unserved.Store e)) serves none = ap (λ (house : HouseTold A). house.faults) serves.not_asked
+
+  counts_none : (answer : Result Ended Refusal) → AnswersOrMemory s g tell coming sent told (Ok asked) old new answer
+      → IsFaultless (told old.house) asked.crew.workers → (told new.house).faults ≡ (told old.house).faults
+  counts_none answer (inl h) none = held_quiet h.serves.served h.serves.serves none
+  counts_none answer (inr h) none = ap (λ (site : Site J O E S M H). (told site.house).faults) h.1
+
+  module _ (o : Outputs O) (e : Outputs E) (out : O) (err : E) (status : ℕ) where
+    abbrev Surely : Type 0
+    Surely = IsDone status ⊎ WasntOpened s g tell coming sent told asked old new
+
+    said_surely : (said : Ended) → said.failed ≡ false → EndsSoundly o e out err (Ok said) status → HasRoomFor o e out err (Ok said) → IsDone status
+    said_surely said well soundly room =
+        inl (soundly room (λ is. absurd (false≢true (sym well ∙ is))) ∙ ap end_status well)
+
+    held_surely : (served : Result Tally Unserved) (answer : Result Ended Refusal) → Held served → IsComplete served answer
+        → EndsSoundly o e out err answer status → HasRoomFor o e out err answer → Surely
+    held_surely (Err (unserved.Store x)) answer serves complete soundly room = inr (x, serves)
+    held_surely (Ok tally) (Ok said) serves complete soundly room = inl (said_surely said complete soundly room)
+    held_surely (Ok tally) (Err x) serves complete soundly room = inl (refused_surely status x complete (soundly room))
+    held_surely (Err (unserved.House fault)) (Ok said) serves complete soundly room = inl (said_surely said complete soundly room)
+    held_surely (Err (unserved.House fault)) (Err x) serves complete soundly room = inl (refused_surely status x complete (soundly room))
+
+    asked_surely : (answer : Result Ended Refusal) → AnswersOrMemory s g tell coming sent told (Ok asked) old new answer
+        → IsFaultless (told old.house) asked.crew.workers → (told old.house).faults < 2 ^ 64 - 1
+        → EndsSoundly o e out err answer status → HasRoomFor o e out err answer → Surely
+    asked_surely answer (inl h) none small soundly room =
+        let same = held_quiet h.serves.served h.serves.serves none in
+        held_surely h.serves.served answer h.serves.serves (h.serves.complete (not_risen (told old.house).faults (told new.house).faults same small))
+        soundly room
+    asked_surely answer (inr h) none small soundly room =
+        let memory : Result Ended Refusal = Err refusal.Memory in
+        let ends : EndsSoundly o e out err memory status = subst (λ (r : Result Ended Refusal). EndsSoundly o e out err r status) h.0 soundly in
+        inl (refused_surely status refusal.Memory tt (ends (subst (λ (r : Result Ended Refusal). HasRoomFor o e out err r) h.0 room)))
+
+module _ {J O E S D M H A K : Type 0} (s : Shelves S D) (g : Disks D) (tell : A → KitTold K) (coming sent : K → Option (List ℕ))
+    (told : H → HouseTold A) (old new : Site J O E S M H) where
+  pub counts : (read : Result Asked NoReading) (answer : Result Ended Refusal) → AnswersOrMemory s g tell coming sent told read old new answer
+      → CountsNone s g tell coming sent told read old new
+  counts (Ok asked) answer h = λ none. counts_none s g tell coming sent told asked old new answer h none
+  counts (Err u) answer h = tt
+
+  pub completes_surely : (o : Outputs O) (e : Outputs E) (out : O) (err : E) (read : Result Asked NoReading) (status : ℕ)
+      (answer : Result Ended Refusal) → AnswersOrMemory s g tell coming sent told read old new answer → EndsSoundly o e out err answer status
+      → CompletesSurely o e s g tell coming sent told read answer status out err old new
+  completes_surely o e out err (Ok asked) status answer h soundly = λ none small room.
+      asked_surely s g tell coming sent told asked old new o e out err status answer h none small soundly room
+  completes_surely o e out err (Err u) status answer h soundly = tt

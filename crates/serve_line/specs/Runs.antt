@@ -1,5 +1,5 @@
 -- What a run does with the words of `serve`, and with others.
-use Rattle.std.specs.Prelude.{◌≡◌, ◌≢◌, ◌⊎◌, ℕ, Bool, true, false, List, ◌∷◌, ◌++◌, length, Option, Result, Ok, Err, OnOk, codes}
+use Rattle.std.specs.Prelude.{◌≡◌, ◌≢◌, ◌⊎◌, ℕ, ◌-◌, ◌^◌, ◌<◌, Bool, true, false, List, ◌∷◌, ◌++◌, length, Option, Result, Ok, Err, OnOk, codes}
 use Rattle.hl_base.specs.Causes.{Rose}
 use Rattle.hl_base.specs.declared.disk.Disk.{Ghosts as Disks}
 use Rattle.hl_base.specs.declared.outside.Source.{Ghosts as Inputs}
@@ -18,7 +18,7 @@ use Rattle.desk.specs.Desks.{state_of}
 use Rattle.desk.specs.Entries.{Entry}
 use Rattle.shared_desk.specs.Histories.{IsAnswered, IsFreshRun, IsLegal, Loads}
 use Rattle.shared_desk.specs.Stays.{KitTold}
-use Rattle.desk_team.specs.Houses.{HouseTold}
+use Rattle.desk_team.specs.Houses.{HouseTold, IsFaultless}
 use Rattle.store_making.specs.declared.refusal.JournalRefusal.{JournalRefusal}
 use Rattle.serve_commands.specs.Answering.{Serves, post_of}
 use Rattle.serve_commands.specs.Stores.{IsUnopened, ServesStore}
@@ -87,6 +87,11 @@ EndsSoundly o e out err (Ok said) status =
     o.HasRoom out (length said.line) → (said.failed ≡ true → e.HasRoom err (length door_fault_line)) → status ≡ end_status said.failed
 EndsSoundly o e out err (Err x) status = e.HasRoom err (length (line_of x)) → status ≡ status_of x
 
+-- The outputs have room for what is written.
+abbrev pub HasRoomFor : {O E : Type 0} → Outputs O → Outputs E → O → E → Result Ended Refusal → Type 0
+HasRoomFor o e out err (Ok said) = o.HasRoom out (length said.line)
+HasRoomFor o e out err (Err x) = e.HasRoom err (length (line_of x))
+
 -- the exit statuses of words of `serve`
 abbrev pub IsServeStatus : ℕ → Type 0
 IsServeStatus status = IsStatus status ⊎ (status ≡ 9)
@@ -150,8 +155,20 @@ module _ {J O E S D M H A K : Type 0} (s : Shelves S D) (g : Disks D) (tell : A 
       (Rose (told old.house).faults (told new.house).faults → ⊥) → NoneFailed before now → IsDone status ⊎ WasntOpened asked old new
   CompletesServe (Err e) status before now old new = Unit {0}
 
+  -- A house that has a kit for each worker, and of which no call is to fail, nor one of a door, counts no fault.
+  abbrev pub CountsNone : Result Asked NoReading → Site J O E S M H → Site J O E S M H → Type 0
+  CountsNone (Ok asked) old new = IsFaultless (told old.house) asked.crew.workers → (told new.house).faults ≡ (told old.house).faults
+  CountsNone (Err e) old new = Unit {0}
+
 module _ {J O E S D M H A K : Type 0} (o : Outputs O) (e : Outputs E) (s : Shelves S D) (g : Disks D) (tell : A → KitTold K)
     (coming sent : K → Option (List ℕ)) (told : H → HouseTold A) where
+  -- Over such a house, and outputs with room, the status is 0 where the store was opened, or 6 for want of memory.
+  abbrev pub CompletesSurely : Result Asked NoReading → Result Ended Refusal → ℕ → O → E → Site J O E S M H → Site J O E S M H → Type 0
+  CompletesSurely (Ok asked) answer status out err old new =
+      IsFaultless (told old.house) asked.crew.workers → (told old.house).faults < 2 ^ 64 - 1 → HasRoomFor o e out err answer
+      → IsDone status ⊎ WasntOpened s g tell coming sent told asked old new
+  CompletesSurely (Err x) answer status out err old new = Unit {0}
+
   -- What is done with the words of `serve`: what they ask for, and then its end is written, which leaves all else.
   pub record RunsServe (read : Result Asked NoReading) (status : ℕ) (old new : Site J O E S M H) : Type 0 where
     pub last : Site J O E S M H
@@ -169,6 +186,8 @@ module _ {J O E S D M H A K : Type 0} (o : Outputs O) (e : Outputs E) (s : Shelv
     -- of words that have a reading it isn't that of words without one
     pub readable : OnOk read (status ≢ 2)
     pub complete : CompletesServe s g tell coming sent told read status (sinks_of o e last.outside) (sinks_of o e new.outside) old last
+    pub quiet : CountsNone s g tell coming sent told read old last
+    pub sure : CompletesSurely read answer status last.outside.streams.output last.outside.err old last
 
 -- ---- other words
 
