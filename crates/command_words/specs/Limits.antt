@@ -1,5 +1,5 @@
 -- Numbers as words write them, and the limit of a store.
-use Rattle.std.specs.Prelude.{ℕ, ◌-◌, ◌^◌, min, ◌&&◌, nat_le, List, Bool, true, false, Option, Some, None, if◌then◌else◌, ◌==◌, [], ◌∷◌, codes}
+use Rattle.std.specs.Prelude.{ℕ, ◌-◌, ◌^◌, min, ◌&&◌, nat_le, List, Bool, false, Option, Some, None, if◌then◌else◌, ◌==◌, [], ◌∷◌, codes}
 use Rattle.std.specs.List.{list_all}
 use Rattle.std.specs.Str.{bytes_eq}
 use Rattle.std.specs.Str.Parse.{digits_value}
