@@ -1,9 +1,11 @@
 //! A sentence on each cause.
 ghost use Rattle.std.specs.Prelude.{◌≡◌, ◌==◌, ◌&&◌, codes, nat_eq};
 ghost use Rattle.std.specs.List.{starts_with};
+ghost use Rattle.directive_reader.specs.Keywords.{has_word};
 ghost use Rattle.explanations.specs.Explained as spec;
 
 use book::Cause;
+use directive_reader::keyword::after_word;
 use entry_reader::scan::{before, begins, begins_digit, begins_white};
 
 /// Whether a no-break space begins with a byte and those that follow it.
@@ -28,14 +30,14 @@ fn has_no_break(text: &[u8]) -> bool
     false
 }
 
-/// A sentence, or the one on a no-break space where the line has one before a comment.
-fn broken_or(line: &[u8], sentence: &'static str) -> &'static str
-    ensures { result.now ≡ spec.broken_or line.now sentence.now }
+/// The first sentence where the line has a no-break space before a comment, and else the other.
+fn by_no_break(line: &[u8], named: &'static str, other: &'static str) -> &'static str
+    ensures { result.now ≡ spec.by_no_break line.now named.now other.now }
 {
     if has_no_break(before(line, b';')) {
-        "The line has a no-break space (U+00A0), which is not white space: write a space in its place."
+        named
     } else {
-        sentence
+        other
     }
 }
 
@@ -46,33 +48,54 @@ fn form_sentence(line: &[u8]) -> &'static str
     if begins_digit(line) {
         "White space is missing between the date of the entry and what follows it."
     } else if begins_white(line) {
-        "An indented line belongs to the entry directly above it, without an empty line between; a note after an amount begins with ;, and a posting in parentheses needs an amount."
+        "An indented line belongs to the entry directly above it, without an empty line between; a note after an amount begins with ;, a posting in parentheses and a cost need an amount, and a rule has no assertion."
     } else {
-        "There is more on the line than the directive takes: begin a note with ;."
+        "Something that the directive takes is missing or does not read, or the line has more than it takes: begin a note with ;."
     }
+}
+
+/// Whether a line begins with some bytes.
+fn begins_with(line: &[u8], front: &[u8]) -> bool
+    ensures { result ≡ starts_with nat_eq line.now front.now }
+{
+    line.starts_with(front)
 }
 
 /// Whether a line begins with a word.
 fn begins_word(line: &[u8], word: &[u8]) -> bool
-    ensures { result ≡ starts_with nat_eq line.now word.now }
+    ensures { result ≡ has_word word.now line.now }
 {
-    line.starts_with(word)
+    match after_word(line, word) {
+        Some(_) => true,
+        None => false,
+    }
 }
 
 /// The sentence on a line that is no directive.
 fn directive_sentence(line: &[u8]) -> &'static str
     ensures { result.now ≡ spec.directive_sentence line.now }
 {
-    if begins_word(line, &[239, 187, 191]) {
-        "The file begins with a byte order mark: remove it, for example with tail -c +4."
+    if begins_with(line, &[239, 187, 191]) {
+        "The line begins with a byte order mark (U+FEFF): remove it, at the start of a file for example with tail -c +4."
     } else if begins_word(line, b"include") {
         "No other file is included: put all files into one, for example with cat."
     } else if begins_word(line, b"account") {
         "The type of an account is one of A, L, E, R, X, C and V, or its English word."
-    } else if begins_word(line, b"end apply") {
-        "No apply account above this line is still open: leave the line out."
+    } else if begins_word(line, b"end") {
+        "No apply account above this line is still open, or its end is not written end apply account."
     } else {
         "This is no directive: indent a posting, and begin a note with ;."
+    }
+}
+
+/// The sentence on a date, or on the period of a rule.
+fn date_sentence(line: &[u8]) -> &'static str
+    ensures { result.now ≡ spec.date_sentence line.now }
+{
+    if begins(line, b'~') {
+        "The period of the rule does not read: write it as in ~ monthly, with two spaces before a description."
+    } else {
+        "The date does not read, or the calendar does not have it: write it as 2024-02-28, with its year where none is known."
     }
 }
 
@@ -81,21 +104,21 @@ pub fn sentence_of(cause: &Cause, line: &[u8]) -> &'static str
     ensures { result.now ≡ spec.sentence_of cause.now line.now }
 {
     match cause {
-        Cause::Form => broken_or(line, form_sentence(line)),
-        Cause::Date => {
-            "The date does not read, or the calendar does not have it: write it as 2024-02-28, with its year where none is known."
-        }
-        Cause::Number => broken_or(
+        Cause::Form => form_sentence(line),
+        Cause::Date => date_sentence(line),
+        Cause::Number => by_no_break(
             line,
-            "The number does not read: it has digits, at most one sign, at most 18 decimals, and group marks only between digits.",
+            "The number does not read: it has digits, at most one sign and one decimal mark, at most 18 decimals, group marks only between digits, and less than 2^127 units of its last decimal. The line has a no-break space (U+00A0), which is neither a group mark nor white space.",
+            "The number does not read: it has digits, at most one sign and one decimal mark, at most 18 decimals, group marks only between digits, and less than 2^127 units of its last decimal.",
         ),
         Cause::Account => {
             "The account has no name, an empty part as in a::b, or more than 64 parts: write each part, with one colon between two."
         }
         Cause::StatusMark => "There is a second ! or * after the first: leave one of them out.",
         Cause::Directive => directive_sentence(line),
-        Cause::Quote => broken_or(
+        Cause::Quote => by_no_break(
             line,
+            "A symbol with digits, spaces or punctuation is written in double quotes, and a number has no spaces between its digits. The line has a no-break space (U+00A0), which is neither a group mark nor white space.",
             "A symbol with digits, spaces or punctuation is written in double quotes, and a number has no spaces between its digits.",
         ),
         Cause::TooLong => "An entry or a directive has at most 65536 bytes: divide it.",
@@ -112,10 +135,10 @@ pub fn sentence_of(cause: &Cause, line: &[u8]) -> &'static str
             "The amounts of this entry sum to the amount above and not to zero: correct one of them, or leave one out."
         }
         Cause::AssertionFailed { .. } => {
-            "After this posting the account has the second amount and not the first: an entry up to here is missing, is there twice or has a wrong amount, or the assertion is wrong."
+            "After this posting the account has the second amount where the assertion wants the first: an entry up to here is missing, is there twice or has a wrong amount, or the assertion is wrong. With == the account has no other symbol, and with =* its subaccounts count."
         }
         Cause::Range => {
-            "The amounts in one symbol are too large: without their signs they sum to 2^127 or more, in units of the last decimal."
+            "Amounts or costs are too large: without their signs their sum in one symbol, or a quantity times its price, is 2^127 or more, in units of the last decimal."
         }
     }
 }
