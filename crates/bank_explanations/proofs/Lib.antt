@@ -1,0 +1,7 @@
+mod Counting
+mod Finding
+mod Lined
+mod Marks
+mod Opening
+mod Rows
+mod Walking
