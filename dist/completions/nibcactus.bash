@@ -2,7 +2,7 @@
 _nibcactus() {
     local word=${COMP_WORDS[COMP_CWORD]} before=${COMP_WORDS[COMP_CWORD - 1]} options='' plain=''
     if [ "$COMP_CWORD" = 1 ]; then
-        mapfile -t COMPREPLY < <(compgen -W 'balance bal register reg incomestatement is balancesheet bs print accounts check strict close hours init add import export replace serve feed follow talk sample --help --version' -- "$word")
+        mapfile -t COMPREPLY < <(compgen -W 'balance bal register reg incomestatement is balancesheet bs print accounts check strict close explain hours init add import export items replace serve feed follow talk sample --help --version' -- "$word")
         return
     fi
     # The value of an option stands behind `=`, which bash takes for a word, or is the next word.
@@ -21,13 +21,15 @@ _nibcactus() {
         check) options='-f --store=' plain='' ;;
         strict) options='-f --store=' plain='accounts commodities payees tags ordereddates' ;;
         close) options='-f --store= --on= --into=' plain='' ;;
+        explain) options='-f --store=' plain='' ;;
         hours) options='--dot -f' plain='' ;;
         init) options='-f --limit=' plain='' ;;
         add) options='' plain='' ;;
         import) options='--rules= --name= --dry-run' plain='' ;;
         export) options='' plain='' ;;
+        items) options='' plain='' ;;
         replace) options='-f --base=' plain='' ;;
-        serve) options='--host= --port= --allow= --workers= --connections=' plain='' ;;
+        serve) options='--host= --port= --allow= --workers= --connections= --page' plain='' ;;
         feed) options='' plain='' ;;
         follow) options='--limit=' plain='' ;;
         talk) options='-f --store= --allow=' plain='' ;;

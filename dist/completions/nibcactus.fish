@@ -12,13 +12,15 @@ complete -c nibcactus -n __fish_use_subcommand -f -a accounts -d 'the names of t
 complete -c nibcactus -n __fish_use_subcommand -f -a check -d 'nothing, or the journal\'s first fault'
 complete -c nibcactus -n __fish_use_subcommand -f -a strict -d 'accounts, commodities, payees, tags, ordereddates: what isn\'t declared'
 complete -c nibcactus -n __fish_use_subcommand -f -a close -d 'the entries that close accounts and open them again'
+complete -c nibcactus -n __fish_use_subcommand -f -a explain -d 'the journal\'s first fault, its line, and how it is mended'
 complete -c nibcactus -n __fish_use_subcommand -f -a hours -d 'the hours of a time log, as a journal'
 complete -c nibcactus -n __fish_use_subcommand -f -a init -d 'a store of the journal; --limit=N: bytes of each file'
 complete -c nibcactus -n __fish_use_subcommand -f -a add -d 'adds the entry on standard input'
 complete -c nibcactus -n __fish_use_subcommand -f -a import -d 'adds a bank\'s file; --rules=NAME, else FILE.rules'
 complete -c nibcactus -n __fish_use_subcommand -f -a export -d 'the text of a store'
+complete -c nibcactus -n __fish_use_subcommand -f -a items -d 'the number, line, day and first line of each item'
 complete -c nibcactus -n __fish_use_subcommand -f -a replace -d 'replaces its text with the journal; --base=N: only at that revision'
-complete -c nibcactus -n __fish_use_subcommand -f -a serve -d 'over HTTP, to several people; --host, --port, --workers=N, --connections=N, --allow=LEVEL: view, add (the default) or edit'
+complete -c nibcactus -n __fish_use_subcommand -f -a serve -d 'over HTTP, to several people; --host, --port, --workers=N, --connections=N, --allow=LEVEL: view, add (the default) or edit; --page: with a page for browsers'
 complete -c nibcactus -n __fish_use_subcommand -f -a feed -d 'its records, as frames'
 complete -c nibcactus -n __fish_use_subcommand -f -a follow -d 'a store that keeps the frames on standard input; --limit=N'
 complete -c nibcactus -n __fish_use_subcommand -f -a talk -d 'one HTTP connection over standard input and output --allow=LEVEL: view, add (the default) or edit'
@@ -163,6 +165,8 @@ complete -c nibcactus -n '__fish_seen_subcommand_from close' -s f -r -d 'read it
 complete -c nibcactus -n '__fish_seen_subcommand_from close' -l store -r -d 'read it from a store'
 complete -c nibcactus -n '__fish_seen_subcommand_from close' -l on -r -d 'the day of the closing entry'
 complete -c nibcactus -n '__fish_seen_subcommand_from close' -l into -r -d 'what takes the balances; else equity:closing'
+complete -c nibcactus -n '__fish_seen_subcommand_from explain' -s f -r -d 'read it from a file; - is standard input, the default'
+complete -c nibcactus -n '__fish_seen_subcommand_from explain' -l store -r -d 'read it from a store'
 complete -c nibcactus -n '__fish_seen_subcommand_from hours' -l dot -d 'the log is timedot, else timeclock'
 complete -c nibcactus -n '__fish_seen_subcommand_from hours' -s f -r -d 'read it from a file; - is standard input, the default'
 complete -c nibcactus -n '__fish_seen_subcommand_from init' -s f -r -d 'read it from a file; - is standard input, the default'
@@ -177,6 +181,7 @@ complete -c nibcactus -n '__fish_seen_subcommand_from serve' -l port -r
 complete -c nibcactus -n '__fish_seen_subcommand_from serve' -l allow -x -a 'view add edit'
 complete -c nibcactus -n '__fish_seen_subcommand_from serve' -l workers -r
 complete -c nibcactus -n '__fish_seen_subcommand_from serve' -l connections -r
+complete -c nibcactus -n '__fish_seen_subcommand_from serve' -l page
 complete -c nibcactus -n '__fish_seen_subcommand_from follow' -l limit -r
 complete -c nibcactus -n '__fish_seen_subcommand_from talk' -s f -r -d 'read it from a file; - is standard input, the default'
 complete -c nibcactus -n '__fish_seen_subcommand_from talk' -l store -r -d 'read it from a store'
