@@ -11,7 +11,7 @@ use Rattle.query_terms.specs.declared.making.Maker.{Ghosts as Makers}
 use Rattle.live_journal.specs.Loading.{fault_of}
 use Rattle.text_store.specs.declared.image.Image.{Image}
 use Rattle.text_store.specs.Files.{opened_limit, opened_size}
-use Rattle.text_store.specs.Image.{NoImage}
+use Rattle.text_store.specs.Image.{NoImage, image}
 use Rattle.desk.specs.States.{State, answer_to}
 use Rattle.desk.specs.declared.reply.Reply.{Reply}
 use Rattle.desk.specs.declared.reply.Reply.TheVariants as reply
@@ -26,8 +26,11 @@ use Rattle.store_making.specs.Making.{MakesStore}
 use Rattle.store_making.specs.Refusals.{files_refusal}
 use Rattle.store_making.specs.declared.refusal.JournalRefusal.{JournalRefusal}
 use Rattle.store_commands.specs.Asking.{EditsStore, Patterns, opened_state, state_under, told_by}
+use Rattle.store_commands.specs.Previews.{Previews, state_in}
 use Rattle.store_commands.specs.Replacing.{base_or, replacement}
 use Rattle.store_commands.specs.Replies.{line_of as reply_line, status_of as reply_status}
+use Rattle.store_commands.specs.declared.preview.Preview.{Preview}
+use Rattle.store_commands.specs.declared.preview.Preview.TheVariants as preview
 use Rattle.command_words.specs.declared.task.Importing.{Importing}
 use Rattle.command_words.specs.declared.task.Making.{Making}
 use Rattle.command_words.specs.declared.task.Replacing.{Replacing}
@@ -36,15 +39,17 @@ use Rattle.command_words.specs.declared.task.Origin.TheVariants as origins
 use Rattle.command_words.specs.declared.task.StoreTask.{StoreTask}
 use Rattle.command_words.specs.declared.task.StoreTask.TheVariants as stored
 use Rattle.command_line.specs.Answers.{FindsText, IsOfFile, IsOfSource, IsStore, status_of}
-use Rattle.command_line.specs.Complete.{AnswersWell, CompletesStored, IsDone, NoneRose}
+use Rattle.command_line.specs.Complete.{AnswersWell, AreWithin, CompletesStored, IsDone, NoneRose}
 use Rattle.command_line.specs.Files.{LoadsFile, ReadsShelf}
+use Rattle.command_line.specs.Previewing.{LoadsAny, OrMemory, PreviewsFiles, PreviewsImport, PreviewsStore, ToldAsked, most_stored, or_none}
 use Rattle.command_line.specs.Runs.{ReadsText}
 use Rattle.command_line.specs.Scenes.{OutputsStay, Scene, SourceRose, scene, soundness, text_in}
 use Rattle.command_line.specs.Sources.{file_within}
 use Rattle.command_line.specs.StoreRuns.{Ends, RunsStored}
-use Rattle.command_line.specs.StoreTasks.{AddedAfter, EditedBy, ImportedAfter, ImportedWith, InitsStore, MadeAfter, ReplacedAfter, ReplacesText, ToldEdit, ToldLine, ToldMaking, most_imported}
+use Rattle.command_line.specs.StoreTasks.{AddedAfter, EditedBy, Goes, ImportsFile, InitsStore, Loads, LoadsImport, MadeAfter, ReplacedAfter, ReplacesText, ToldEdit, ToldLine, ToldMaking, most_imported}
 use Rattle.command_line.specs.declared.outside.Outside.{Outside}
 use Rattle.command_line.proofs.Completing.{said_memory}
+use Rattle.command_line.proofs.PreviewEnds.{first_there, image_there, opened_well, refused_well, second_there}
 use Rattle.command_line.proofs.TalkCompleting.{memory_of, ok_is, read_so, unread_by}
 
 -- all was answered, or memory ran out
@@ -61,6 +66,29 @@ ended_well status last new (Err x) good ends no_output no_error =
 
 -- ---- what is said of a store
 
+line_good : (status : ℕ) (line : List ℕ) (r : Result (List ℕ) Refusal) → (status ≡ 0) ⊎ (status ≡ 6) → ToldLine status line r → GoodAnswer r
+line_good status line (Ok output) good said = tt
+line_good status line (Err x) good (inl e) = ap status_of e
+line_good status line (Err x) (inl zero) (inr h) = absurd (h.0 zero)
+line_good status line (Err x) (inr six) (inr h) = ap status_of h.1 ∙ six
+
+replied_status : (r good : Reply) → reply_status good ≡ 0 → (r ≡ reply.Memory) ⊎ (r ≡ good) → (reply_status r ≡ 0) ⊎ (reply_status r ≡ 6)
+replied_status r good zero (inl e) = inr (ap reply_status e)
+replied_status r good zero (inr e) = inl (ap reply_status e ∙ zero)
+
+preview_good : (name first second : List ℕ) (shown : Image) (what : Request) (day : ℕ) (p : Patterns) (asked : Result Preview JournalRefusal) (r : Result (List ℕ) Refusal)
+    → Previews first second what day p asked → ToldAsked name asked r → image first second ≡ Ok shown → fault_of None shown.text ≡ None
+    → reply_status ((answer_to (state_in first second shown) day what).reply) ≡ 0 → (Rose p.before p.now → ⊥) → GoodAnswer r
+preview_good name first second shown what day p (Ok (preview.Adds bytes)) (Ok output) previews told is loads zero patterns = tt
+preview_good name first second shown what day p (Ok (preview.Adds bytes)) (Err x) previews told is loads zero patterns = absurd told
+preview_good name first second shown what day p (Ok (preview.Refused x)) r previews told is loads zero patterns =
+    line_good (reply_status x) (reply_line x) r
+    (replied_status x ((answer_to (state_in first second shown) day what).reply) zero (refused_well first second shown what day p x is previews patterns)) told
+preview_good name first second shown what day p (Err e) (Ok output) previews told is loads zero patterns = tt
+preview_good name first second shown what day p (Err e) (Err x) previews told is loads zero patterns =
+    let found : Some (image first second) ≡ Some (Ok shown) = ap (λ (i : Result Image NoImage). Some i) is in
+    memory_of name e x (opened_well (Some (image first second)) shown found loads e previews.0 previews.1) told
+
 module _ {S D : Type 0} (s : Shelves S D) (g : Disks D) (old new : S) where
   made_by : (what : Making) (text : List ℕ) (made : Result (Unit {0}) JournalRefusal) (r : Result (List ℕ) Refusal) → MakesStore s g what.store text what.limit old new made
       → ToldMaking what.store made r → IsTrue ((s.tells old).files) → fault_of None text ≡ None
@@ -69,16 +97,6 @@ module _ {S D : Type 0} (s : Shelves S D) (g : Disks D) (old new : S) where
   made_by what text (Ok done) (Err x) makes said told loads free none = absurd said
   made_by what text (Err e) (Ok output) makes said told loads free none = tt
   made_by what text (Err e) (Err x) makes said told loads free none = memory_of what.store e x (makes.complete told loads free none) said
-
-  line_good : (status : ℕ) (line : List ℕ) (r : Result (List ℕ) Refusal) → (status ≡ 0) ⊎ (status ≡ 6) → ToldLine status line r → GoodAnswer r
-  line_good status line (Ok output) good said = tt
-  line_good status line (Err x) good (inl e) = ap status_of e
-  line_good status line (Err x) (inl zero) (inr h) = absurd (h.0 zero)
-  line_good status line (Err x) (inr six) (inr h) = ap status_of h.1 ∙ six
-
-  replied_status : (r good : Reply) → reply_status good ≡ 0 → (r ≡ reply.Memory) ⊎ (r ≡ good) → (reply_status r ≡ 0) ⊎ (reply_status r ≡ 6)
-  replied_status r good zero (inl e) = inr (ap reply_status e)
-  replied_status r good zero (inr e) = inl (ap reply_status e ∙ zero)
 
   edited_by : (name : List ℕ) (what : Request) (day : Day) (p : Patterns) (asked : Result Reply JournalRefusal) (r : Result (List ℕ) Refusal)
       → EditsStore s g name what day p old new asked → ToldEdit name asked r → IsTrue ((s.tells old).files) → (shown : Image) → image_under (s.file old) name ≡ Some (Ok shown)
@@ -308,38 +326,99 @@ module _ {J O E S D M : Type 0} (j : Inputs J) (o : Outputs O) (e : Outputs E) (
   unchanged : (old : Outside J O E S M) (mid : S) → SameOutputs (sc old) (sc (record old { shelf = mid }))
   unchanged old mid = record { output = refl; error = refl }
 
-  rules_by : (what : Importing) (old last : Outside J O E S M) (mid last_shelf : S) (csv rules : List ℕ) (read : Result (List ℕ) Refusal) (r : Result (List ℕ) Refusal)
-      → SameShelf s old.shelf mid → LoadsFile s most_imported what.rules mid last_shelf read
-      → ImportedWith s g m what day csv read (record old { shelf = last_shelf }) last r → file_within most_imported what.rules (s.file old.shelf what.rules) ≡ Ok rules
-      → IsTrue ((s.tells old.shelf).files) → AnswersWell what.store (request.Import what.name rules csv) day.0 (sc old)
-      → NoneFailed s old.shelf last.shelf → (Rose (m.refusals old.maker) (m.refusals last.maker) → ⊥) → IsWell old last r
-  rules_by what old last mid last_shelf csv rules (Ok t) r same loads imports is told well none patterns =
-      let here : file_within most_imported what.rules (s.file mid what.rules) ≡ Ok rules = ap (λ (x : Option (List ℕ)). file_within most_imported what.rules x) (same.files what.rules) ∙ is in
-      let at : t ≡ rules = read_bytes t rules (file_within most_imported what.rules (s.file mid what.rules)) here (loads.found (told_on s old.shelf mid same told)) in
-      edit_well what.store (request.Import what.name t csv) old (record old { shelf = last_shelf }) last r imports
-      (same_then s old.shelf mid last_shelf same (same_loaded s most_imported what.rules mid last_shelf (Ok t) loads)) refl (unchanged old last_shelf) told
-      (subst (λ (x : List ℕ). AnswersWell what.store (request.Import what.name x csv) day.0 (sc old)) (sym at) well) none patterns
-  rules_by what old last mid last_shelf csv rules (Err x) r same loads imports is told well none patterns =
-      let here : file_within most_imported what.rules (s.file mid what.rules) ≡ Ok rules = ap (λ (y : Option (List ℕ)). file_within most_imported what.rules y) (same.files what.rules) ∙ is in
-      stayed old (record old { shelf = last_shelf }) last r x imports
-      (file_unread most_imported what.rules rules mid last_shelf x loads (told_on s old.shelf mid same told) here
-      (λ rose. (none_on s old.shelf mid same last.shelf none).0 (subst (λ (y : Outside J O E S M). Rose (s.faults mid) (s.faults y.shelf)) (sym imports.1) rose)))
-      (unchanged old last_shelf)
+  -- ---- files that are loaded first
 
-  csv_by : (what : Importing) (old last : Outside J O E S M) (mid : S) (csv rules : List ℕ) (read : Result (List ℕ) Refusal) (r : Result (List ℕ) Refusal)
-      → LoadsFile s most_imported what.file old.shelf mid read → ImportedAfter s g m what day read (record old { shelf = mid }) last r
+  -- a file that is there was loaded, and what then came of it is well
+  loads_by : (most : ℕ) (name bytes : List ℕ) (Then : List ℕ → Outside J O E S M → Outside J O E S M → Result (List ℕ) Refusal → Type 0) (old last : Outside J O E S M)
+      (mid shelf : S) (read : Result (List ℕ) Refusal) (r : Result (List ℕ) Refusal) → SameShelf s old.shelf mid → LoadsFile s most name mid shelf read
+      → Goes Then read (record old { shelf = shelf }) last r → file_within most name (s.file old.shelf name) ≡ Ok bytes → IsTrue ((s.tells old.shelf).files)
+      → NoneFailed s old.shelf last.shelf → (SameShelf s old.shelf shelf → Then bytes (record old { shelf = shelf }) last r → IsWell old last r) → IsWell old last r
+  loads_by most name bytes Then old last mid shelf (Ok t) r same loads goes is told none rest =
+      let here : file_within most name (s.file mid name) ≡ Ok bytes = ap (λ (x : Option (List ℕ)). file_within most name x) (same.files name) ∙ is in
+      let at : t ≡ bytes = read_bytes t bytes (file_within most name (s.file mid name)) here (loads.found (told_on s old.shelf mid same told)) in
+      rest (same_then s old.shelf mid shelf same (same_loaded s most name mid shelf (Ok t) loads))
+      (subst (λ (x : List ℕ). Then x (record old { shelf = shelf }) last r) at goes)
+  loads_by most name bytes Then old last mid shelf (Err x) r same loads goes is told none rest =
+      let here : file_within most name (s.file mid name) ≡ Ok bytes = ap (λ (y : Option (List ℕ)). file_within most name y) (same.files name) ∙ is in
+      stayed old (record old { shelf = shelf }) last r x goes
+      (file_unread most name bytes mid shelf x loads (told_on s old.shelf mid same told) here
+      (λ rose. (none_on s old.shelf mid same last.shelf none).0 (subst (λ (y : Outside J O E S M). Rose (s.faults mid) (s.faults y.shelf)) (sym goes.1) rose)))
+      (unchanged old shelf)
+
+  -- and so a file and its rules
+  import_by : (what : Importing) (Then : Request → Outside J O E S M → Outside J O E S M → Result (List ℕ) Refusal → Type 0) (old last : Outside J O E S M)
+      (r : Result (List ℕ) Refusal) (csv rules : List ℕ) → LoadsImport s what Then old last r → file_within most_imported what.file (s.file old.shelf what.file) ≡ Ok csv
+      → file_within most_imported what.rules (s.file old.shelf what.rules) ≡ Ok rules → IsTrue ((s.tells old.shelf).files) → NoneFailed s old.shelf last.shelf
+      → ((shelf : S) → SameShelf s old.shelf shelf → Then (request.Import what.name rules csv) (record old { shelf = shelf }) last r → IsWell old last r) → IsWell old last r
+  import_by what Then old last r csv rules loads is is_rules told none rest =
+      loads_by most_imported what.file csv (λ bytes. Loads s most_imported what.rules (λ text. Then (request.Import what.name text bytes))) old last old.shelf loads.mid loads.read r
+      (same_at s old.shelf old.shelf refl) loads.reads loads.goes is told none
+      (λ same more. loads_by most_imported what.rules rules (λ text. Then (request.Import what.name text csv)) old last loads.mid more.mid more.read r
+      same more.reads more.goes is_rules told none (λ again goes. rest more.mid again goes))
+
+  import_well : (what : Importing) (old last : Outside J O E S M) (r : Result (List ℕ) Refusal) (csv rules : List ℕ) → ImportsFile s g m what day old last r
       → file_within most_imported what.file (s.file old.shelf what.file) ≡ Ok csv → file_within most_imported what.rules (s.file old.shelf what.rules) ≡ Ok rules
       → IsTrue ((s.tells old.shelf).files) → AnswersWell what.store (request.Import what.name rules csv) day.0 (sc old)
       → NoneFailed s old.shelf last.shelf → (Rose (m.refusals old.maker) (m.refusals last.maker) → ⊥) → IsWell old last r
-  csv_by what old last mid csv rules (Ok t) r loads imports is is_rules told well none patterns =
-      let at : t ≡ csv = read_bytes t csv (file_within most_imported what.file (s.file old.shelf what.file)) is (loads.found told) in
-      rules_by what old last mid imports.mid t rules imports.read r (same_loaded s most_imported what.file old.shelf mid (Ok t) loads) imports.reads imports.imports is_rules told
-      (subst (λ (x : List ℕ). AnswersWell what.store (request.Import what.name rules x) day.0 (sc old)) (sym at) well) none patterns
-  csv_by what old last mid csv rules (Err x) r loads imports is is_rules told well none patterns =
-      stayed old (record old { shelf = mid }) last r x imports
-      (file_unread most_imported what.file csv old.shelf mid x loads told is
-      (λ rose. none.0 (subst (λ (y : Outside J O E S M). Rose (s.faults old.shelf) (s.faults y.shelf)) (sym imports.1) rose)))
-      (unchanged old mid)
+  import_well what old last r csv rules imports is is_rules told well none patterns =
+      import_by what (λ asked. EditedBy s g m what.store asked day) old last r csv rules imports is is_rules told none
+      (λ shelf same edited. edit_well what.store (request.Import what.name rules csv) old (record old { shelf = shelf }) last r edited same refl (unchanged old shelf) told well none patterns)
+
+  -- ---- a dry run
+
+  files_well : (name : List ℕ) (what : Request) (old last : Outside J O E S M) (shelf : S) (r : Result (List ℕ) Refusal)
+      → PreviewsFiles m name (or_empty (s.file old.shelf name)) (or_empty (s.file old.shelf (second_name name))) what day (record old { shelf = shelf }) last r
+      → AnswersWell name what day.0 (sc old) → (Rose (m.refusals old.maker) (m.refusals last.maker) → ⊥) → IsWell old last r
+  files_well name what old last shelf r files well patterns = (
+    preview_good name (or_empty (s.file old.shelf name)) (or_empty (s.file old.shelf (second_name name))) well.0 what day.0 (told_by m old.maker last.maker) files.asked r
+        files.previews files.told (image_there (s.file old.shelf name) (s.file old.shelf (second_name name)) well.0 well.1) well.2 well.3 patterns,
+    record {
+      output = ap (λ (x : Outside J O E S M). o.faults x.streams.output) files.rest;
+      error = ap (λ (x : Outside J O E S M). e.faults x.err) files.rest;
+    },
+  )
+
+  abbrev PreviewsSecond : List ℕ → List ℕ → Request → List ℕ → Outside J O E S M → Outside J O E S M → Result (List ℕ) Refusal → Type 0
+  PreviewsSecond name first what second = PreviewsFiles m name first second what day
+
+  kept_shelf : (name first : List ℕ) (what : Request) (old last : Outside J O E S M) (shelf : S) (found : Result (List ℕ) Refusal) (r : Result (List ℕ) Refusal)
+      → Goes (PreviewsSecond name first what) found (record old { shelf = shelf }) last r → last.shelf ≡ shelf
+  kept_shelf name first what old last shelf (Ok bytes) r goes = ap (λ (x : Outside J O E S M). x.shelf) goes.rest
+  kept_shelf name first what old last shelf (Err x) r goes = ap (λ (y : Outside J O E S M). y.shelf) goes.1
+
+  second_well : (name : List ℕ) (what : Request) (old last : Outside J O E S M) (mid shelf : S) (read : Result (List ℕ) Refusal) (r : Result (List ℕ) Refusal)
+      → SameShelf s old.shelf mid → LoadsFile s most_stored (second_name name) mid shelf read
+      → Goes (PreviewsSecond name (or_empty (s.file old.shelf name)) what) (or_none read) (record old { shelf = shelf }) last r → AreWithin name (sc old)
+      → IsTrue ((s.tells old.shelf).files) → AnswersWell name what day.0 (sc old) → NoneFailed s old.shelf last.shelf
+      → (Rose (m.refusals old.maker) (m.refusals last.maker) → ⊥) → IsWell old last r
+  second_well name what old last mid shelf read r same loads goes within told well none patterns =
+      let first = or_empty (s.file old.shelf name) in
+      let beside = second_name name in
+      let F : Result (List ℕ) Refusal → Type 0 = λ found. Goes (PreviewsSecond name first what) found (record old { shelf = shelf }) last r in
+      let kept = kept_shelf name first what old last shelf (or_none read) r goes in
+      let found = subst (λ (x : Option (List ℕ)). FindsText read (file_within most_stored beside x)) (same.files beside) (loads.found (told_on s old.shelf mid same told)) in
+      ⊎_elim (λ is. files_well name what old last shelf r (subst F is goes) well patterns)
+      (λ is. stayed old (record old { shelf = shelf }) last r refusal.Memory (subst F is goes) refl (unchanged old shelf))
+      (second_there most_stored beside (s.file old.shelf beside) read within.1 found loads.kind
+      (λ fault. (none_on s old.shelf mid same last.shelf none).0 (subst (λ (x : S). Rose (s.faults mid) (s.faults x)) (sym kept) (loads.rose fault).0)))
+
+  store_well : (name : List ℕ) (what : Request) (old last : Outside J O E S M) (mid : S) (r : Result (List ℕ) Refusal) → SameShelf s old.shelf mid
+      → PreviewsStore s m name what day (record old { shelf = mid }) last r → AreWithin name (sc old) → IsTrue ((s.tells old.shelf).files)
+      → AnswersWell name what day.0 (sc old) → NoneFailed s old.shelf last.shelf → (Rose (m.refusals old.maker) (m.refusals last.maker) → ⊥) → IsWell old last r
+  store_well name what old last mid r same previews within told well none patterns =
+      loads_by most_stored name (or_empty (s.file old.shelf name))
+      (λ first. OrMemory (LoadsAny s most_stored (second_name name) (λ second. PreviewsFiles m name first second what day))) old last mid previews.mid previews.read r
+      same previews.reads previews.goes (first_there most_stored name (s.file old.shelf name) (s.file old.shelf (second_name name)) well.0 well.1 within.0) told none
+      (λ again rest. ⊎_elim (λ any. second_well name what old last previews.mid any.mid any.read r again any.reads any.goes within told well none patterns)
+      (λ h. stayed old (record old { shelf = previews.mid }) last r refusal.Memory h refl (unchanged old previews.mid)) rest)
+
+  preview_well : (what : Importing) (old last : Outside J O E S M) (r : Result (List ℕ) Refusal) (csv rules : List ℕ) → PreviewsImport s m what day old last r
+      → file_within most_imported what.file (s.file old.shelf what.file) ≡ Ok csv → file_within most_imported what.rules (s.file old.shelf what.rules) ≡ Ok rules
+      → AreWithin what.store (sc old) → IsTrue ((s.tells old.shelf).files) → AnswersWell what.store (request.Import what.name rules csv) day.0 (sc old)
+      → NoneFailed s old.shelf last.shelf → (Rose (m.refusals old.maker) (m.refusals last.maker) → ⊥) → IsWell old last r
+  preview_well what old last r csv rules previews is is_rules within told well none patterns =
+      import_by what (λ asked. PreviewsStore s m what.store asked day) old last r csv rules previews is is_rules told none
+      (λ shelf same store. store_well what.store (request.Import what.name rules csv) old last shelf r same store within told well none patterns)
 
 -- ---- a run
 
@@ -384,10 +463,14 @@ module _ {J O E S D M : Type 0} (j : Inputs J) (o : Outputs O) (e : Outputs E) (
       (λ h. unread_well (stored.Add name) runs none h) runs.answers)
   complete_stored (stored.Import what) runs = λ none patterns told csv rules is is_rules well.
       done (stored.Import what) runs none
-      (⊎_elim (λ imports. csv_by j o e s g m day what old runs.last imports.mid csv rules imports.read runs.answer imports.reads imports.imports is is_rules told well
+      (⊎_elim (λ imports. import_well j o e s g m day what old runs.last runs.answer csv rules imports is is_rules told well
       (none_last (stored.Import what) runs none) (patterns_last (stored.Import what) runs none patterns))
       (λ h. unread_well (stored.Import what) runs none h) runs.answers)
-  complete_stored (stored.Preview what) runs = tt
+  complete_stored (stored.Preview what) runs = λ none patterns told csv rules is is_rules within well.
+      done (stored.Preview what) runs none
+      (⊎_elim (λ previews. preview_well j o e s g m day what old runs.last runs.answer csv rules previews is is_rules within told well
+      (none_last (stored.Preview what) runs none) (patterns_last (stored.Preview what) runs none patterns))
+      (λ h. unread_well (stored.Preview what) runs none h) runs.answers)
   complete_stored (stored.Replace what) runs = λ none patterns plain told text is well.
       done (stored.Replace what) runs none
       (⊎_elim (λ replaces. replace_well j o e s g m day what old runs.last runs.answer text replaces plain is told well (none_last (stored.Replace what) runs none)

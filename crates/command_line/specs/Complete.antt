@@ -1,5 +1,5 @@
 -- What is done to its end, where what it is over is good and no call failed: status 0, or want of memory.
-use Rattle.std.specs.Prelude.{◌≡◌, ◌⊎◌, ℕ, List, Some, None, Result, Ok, Err, IsTrue}
+use Rattle.std.specs.Prelude.{◌≡◌, ◌⊎◌, ℕ, ◌≤◌, List, length, Some, None, Result, Ok, Err, IsTrue}
 use Rattle.hl_base.specs.Causes.{Rose}
 use Rattle.live_journal.specs.Loading.{fault_of}
 use Rattle.web_messages.specs.Streams.{IsOfWhole}
@@ -28,6 +28,7 @@ use Rattle.command_words.specs.declared.task.Task.TheVariants as task
 use Rattle.command_words.specs.declared.task.TextTask.{TextTask}
 use Rattle.command_words.specs.declared.usage.UsageFault.{UsageFault}
 use Rattle.command_line.specs.Answers.{IsStore}
+use Rattle.command_line.specs.Previewing.{most_stored}
 use Rattle.command_line.specs.Scenes.{RefusedIn, Scene, judged_in, text_in}
 use Rattle.command_line.specs.Sources.{file_within}
 use Rattle.command_line.specs.StoreTasks.{most_imported}
@@ -90,6 +91,17 @@ CompletesImport what day status old new =
     → file_within most_imported what.file (old.file what.file) ≡ Ok csv → file_within most_imported what.rules (old.file what.rules) ≡ Ok rules
     → AnswersWell what.store (request.Import what.name rules csv) day old → IsDone status
 
+-- each of a store's two files has at most as many bytes as one may have
+abbrev pub AreWithin : List ℕ → Scene → Type 0
+AreWithin name s = (length (or_empty (s.file name)) ≤ most_stored) × (length (or_empty (s.file (second_name name))) ≤ most_stored)
+
+-- a dry run of an import
+abbrev pub CompletesPreview : Importing → ℕ → ℕ → Scene → Scene → Type 0
+CompletesPreview what day status old new =
+    NoneRose old new → (Rose old.refusals new.refusals → ⊥) → IsTrue old.files_told → (csv rules : List ℕ)
+    → file_within most_imported what.file (old.file what.file) ≡ Ok csv → file_within most_imported what.rules (old.file what.rules) ≡ Ok rules
+    → AreWithin what.store old → AnswersWell what.store (request.Import what.name rules csv) day old → IsDone status
+
 -- a text that takes the place of the one of a store
 abbrev pub CompletesReplace : Replacing → ℕ → ℕ → Scene → Scene → Type 0
 CompletesReplace what day status old new =
@@ -101,7 +113,7 @@ abbrev pub CompletesStored : StoreTask → ℕ → ℕ → Scene → Scene → T
 CompletesStored (stored.Init what) day status old new = CompletesInit what status old new
 CompletesStored (stored.Add name) day status old new = CompletesAdd name day status old new
 CompletesStored (stored.Import what) day status old new = CompletesImport what day status old new
-CompletesStored (stored.Preview what) day status old new = Unit {0}
+CompletesStored (stored.Preview what) day status old new = CompletesPreview what day status old new
 CompletesStored (stored.Replace what) day status old new = CompletesReplace what day status old new
 CompletesStored (stored.Feed name) day status old new = Unit {0}
 CompletesStored (stored.Follow what) day status old new = Unit {0}

@@ -4,7 +4,6 @@ use Rattle.hl_base.specs.declared.shelf.Shelf.{Ghosts as Shelves}
 use Rattle.hl_time.specs.declared.day.Day.{Day}
 use Rattle.query_terms.specs.declared.making.Maker.{Ghosts as Makers}
 use Rattle.desk.specs.declared.request.Request.{Request}
-use Rattle.desk.specs.declared.request.Request.TheVariants as request
 use Rattle.refusals.specs.declared.refusal.Refusal.{Refusal}
 use Rattle.refusals.specs.declared.refusal.Refusal.TheVariants as refusal
 use Rattle.store_text.specs.Shelved.{second_name}
@@ -17,7 +16,7 @@ use Rattle.store_commands.specs.declared.preview.Preview.{Preview}
 use Rattle.store_commands.specs.declared.preview.Preview.TheVariants as preview
 use Rattle.command_words.specs.declared.task.Importing.{Importing}
 use Rattle.command_line.specs.Files.{LoadsFile}
-use Rattle.command_line.specs.StoreTasks.{RefusedAs, ToldLine, most_imported}
+use Rattle.command_line.specs.StoreTasks.{Goes, Loads, LoadsImport, RefusedAs, ToldLine}
 use Rattle.command_line.specs.declared.outside.Outside.{Outside}
 
 -- the most bytes of a file of a store
@@ -52,20 +51,6 @@ pub record PreviewsFiles {J O E S M : Type 0} (m : Makers M) (name first second 
   pub previews : Previews first second what day.0 (told_by m old.maker new.maker) asked
   pub told : ToldAsked name asked r
   pub rest : new ≡ record old { maker = new.maker }
-
--- what was loaded, and what then came of it
-abbrev pub Goes : {J O E S M : Type 0} → (List ℕ → Outside J O E S M → Outside J O E S M → Result (List ℕ) Refusal → Type 0) → Result (List ℕ) Refusal
-    → Outside J O E S M → Outside J O E S M → Result (List ℕ) Refusal → Type 0
-Goes Then (Ok bytes) old new r = Then bytes old new r
-Goes Then (Err x) old new r = (r ≡ Err x) × (new ≡ old)
-
--- A file was loaded, and then this came of its bytes.
-pub record Loads {J O E S D M : Type 0} (s : Shelves S D) (most : ℕ) (name : List ℕ)
-    (Then : List ℕ → Outside J O E S M → Outside J O E S M → Result (List ℕ) Refusal → Type 0) (old new : Outside J O E S M) (r : Result (List ℕ) Refusal) : Type 0 where
-  pub mid : S
-  pub read : Result (List ℕ) Refusal
-  pub reads : LoadsFile s most name old.shelf mid read
-  pub goes : Goes Then read (record old { shelf = mid }) new r
 
 -- no bytes where there is no such file
 abbrev pub line_or_none : ℕ → List ℕ → Result (List ℕ) Refusal
@@ -104,5 +89,4 @@ PreviewsStore s m name what day =
 -- The file was loaded, then its rules, and then it was asked what importing it would make of the store. No file is changed.
 abbrev pub PreviewsImport : {J O E S D M : Type 0} → Shelves S D → Makers M → Importing → Day → Outside J O E S M → Outside J O E S M
     → Result (List ℕ) Refusal → Type 0
-PreviewsImport s m what day =
-    Loads s most_imported what.file (λ csv. Loads s most_imported what.rules (λ rules. PreviewsStore s m what.store (request.Import what.name rules csv) day))
+PreviewsImport s m what day = LoadsImport s what (λ asked. PreviewsStore s m what.store asked day)

@@ -103,31 +103,32 @@ pub record AddsEntry {J O E S D M : Type 0} (sc : Outside J O E S M → Scene) (
   pub stays : (mid.shelf ≡ old.shelf) × (mid.maker ≡ old.maker)
   pub adds : AddedAfter s g m name day read mid new r
 
-abbrev pub ImportedWith : {J O E S D M : Type 0} → Shelves S D → Disks D → Makers M → Importing → Day → List ℕ → Result (List ℕ) Refusal
-    → Outside J O E S M → Outside J O E S M → Result (List ℕ) Refusal → Type 0
-ImportedWith s g m what day csv (Ok rules) old new r = EditedBy s g m what.store (request.Import what.name rules csv) day old new r
-ImportedWith s g m what day csv (Err x) old new r = (r ≡ Err x) × (new ≡ old)
+-- ---- a file that is imported
 
--- The rules were read, and the store asked to import a file's bytes by them.
-pub record ImportsBy {J O E S D M : Type 0} (s : Shelves S D) (g : Disks D) (m : Makers M) (what : Importing) (day : Day) (csv : List ℕ)
-    (old new : Outside J O E S M) (r : Result (List ℕ) Refusal) : Type 0 where
+-- what was loaded, and what then came of it
+abbrev pub Goes : {J O E S M : Type 0} → (List ℕ → Outside J O E S M → Outside J O E S M → Result (List ℕ) Refusal → Type 0) → Result (List ℕ) Refusal
+    → Outside J O E S M → Outside J O E S M → Result (List ℕ) Refusal → Type 0
+Goes Then (Ok bytes) old new r = Then bytes old new r
+Goes Then (Err x) old new r = (r ≡ Err x) × (new ≡ old)
+
+-- A file was loaded, and then this came of its bytes.
+pub record Loads {J O E S D M : Type 0} (s : Shelves S D) (most : ℕ) (name : List ℕ)
+    (Then : List ℕ → Outside J O E S M → Outside J O E S M → Result (List ℕ) Refusal → Type 0) (old new : Outside J O E S M) (r : Result (List ℕ) Refusal) : Type 0 where
   pub mid : S
   pub read : Result (List ℕ) Refusal
-  pub reads : LoadsFile s most_imported what.rules old.shelf mid read
-  pub imports : ImportedWith s g m what day csv read (record old { shelf = mid }) new r
+  pub reads : LoadsFile s most name old.shelf mid read
+  pub goes : Goes Then read (record old { shelf = mid }) new r
 
-abbrev pub ImportedAfter : {J O E S D M : Type 0} → Shelves S D → Disks D → Makers M → Importing → Day → Result (List ℕ) Refusal
+-- The file was loaded, then its rules, and then this came of the request to import it.
+abbrev pub LoadsImport : {J O E S D M : Type 0} → Shelves S D → Importing → (Request → Outside J O E S M → Outside J O E S M → Result (List ℕ) Refusal → Type 0)
     → Outside J O E S M → Outside J O E S M → Result (List ℕ) Refusal → Type 0
-ImportedAfter s g m what day (Ok csv) old new r = ImportsBy s g m what day csv old new r
-ImportedAfter s g m what day (Err x) old new r = (r ≡ Err x) × (new ≡ old)
+LoadsImport s what Then =
+    Loads s most_imported what.file (λ csv. Loads s most_imported what.rules (λ rules. Then (request.Import what.name rules csv)))
 
--- The file was read, then its rules, and then the store was asked to import it.
-pub record ImportsFile {J O E S D M : Type 0} (s : Shelves S D) (g : Disks D) (m : Makers M) (what : Importing) (day : Day)
-    (old new : Outside J O E S M) (r : Result (List ℕ) Refusal) : Type 0 where
-  pub mid : S
-  pub read : Result (List ℕ) Refusal
-  pub reads : LoadsFile s most_imported what.file old.shelf mid read
-  pub imports : ImportedAfter s g m what day read (record old { shelf = mid }) new r
+-- The store was then asked to import it.
+abbrev pub ImportsFile : {J O E S D M : Type 0} → Shelves S D → Disks D → Makers M → Importing → Day → Outside J O E S M → Outside J O E S M
+    → Result (List ℕ) Refusal → Type 0
+ImportsFile s g m what day = LoadsImport s what (λ asked. EditedBy s g m what.store asked day)
 
 -- ---- a text in the place of a store's
 

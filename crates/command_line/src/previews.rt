@@ -5,7 +5,7 @@ ghost use Rattle.store_text.specs.Shelved.{second_name as second_name_of};
 ghost use Rattle.store_commands.specs.Replies.{IsEdit};
 ghost use Rattle.command_line.specs.Answers.{IsOfFile, IsTextStatus};
 ghost use Rattle.command_line.specs.Previewing as spec;
-ghost use Rattle.command_line.specs.StoreTasks.{IsOfStored, most_imported};
+ghost use Rattle.command_line.specs.StoreTasks.{IsOfStored, Loads, most_imported};
 
 use crate::files::load_file;
 use crate::outside::Outside;
@@ -186,7 +186,7 @@ fn preview_by<J: Source, O: Sink, E: Sink, S: Shelf, M: Maker, L: Ledger>(
     steps: &mut Steps<L>,
 ) -> Result<Bytes, Refusal>
     requires { IsDay day.0 }
-    ensures previews { spec.Loads S.Shelf most_imported what.rules (λ rules. spec.PreviewsStore
+    ensures previews { Loads S.Shelf most_imported what.rules (λ rules. spec.PreviewsStore
         S.Shelf M.Maker what.store (Request.Import what.name rules csv) day)
         outside.old outside.new result }
     ensures kind { IfErr result IsOfStored }

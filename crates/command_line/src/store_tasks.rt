@@ -153,8 +153,9 @@ fn import_by<J: Source, O: Sink, E: Sink, S: Shelf, M: Maker, L: Ledger>(
     steps: &mut Steps<L>,
 ) -> Result<Bytes, Refusal>
     requires { IsDay day.0 }
-    ensures imports { spec.ImportsBy S.Shelf S.Disk.Disk M.Maker what day csv outside.old
-        outside.new result }
+    ensures imports { spec.Loads S.Shelf spec.most_imported what.rules (λ rules. spec.EditedBy
+        S.Shelf S.Disk.Disk M.Maker what.store (Request.Import what.name rules csv) day)
+        outside.old outside.new result }
     ensures kind { IfErr result spec.IsOfStored }
 {
     let Importing {

@@ -1,6 +1,7 @@
 use Rattle.std.proofs.Common.{ℕ, List, Result, Ok, Err, refl, subst}
 use Rattle.refusals.specs.declared.refusal.Refusal.{Refusal}
-use Rattle.command_line.specs.Previewing.{Goes, PreviewsFiles}
+use Rattle.command_line.specs.Previewing.{PreviewsFiles}
+use Rattle.command_line.specs.StoreTasks.{Goes}
 use Rattle.command_line.proofs.StoreEnds.{file_kind}
 use Rattle.command_line.proofs.previews.preview_named.Goals as goal
 

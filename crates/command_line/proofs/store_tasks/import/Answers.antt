@@ -9,7 +9,7 @@ returns-in-Ok-clause-imports g c =
       mid = c.load_file.new.shelf;
       read = Ok c.in-Ok.csv;
       reads = read;
-      imports = c.import_by.ensures.imports;
+      goes = c.import_by.ensures.imports;
     }
 
 pub returns-in-Err-clause-imports : goal.returns-in-Err-clause-imports
@@ -19,7 +19,7 @@ returns-in-Err-clause-imports g c =
       mid = c.load_file.new.shelf;
       read = Err c.in-Err.refusal;
       reads = read;
-      imports = (refl, refl);
+      goes = (refl, refl);
     }
 
 pub returns-in-Err-clause-kind : goal.returns-in-Err-clause-kind
