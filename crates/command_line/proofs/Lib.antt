@@ -1,6 +1,7 @@
 mod Completing
 mod Endings
 mod Finishing
+mod Importing
 mod Limits
 mod PreviewEnds
 mod Reporting

@@ -346,14 +346,15 @@ module _ {J O E S D M : Type 0} (j : Inputs J) (o : Outputs O) (e : Outputs E) (
       (unchanged old shelf)
 
   -- and so a file and its rules
-  import_by : (what : Importing) (Then : Request → Outside J O E S M → Outside J O E S M → Result (List ℕ) Refusal → Type 0) (old last : Outside J O E S M)
-      (r : Result (List ℕ) Refusal) (csv rules : List ℕ) → LoadsImport s what Then old last r → file_within most_imported what.file (s.file old.shelf what.file) ≡ Ok csv
+  import_by : (what : Importing) (Then : List ℕ → Request → Day → Outside J O E S M → Outside J O E S M → Result (List ℕ) Refusal → Type 0) (old last : Outside J O E S M)
+      (r : Result (List ℕ) Refusal) (csv rules : List ℕ) → LoadsImport s what day Then old last r → file_within most_imported what.file (s.file old.shelf what.file) ≡ Ok csv
       → file_within most_imported what.rules (s.file old.shelf what.rules) ≡ Ok rules → IsTrue ((s.tells old.shelf).files) → NoneFailed s old.shelf last.shelf
-      → ((shelf : S) → SameShelf s old.shelf shelf → Then (request.Import what.name rules csv) (record old { shelf = shelf }) last r → IsWell old last r) → IsWell old last r
+      → ((shelf : S) → SameShelf s old.shelf shelf → Then what.store (request.Import what.name rules csv) day (record old { shelf = shelf }) last r → IsWell old last r)
+      → IsWell old last r
   import_by what Then old last r csv rules loads is is_rules told none rest =
-      loads_by most_imported what.file csv (λ bytes. Loads s most_imported what.rules (λ text. Then (request.Import what.name text bytes))) old last old.shelf loads.mid loads.read r
+      loads_by most_imported what.file csv (λ bytes. Loads s most_imported what.rules (λ text. Then what.store (request.Import what.name text bytes) day)) old last old.shelf loads.mid loads.read r
       (same_at s old.shelf old.shelf refl) loads.reads loads.goes is told none
-      (λ same more. loads_by most_imported what.rules rules (λ text. Then (request.Import what.name text csv)) old last loads.mid more.mid more.read r
+      (λ same more. loads_by most_imported what.rules rules (λ text. Then what.store (request.Import what.name text csv) day) old last loads.mid more.mid more.read r
       same more.reads more.goes is_rules told none (λ again goes. rest more.mid again goes))
 
   import_well : (what : Importing) (old last : Outside J O E S M) (r : Result (List ℕ) Refusal) (csv rules : List ℕ) → ImportsFile s g m what day old last r
@@ -361,7 +362,7 @@ module _ {J O E S D M : Type 0} (j : Inputs J) (o : Outputs O) (e : Outputs E) (
       → IsTrue ((s.tells old.shelf).files) → AnswersWell what.store (request.Import what.name rules csv) day.0 (sc old)
       → NoneFailed s old.shelf last.shelf → (Rose (m.refusals old.maker) (m.refusals last.maker) → ⊥) → IsWell old last r
   import_well what old last r csv rules imports is is_rules told well none patterns =
-      import_by what (λ asked. EditedBy s g m what.store asked day) old last r csv rules imports is is_rules told none
+      import_by what (EditedBy s g m) old last r csv rules imports is is_rules told none
       (λ shelf same edited. edit_well what.store (request.Import what.name rules csv) old (record old { shelf = shelf }) last r edited same refl (unchanged old shelf) told well none patterns)
 
   -- ---- a dry run
@@ -417,7 +418,7 @@ module _ {J O E S D M : Type 0} (j : Inputs J) (o : Outputs O) (e : Outputs E) (
       → AreWithin what.store (sc old) → IsTrue ((s.tells old.shelf).files) → AnswersWell what.store (request.Import what.name rules csv) day.0 (sc old)
       → NoneFailed s old.shelf last.shelf → (Rose (m.refusals old.maker) (m.refusals last.maker) → ⊥) → IsWell old last r
   preview_well what old last r csv rules previews is is_rules within told well none patterns =
-      import_by what (λ asked. PreviewsStore s m what.store asked day) old last r csv rules previews is is_rules told none
+      import_by what (PreviewsStore s m) old last r csv rules previews is is_rules told none
       (λ shelf same store. store_well what.store (request.Import what.name rules csv) old last shelf r same store within told well none patterns)
 
 -- ---- a run

@@ -89,4 +89,4 @@ PreviewsStore s m name what day =
 -- The file was loaded, then its rules, and then it was asked what importing it would make of the store. No file is changed.
 abbrev pub PreviewsImport : {J O E S D M : Type 0} → Shelves S D → Makers M → Importing → Day → Outside J O E S M → Outside J O E S M
     → Result (List ℕ) Refusal → Type 0
-PreviewsImport s m what day = LoadsImport s what (λ asked. PreviewsStore s m what.store asked day)
+PreviewsImport s m what day = LoadsImport s what day (PreviewsStore s m)

@@ -16,6 +16,7 @@ use Rattle.store_making.specs.declared.refusal.JournalRefusal.{JournalRefusal}
 use Rattle.store_commands.specs.Asking.{EditsStore, told_by}
 use Rattle.store_commands.specs.Replacing.{ReplacesStore}
 use Rattle.store_commands.specs.Replies.{line_of as reply_line, status_of as reply_status}
+use Rattle.store_commands.specs.declared.edit.StoreEdit.{StoreEdit}
 use Rattle.command_words.specs.declared.task.Importing.{Importing}
 use Rattle.command_words.specs.declared.task.Making.{Making}
 use Rattle.command_words.specs.declared.task.Origin.TheVariants as origins
@@ -119,16 +120,39 @@ pub record Loads {J O E S D M : Type 0} (s : Shelves S D) (most : ℕ) (name : L
   pub reads : LoadsFile s most name old.shelf mid read
   pub goes : Goes Then read (record old { shelf = mid }) new r
 
--- The file was loaded, then its rules, and then this came of the request to import it.
-abbrev pub LoadsImport : {J O E S D M : Type 0} → Shelves S D → Importing → (Request → Outside J O E S M → Outside J O E S M → Result (List ℕ) Refusal → Type 0)
+-- The file was loaded, then its rules, and then this came of the request to import it into the store, on a day.
+abbrev pub LoadsImport : {J O E S D M : Type 0} → Shelves S D → Importing → Day
+    → (List ℕ → Request → Day → Outside J O E S M → Outside J O E S M → Result (List ℕ) Refusal → Type 0)
     → Outside J O E S M → Outside J O E S M → Result (List ℕ) Refusal → Type 0
-LoadsImport s what Then =
-    Loads s most_imported what.file (λ csv. Loads s most_imported what.rules (λ rules. Then (request.Import what.name rules csv)))
+LoadsImport s what day Then =
+    Loads s most_imported what.file (λ csv. Loads s most_imported what.rules (λ rules. Then what.store (request.Import what.name rules csv) day))
 
 -- The store was then asked to import it.
 abbrev pub ImportsFile : {J O E S D M : Type 0} → Shelves S D → Disks D → Makers M → Importing → Day → Outside J O E S M → Outside J O E S M
     → Result (List ℕ) Refusal → Type 0
-ImportsFile s g m what day = LoadsImport s what (λ asked. EditedBy s g m what.store asked day)
+ImportsFile s g m what day = LoadsImport s what day (EditedBy s g m)
+
+-- the edit that imports the bytes of a file, where its rules were loaded
+abbrev pub import_edit : Importing → Day → List ℕ → Result (List ℕ) Refusal → Result StoreEdit Refusal
+import_edit what day csv (Ok rules) = Ok (record { store = what.store; request = request.Import what.name rules csv; day = day })
+import_edit what day csv (Err x) = Err x
+
+-- The rules were loaded, and this is the edit, or why there is none.
+pub record LoadsRules {S D : Type 0} (s : Shelves S D) (what : Importing) (day : Day) (csv : List ℕ) (old new : S) (edit : Result StoreEdit Refusal) : Type 0 where
+  pub read : Result (List ℕ) Refusal
+  pub reads : LoadsFile s most_imported what.rules old new read
+  pub is : edit ≡ import_edit what day csv read
+
+abbrev pub RulesAfter : {S D : Type 0} → Shelves S D → Importing → Day → Result (List ℕ) Refusal → S → S → Result StoreEdit Refusal → Type 0
+RulesAfter s what day (Ok csv) old new edit = LoadsRules s what day csv old new edit
+RulesAfter s what day (Err x) old new edit = (edit ≡ Err x) × (new ≡ old)
+
+-- The file was loaded, then its rules, and this is the edit that imports it, or why there is none.
+pub record LoadsEdit {S D : Type 0} (s : Shelves S D) (what : Importing) (day : Day) (old new : S) (edit : Result StoreEdit Refusal) : Type 0 where
+  pub mid : S
+  pub read : Result (List ℕ) Refusal
+  pub reads : LoadsFile s most_imported what.file old mid read
+  pub rules : RulesAfter s what day read mid new edit
 
 -- ---- a text in the place of a store's
 

@@ -5,13 +5,12 @@ ghost use Rattle.store_text.specs.Shelved.{second_name as second_name_of};
 ghost use Rattle.store_commands.specs.Replies.{IsEdit};
 ghost use Rattle.command_line.specs.Answers.{IsOfFile, IsTextStatus};
 ghost use Rattle.command_line.specs.Previewing as spec;
-ghost use Rattle.command_line.specs.StoreTasks.{IsOfStored, Loads, most_imported};
+ghost use Rattle.command_line.specs.StoreTasks.{IsOfStored};
 
 use crate::files::load_file;
 use crate::outside::Outside;
-use crate::store_tasks::{MOST_IMPORTED, answer_reply, refuse_journal};
+use crate::store_tasks::{answer_reply, load_import, refuse_journal};
 use command_words::Importing;
-use desk::Request;
 use hl_base::{Bytes, Shelf, Sink, Source, Steps, Text};
 use hl_time::Day;
 use query::Maker;
@@ -176,42 +175,6 @@ fn preview_store<J: Source, O: Sink, E: Sink, S: Shelf, M: Maker, L: Ledger>(
     }
 }
 
-/// Asks what importing these bytes would make of a store, after their rules were loaded.
-fn preview_by<J: Source, O: Sink, E: Sink, S: Shelf, M: Maker, L: Ledger>(
-    alloc: Global,
-    what: Importing,
-    csv: Bytes,
-    day: Day,
-    outside: &mut Outside<J, O, E, S, M>,
-    steps: &mut Steps<L>,
-) -> Result<Bytes, Refusal>
-    requires { IsDay day.0 }
-    ensures previews { Loads S.Shelf most_imported what.rules (λ rules. spec.PreviewsStore
-        S.Shelf M.Maker what.store (Request.Import what.name rules csv) day)
-        outside.old outside.new result }
-    ensures kind { IfErr result IsOfStored }
-{
-    let Importing {
-        store,
-        file,
-        rules,
-        name,
-    } = what;
-    drop(file);
-    match load_file(alloc, &rules, MOST_IMPORTED, &mut outside.shelf) {
-        Ok(rules) => {
-            let request = Request::Import { name, rules, csv };
-            let edit = StoreEdit {
-                store,
-                request,
-                day,
-            };
-            preview_store(alloc, &edit, outside, steps)
-        }
-        Err(refusal) => Err(refusal),
-    }
-}
-
 /// What importing a file would add to a store. The file is loaded first, then its rules, and then the files of the store, of
 /// which none is changed.
 pub(crate) fn preview_import<J: Source, O: Sink, E: Sink, S: Shelf, M: Maker, L: Ledger>(
@@ -225,8 +188,8 @@ pub(crate) fn preview_import<J: Source, O: Sink, E: Sink, S: Shelf, M: Maker, L:
     ensures previews { spec.PreviewsImport S.Shelf M.Maker what day outside.old outside.new result }
     ensures kind { IfErr result IsOfStored }
 {
-    match load_file(alloc, &what.file, MOST_IMPORTED, &mut outside.shelf) {
-        Ok(csv) => preview_by(alloc, what, csv, day, outside, steps),
+    match load_import(alloc, what, day, &mut outside.shelf) {
+        Ok(asked) => preview_store(alloc, &asked, outside, steps),
         Err(refusal) => Err(refusal),
     }
 }

@@ -1,5 +1,5 @@
 //! What is answered to a command that makes a store or edits one.
-ghost use Rattle.std.specs.Prelude.{◌≡◌, ◌≢◌, ◌<◌, ◌-◌, ◌^◌, ◌+◌, ℕ, List, Some, None, Err, IfErr, IsTrue, length};
+ghost use Rattle.std.specs.Prelude.{◌≡◌, ◌≢◌, ◌<◌, ◌-◌, ◌^◌, ◌+◌, ℕ, List, Some, None, Err, IfErr, IfOk, IsTrue, length};
 ghost use Rattle.hl_base.specs.Causes.{Rose};
 ghost use Rattle.hl_time.specs.Calendar.{IsDay};
 ghost use Rattle.store_making.specs.Lines.{line_of, status_of};
@@ -25,7 +25,7 @@ use store_commands::{Replacement, StoreEdit, edit_store, replace_store, reply_li
 use store_making::{JournalRefusal, init_store, journal_line, journal_status};
 
 /// The most bytes of a file that is imported, and of its rules.
-pub(crate) const MOST_IMPORTED: u64 = 8_388_608;
+const MOST_IMPORTED: u64 = 8_388_608;
 
 /// The refusal of a journal, of a store of this name.
 pub(crate) fn refuse_journal(alloc: Global, name: &Text, refusal: &JournalRefusal) -> Refusal
@@ -143,19 +143,18 @@ fn add<J: Source, O: Sink, E: Sink, S: Shelf, M: Maker, L: Ledger>(
     }
 }
 
-/// Imports the bytes of a file, after its rules were read.
-fn import_by<J: Source, O: Sink, E: Sink, S: Shelf, M: Maker, L: Ledger>(
+/// The edit that imports the bytes of a file, whose rules are loaded.
+fn load_rules<S: Shelf>(
     alloc: Global,
     what: Importing,
     csv: Bytes,
     day: Day,
-    outside: &mut Outside<J, O, E, S, M>,
-    steps: &mut Steps<L>,
-) -> Result<Bytes, Refusal>
+    shelf: &mut S,
+) -> Result<StoreEdit, Refusal>
     requires { IsDay day.0 }
-    ensures imports { spec.Loads S.Shelf spec.most_imported what.rules (λ rules. spec.EditedBy
-        S.Shelf S.Disk.Disk M.Maker what.store (Request.Import what.name rules csv) day)
-        outside.old outside.new result }
+    ensures loads { spec.LoadsRules S.Shelf what day csv shelf.old shelf.new result }
+    ensures day { IfOk result (λ edit. IsDay edit.day.0) }
+    ensures edit { IfOk result (λ edit. IsEdit edit.request) }
     ensures kind { IfErr result spec.IsOfStored }
 {
     let Importing {
@@ -165,21 +164,39 @@ fn import_by<J: Source, O: Sink, E: Sink, S: Shelf, M: Maker, L: Ledger>(
         name,
     } = what;
     drop(file);
-    match load_file(alloc, &rules, MOST_IMPORTED, &mut outside.shelf) {
+    match load_file(alloc, &rules, MOST_IMPORTED, shelf) {
         Ok(rules) => {
             let request = Request::Import { name, rules, csv };
-            let what = StoreEdit {
+            Ok(StoreEdit {
                 store,
                 request,
                 day,
-            };
-            edit(alloc, &what, outside, steps)
+            })
         }
         Err(refusal) => Err(refusal),
     }
 }
 
-/// Imports a file into a store. The file is read before its rules.
+/// The edit that imports a file into a store. The file is loaded before its rules.
+pub(crate) fn load_import<S: Shelf>(
+    alloc: Global,
+    what: Importing,
+    day: Day,
+    shelf: &mut S,
+) -> Result<StoreEdit, Refusal>
+    requires { IsDay day.0 }
+    ensures loads { spec.LoadsEdit S.Shelf what day shelf.old shelf.new result }
+    ensures day { IfOk result (λ edit. IsDay edit.day.0) }
+    ensures edit { IfOk result (λ edit. IsEdit edit.request) }
+    ensures kind { IfErr result spec.IsOfStored }
+{
+    match load_file(alloc, &what.file, MOST_IMPORTED, shelf) {
+        Ok(csv) => load_rules(alloc, what, csv, day, shelf),
+        Err(refusal) => Err(refusal),
+    }
+}
+
+/// Imports a file into a store.
 fn import<J: Source, O: Sink, E: Sink, S: Shelf, M: Maker, L: Ledger>(
     alloc: Global,
     what: Importing,
@@ -192,8 +209,8 @@ fn import<J: Source, O: Sink, E: Sink, S: Shelf, M: Maker, L: Ledger>(
         result }
     ensures kind { IfErr result spec.IsOfStored }
 {
-    match load_file(alloc, &what.file, MOST_IMPORTED, &mut outside.shelf) {
-        Ok(csv) => import_by(alloc, what, csv, day, outside, steps),
+    match load_import(alloc, what, day, &mut outside.shelf) {
+        Ok(asked) => edit(alloc, &asked, outside, steps),
         Err(refusal) => Err(refusal),
     }
 }

@@ -1,17 +1,15 @@
 use Rattle.std.proofs.Common.{Ok, Err, refl}
-use Rattle.command_line.proofs.StoreEnds.{file_kind}
+use Rattle.command_line.specs.Previewing.{PreviewsStore}
+use Rattle.command_line.proofs.Importing.{imports_so}
 use Rattle.command_line.proofs.previews.preview_import.Goals as goal
 
 pub returns-in-Ok-clause-previews : goal.returns-in-Ok-clause-previews
-returns-in-Ok-clause-previews g c = record {
-  mid = c.load_file.new.shelf;
-  read = Ok c.in-Ok.csv;
-  reads = c.in-Ok.ensures;
-  goes = c.preview_by.ensures.previews;
-}
+returns-in-Ok-clause-previews g c =
+    imports_so g.S.Shelf c.args.what c.args.day (PreviewsStore g.S.Shelf g.M.Maker) c.args.outside.now c.preview_store.new.outside c.preview_store.result
+    c.load_import.new.shelf (Ok c.in-Ok.asked) c.in-Ok.ensures.loads c.preview_store.ensures.previews
 
 pub returns-in-Err-clause-previews : goal.returns-in-Err-clause-previews
-returns-in-Err-clause-previews g c = record { mid = c.load_file.new.shelf; read = Err c.in-Err.refusal; reads = c.in-Err.ensures; goes = (refl, refl) }
-
-pub returns-in-Err-clause-kind : goal.returns-in-Err-clause-kind
-returns-in-Err-clause-kind g c = file_kind c.in-Err.refusal c.in-Err.ensures.kind
+returns-in-Err-clause-previews g c =
+    let last = record (c.args.outside.now) { shelf = c.load_import.new.shelf } in
+    imports_so g.S.Shelf c.args.what c.args.day (PreviewsStore g.S.Shelf g.M.Maker) c.args.outside.now last (Err c.in-Err.refusal)
+    c.load_import.new.shelf (Err c.in-Err.refusal) c.in-Err.ensures.loads (refl, refl)
