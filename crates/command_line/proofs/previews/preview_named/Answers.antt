@@ -1,4 +1,4 @@
-use Rattle.std.proofs.Common.{ℕ, List, Result, Ok, Err, refl, subst}
+use Rattle.std.proofs.Common.{ℕ, List, Result, Err, refl, subst}
 use Rattle.refusals.specs.declared.refusal.Refusal.{Refusal}
 use Rattle.command_line.specs.Previewing.{PreviewsFiles}
 use Rattle.command_line.specs.StoreTasks.{Goes}
