@@ -1,12 +1,12 @@
 -- What reads without a year before it reads the same with any.
-use Rattle.std.proofs.Common.{◌≡◌, ℕ, ◌+◌, Bool, true, false, cond, not, ◌==◌, List, [], ◌∷◌, ◌++◌, take, drop, Option, Some, None, Result, Ok, Err, IfOk, refl, ap, ◌∙◌, arith, nat_lt, length}
+use Rattle.std.proofs.Common.{◌≡◌, ℕ, ◌+◌, Bool, true, false, cond, not, ◌==◌, List, [], ◌∷◌, ◌++◌, take, drop, Option, Some, None, Result, Ok, Err, refl, ap, ◌∙◌, arith, nat_lt, length}
 use Rattle.std.specs.Prelude.{slice_index}
 use Rattle.std.specs.Char.{is_ascii_digit}
 use Rattle.std.specs.List.{fold, prefix_len, take_while}
 use Rattle.std.specs.Str.{is_utf8}
 use Rattle.std.proofs.lemmas.Bool.{false≢true}
 use Rattle.std.proofs.lemmas.Bool.Decides.{nat_tests}
-use Rattle.hl_base.specs.Items.{items_of, kind_of}
+use Rattle.hl_base.specs.Items.{kind_of}
 use Rattle.hl_base.specs.Lines.{first_line}
 use Rattle.hl_base.specs.declared.items.Kind.{Kind}
 use Rattle.hl_base.specs.declared.items.Kind.TheVariants as kinds
@@ -18,14 +18,11 @@ use Rattle.book.specs.declared.directive.Directive.{Directive}
 use Rattle.book.specs.declared.directive.Directive.TheVariants as directive
 use Rattle.book.specs.declared.fault.Fault.{Fault}
 use Rattle.book.specs.declared.fault.Cause.TheVariants as cause
-use Rattle.book.specs.declared.item.Book.{Book}
 use Rattle.book.specs.declared.item.Item.{Item}
 use Rattle.book.specs.declared.item.Item.TheVariants as item
-use Rattle.book.specs.declared.item.Placed.{Placed}
 use Rattle.entry_reader.specs.declared.quantity.Holder.{Holder}
 use Rattle.entry_reader.specs.declared.quantity.Holder.TheVariants as holder
 use Rattle.entry_reader.specs.Causes.{fault_at, ◌>>=◌}
-use Rattle.entry_reader.specs.Comments.{is_comment}
 use Rattle.entry_reader.specs.Contexts.{Context, context_of, context_with, directives_in, year_after, mark_after, usual_after, applied_after, aliases_after, marks_after, or_else}
 use Rattle.entry_reader.specs.Heads.{day_at, day_before, head_of, is_date_byte}
 use Rattle.entry_reader.specs.Lines.{contents_of}
@@ -40,9 +37,7 @@ use Rattle.directive_reader.specs.Prices.{price_of}
 use Rattle.directive_reader.specs.Rules.{auto_of, periodic_of}
 use Rattle.directive_reader.specs.declared.keyword.Keyword.{Keyword}
 use Rattle.directive_reader.specs.declared.keyword.Keyword.TheVariants as keywords
-use Rattle.journal_reader.specs.Items.{broken_line, items_in, reading, reading_from, said_by}
-use Rattle.report_commands.specs.declared.asked.Asked.{Asked}
-use Rattle.report_commands.specs.Reports.{Report, report_over, report_read}
+use Rattle.journal_reader.specs.Items.{broken_line, reading, reading_from, said_by}
 
 -- what is answered without a year is answered with one
 abbrev pub Keeps : {A E : Type 0} → Result A E → Result A E → Type 0
@@ -242,16 +237,3 @@ from_kept y before text (p ∷ ps) =
     bind_keeps (reading (context_of None before) p.line bytes) (reading (context_of (Some y) before) p.line bytes) _ _
     (λ x e. ap (λ (c : Context). reading c p.line bytes) (context_dated y before) ∙ reading_kept (context_of None before) y p.line bytes x e)
     (λ i. bind_keeps (reading_from None (before ++ i ∷ []) text ps) (reading_from (Some y) (before ++ i ∷ []) text ps) _ _ (from_kept y (before ++ i ∷ []) text ps) (λ more x e. e))
-
--- reports
-same_ok : (r s : Result Report Fault) → s ≡ r → IfOk r (λ report. s ≡ Ok report)
-same_ok (Ok report) s e = e
-same_ok (Err fault) s e = tt
-
-by_items : (asked : Asked) (day : ℕ) (r s : Result (List Placed) Fault) → Keeps r s → IfOk (report_read asked day r) (λ report. report_read asked day s ≡ Ok report)
-by_items asked day (Ok items) s h = same_ok (report_read asked day (Ok items)) (report_read asked day s) (ap (λ (q : Result (List Placed) Fault). report_read asked day q) (h items refl))
-by_items asked day (Err fault) s h = tt
-
--- a text that loads without a year has the same report with any
-pub any_year : (asked : Asked) (day y : ℕ) (text : List ℕ) → IfOk (report_over asked day None text) (λ report. report_over asked day (Some y) text ≡ Ok report)
-any_year asked day y text = by_items asked day (items_in None text) (items_in (Some y) text) (from_kept y [] text (items_of text))

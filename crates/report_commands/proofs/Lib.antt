@@ -2,6 +2,5 @@ pub mod AnyYear
 pub mod Answering
 pub mod Fitting
 pub mod Questions
-pub mod Requests
 pub mod Steps
 pub mod Unmarked

@@ -1,10 +1,7 @@
 -- What the report commands answer.
 use Rattle.std.specs.Prelude.{◌≡◌, ℕ, List, Option, Result, Ok, Err}
-use Rattle.book.specs.declared.fault.Fault.{Fault}
 use Rattle.book.specs.declared.item.Placed.{Placed}
 use Rattle.book.specs.declared.item.Book.{Book}
-use Rattle.journal_reader.specs.Items.{items_in}
-use Rattle.balancing.specs.Load.{load}
 use Rattle.query.specs.Made.{IsPatternRefused}
 use Rattle.query_terms.specs.Making.{Stays}
 use Rattle.query_terms.specs.Reading.{terms_of}
@@ -34,21 +31,6 @@ answer_by options day items book (Err word) = Err (words_fault.BadTerm word)
 -- what is asked over the items of a text and their book on a day
 unfoldable pub answer_over : Asked → ℕ → List Placed → Book → Report
 answer_over asked day items book = answer_by asked.options day items book (terms_of day asked.words)
-
--- ---- over a text
-
-abbrev pub report_loaded : Asked → ℕ → List Placed → Result Book Fault → Result Report Fault
-report_loaded asked day items (Ok book) = Ok (answer_over asked day items book)
-report_loaded asked day items (Err fault) = Err fault
-
-abbrev pub report_read : Asked → ℕ → Result (List Placed) Fault → Result Report Fault
-report_read asked day (Ok items) = report_loaded asked day items (load items)
-report_read asked day (Err fault) = Err fault
-
--- What is asked over a text that begins in a year, on a day, or the fault that the text has: it is read, then loaded, and
--- then reported.
-abbrev pub report_over : Asked → ℕ → Option ℕ → List ℕ → Result Report Fault
-report_over asked day year text = report_read asked day (items_in year text)
 
 -- ---- what a call answers
 

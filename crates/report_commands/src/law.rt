@@ -1,5 +1,5 @@
-//! What a report owes to the year before its text and to the place of its words, and a book to what the text reads as.
-ghost use Rattle.std.specs.Prelude.{◌≡◌, ℕ, List, Option, None, Some, Ok, Err, IfOk};
+//! What a book owes to what its text reads as.
+ghost use Rattle.std.specs.Prelude.{◌≡◌, ℕ, List, Option, Ok, Err};
 ghost use Rattle.book.specs.Postings.{txns_of};
 ghost use Rattle.book.specs.declared.fault.Fault.{Fault};
 ghost use Rattle.book.specs.declared.item.Book.{Book};
@@ -8,27 +8,6 @@ ghost use Rattle.journal_reader.specs.Items.{items_in};
 ghost use Rattle.balancing.specs.Faults.{IsFaultOf};
 ghost use Rattle.balancing.specs.Load.{load};
 ghost use Rattle.balancing.specs.Solves.{Solves};
-ghost use Rattle.report_options.specs.Programs.{unnamed};
-ghost use Rattle.report_commands.specs.Commands.{asked_of, given_of};
-ghost use Rattle.report_commands.specs.declared.asked.Asked.{Asked};
-ghost use Rattle.report_commands.specs.Reports.{report_over};
-
-/// A text that loads without a year before it has the same report with any: so the reports of a journal that is kept
-/// open, whose text has no year before it, are those of a fresh run over that text on any day.
-#[tactic(auto, using(crate::proofs::AnyYear::any_year))]
-pub fn any_year()
-    ensures { (asked : Asked) (day year : ℕ) (text : List ℕ)
-        → IfOk (report_over asked day None text) (λ report.
-        report_over asked day (Some year) text ≡ Ok report) }
-{}
-
-/// What words ask for in a request they ask for behind the program's name too, over a journal that they don't name: so a
-/// reply to a request that reads is what a run with its words writes.
-#[tactic(auto, using(crate::proofs::Requests::request_runs))]
-pub fn request_runs()
-    ensures { (day : ℕ) (words : List (List ℕ))
-        → IfOk (asked_of day words) (λ asked. given_of day words ≡ Ok (unnamed, asked)) }
-{}
 
 /// The book that a text is loaded to solves what the text reads as, and a book that does is the one that it is loaded
 /// to.

@@ -1,5 +1,4 @@
-//! What the report commands answer over a book: one definition and one function, which the program and the machine of a
-//! journal that is kept open both call.
+//! What the report commands answer over a book, without entries of rules and budgets: one definition and one function.
 #![tactic(auto)]
 
 pub mod asked;
@@ -11,7 +10,7 @@ mod register;
 pub mod reporting;
 mod tables;
 
-pub use asked::{Asked, read_program_report, read_report};
+pub use asked::Asked;
 pub use fault::WordsFault;
-pub use law::{any_year, request_runs, text_faults, text_solves};
-pub use reporting::{Loaded, Material, report, report_of};
+pub use law::{text_faults, text_solves};
+pub use reporting::{Loaded, Material, report_of};

@@ -1,7 +1,5 @@
 //! The report that is asked for over a book.
 ghost use Rattle.std.specs.Prelude.{◌≡◌, ℕ, List};
-ghost use Rattle.book.specs.Style.{style_of};
-ghost use Rattle.book.specs.Styles.{style_in};
 ghost use Rattle.book.specs.declared.item.Placed.{Placed};
 ghost use Rattle.hl_base.specs.Gives.{Gives};
 ghost use Rattle.hl_time.specs.Calendar.{IsDay};
@@ -43,36 +41,9 @@ pub struct Material<'a> {
     pub day: Day,
 }
 
-/// What is asked over the items of a text and their book, by the patterns that a maker builds. Faults come in this order:
-/// the first word that is no term; the first one with a pattern that is refused; too many columns; and the least symbol
-/// that is out of range.
-pub fn report<M: Maker>(
-    alloc: Global,
-    asked: &Asked,
-    loaded: &Loaded,
-    maker: &mut M,
-) -> Result<Bytes, WordsFault>
-    requires day { IsDay loaded.now.day.0 }
-    requires valid { IsValid asked.now.options }
-    requires styles { (symbol : List ℕ)
-        → style_in loaded.now.styles.now symbol ≡ style_of loaded.now.items.now symbol }
-    ensures { Answers asked.now loaded.now.day.0 loaded.now.items.now loaded.now.book.now
-        (M.refusals maker.old) (M.refusals maker.new) (M.last_refused maker.old)
-        (M.last_refused maker.new) result }
-{
-    let types = Types::new(alloc, loaded.items)?;
-    let prices = Prices::new(alloc, loaded.items)?;
-    let material = Material {
-        book: loaded.book,
-        styles: loaded.styles,
-        types: &types,
-        prices: &prices,
-        day: loaded.day,
-    };
-    report_of(alloc, asked, &material, maker)
-}
-
-/// The same over the material that was made of some items: what is asked over any items of which it is.
+/// What is asked over the items of a text and their book, by the patterns that a maker builds, over the material that was
+/// made of the items. Faults come in this order: the first word that is no term; the first one with a pattern that is
+/// refused; too many columns; and the least symbol that is out of range.
 pub fn report_of<M: Maker>(
     alloc: Global,
     asked: &Asked,

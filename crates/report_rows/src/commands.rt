@@ -11,7 +11,10 @@ use hl_base::{Bytes, Steps};
 use hl_time::Day;
 use journal_listings::nothing_asked;
 use journal_reader::read_journal;
-use plan_commands::{asks_rules, plain_reports, request_refused, request_runs};
+use plan_commands::{
+    any_year, asks_rules, plain_reports, read_program_report, read_report, report, request_refused,
+    request_runs,
+};
 use query::RegexMaker;
 use report_commands::{Asked, Loaded, WordsFault, text_faults, text_solves};
 use report_options::Given;
@@ -40,9 +43,7 @@ fn query_words(read: Result<(Given, Asked), WordsFault>) -> Result<usize, Fail> 
 #[test]
 fn words_of_the_program_name_a_journal(rt: HostRuntime) -> Result<(), Fail> {
     nothing_asked();
-    report_commands::any_year();
-    plan_commands::any_year();
-    report_commands::request_runs();
+    any_year();
     request_runs();
     request_refused();
     plain_reports();
@@ -50,31 +51,18 @@ fn words_of_the_program_name_a_journal(rt: HostRuntime) -> Result<(), Fail> {
     text_faults();
     let alloc = rt.alloc();
     let words = words_of(alloc, "reg|-f|a.journal|rent")?;
-    let plain = report_commands::read_program_report(alloc, &words, TODAY);
-    assert_eq!(rt; query_words(plain)?, 1);
+    assert_eq!(rt; query_words(read_program_report(alloc, &words, TODAY))?, 1);
     let words = words_of(alloc, "print|-f|a.journal|--forecast=2024|rent")?;
-    let planned = plan_commands::read_program_report(alloc, &words, TODAY);
-    assert_eq!(rt; query_words(planned)?, 1);
+    assert_eq!(rt; query_words(read_program_report(alloc, &words, TODAY))?, 1);
     Ok(())
 }
 
-/// What words ask for, of rules too.
+/// What words ask for.
 pub(crate) fn asked_by(alloc: Global, words: &str) -> Result<Asked, Fail>
     ensures { IfOk result (λ asked. IsValid asked.options) }
 {
     let words = words_of(alloc, words)?;
-    match plan_commands::read_report(alloc, &words, TODAY) {
-        Ok(asked) => Ok(asked),
-        Err(_) => Err(Fail::new("the words read")),
-    }
-}
-
-/// What they ask for where no rules are asked for.
-fn plainly_asked(alloc: Global, words: &str) -> Result<Asked, Fail>
-    ensures { IfOk result (λ asked. IsValid asked.options) }
-{
-    let words = words_of(alloc, words)?;
-    match report_commands::read_report(alloc, &words, TODAY) {
+    match read_report(alloc, &words, TODAY) {
         Ok(asked) => Ok(asked),
         Err(_) => Err(Fail::new("the words read")),
     }
@@ -104,11 +92,17 @@ pub(crate) fn book_of(alloc: Global, items: Items) -> Result<Book, Fail>
     }
 }
 
-/// What is answered to some words over a text, with what its rules make.
-fn answer(alloc: Global, words: &str, items: &Items, book: &Book) -> Result<Bytes, Fail> {
+/// What is answered to some words over a text, which ask for what its rules make or don't.
+fn answer(
+    alloc: Global,
+    words: &str,
+    ruled: bool,
+    items: &Items,
+    book: &Book,
+) -> Result<Bytes, Fail> {
     let asked = asked_by(alloc, words)?;
-    if !asks_rules(&asked.options) {
-        return Err(Fail::new("rules are asked for"));
+    if asks_rules(&asked.options) != ruled {
+        return Err(Fail::new("whether rules are asked for"));
     }
     let styles = Styles::of(alloc, items.as_slice())?;
     let loaded = Loaded {
@@ -117,53 +111,22 @@ fn answer(alloc: Global, words: &str, items: &Items, book: &Book) -> Result<Byte
         styles: &styles,
         day: TODAY,
     };
-    match plan_commands::report(alloc, &asked, &loaded, &mut RegexMaker::new()) {
+    match report(alloc, &asked, &loaded, &mut RegexMaker::new()) {
         Ok(text) => Ok(text),
         Err(_) => Err(Fail::new("a report")),
     }
 }
 
-/// What is answered to them without rules.
-fn plain_answer(alloc: Global, words: &str, items: &Items, book: &Book) -> Result<Bytes, Fail> {
-    let asked = plainly_asked(alloc, words)?;
-    let styles = Styles::of(alloc, items.as_slice())?;
-    let loaded = Loaded {
-        items,
-        book,
-        styles: &styles,
-        day: TODAY,
-    };
-    match report_commands::report(alloc, &asked, &loaded, &mut RegexMaker::new()) {
-        Ok(text) => Ok(text),
-        Err(_) => Err(Fail::new("a report")),
-    }
-}
-
-/// Words have these answers where no rules are asked for.
-fn plain_rows<R: Abort>(
+/// Words have these answers.
+fn each_answered<R: Abort>(
     rt: &R,
     alloc: Global,
-    rows: &[(&str, &[u8])],
+    rows: &[(&str, bool, &[u8])],
     items: &Items,
     book: &Book,
 ) -> Result<(), Fail> {
-    for (words, wanted) in rows {
-        let found = plain_answer(alloc, words, items, book)?;
-        assert!(rt; found.as_slice() == *wanted, "{words}");
-    }
-    Ok(())
-}
-
-/// Words have these answers with what rules make.
-fn planned_rows<R: Abort>(
-    rt: &R,
-    alloc: Global,
-    rows: &[(&str, &[u8])],
-    items: &Items,
-    book: &Book,
-) -> Result<(), Fail> {
-    for (words, wanted) in rows {
-        let found = answer(alloc, words, items, book)?;
+    for (words, ruled, wanted) in rows {
+        let found = answer(alloc, words, *ruled, items, book)?;
         assert!(rt; found.as_slice() == *wanted, "{words}");
     }
     Ok(())
@@ -175,8 +138,7 @@ fn each_over<L: Ledger, R: Abort>(
     alloc: Global,
     blank: Blank,
     text: &[u8],
-    plain: &[(&str, &[u8])],
-    planned: &[(&str, &[u8])],
+    rows: &[(&str, bool, &[u8])],
 ) -> Result<(), Fail>
     requires name { blank.name ≡ L.name }
     requires parts { blank.parts ≡ L.parts }
@@ -186,56 +148,60 @@ fn each_over<L: Ledger, R: Abort>(
     assert!(rt; text.len() < 1_000);
     let items = items_of(alloc, text, &mut steps)?;
     let book = book_of(alloc, items_of(alloc, text, &mut steps)?)?;
-    plain_rows(rt, alloc, plain, &items, &book)?;
-    planned_rows(rt, alloc, planned, &items, &book)
+    each_answered(rt, alloc, rows, &items, &book)
 }
 
 /// A price, a rule of each kind, and an entry that the first one matches.
 const BREAD: &[u8] =
     b"P 2024-01-01 EUR 2 USD\n= expenses:food\n    (budget:food)  *-1\n~ monthly\n    expenses:food  40 EUR\n    assets:cash\n2024-01-05 bread\n    expenses:food  10 EUR\n    assets:cash  -10 EUR\n";
 
-/// Each report without rules, one of them a table of values with totals and averages, the greater amount first.
-const PLAIN: [(&str, &[u8]); 7] = [
+/// Words, whether they ask for what rules make, and their answers: each report without rules, one of them a table of values
+/// with totals and averages, the greater amount first; the tree of what the one rule adds, and a part of the other's goal.
+const ANSWERS: [(&str, bool, &[u8]); 9] = [
     (
         "print|food",
+        false,
         b"2024-01-05 bread\n    expenses:food   10 EUR\n    assets:cash    -10 EUR\n\n",
     ),
-    ("accounts", b"assets:cash\nexpenses:food\n"),
+    ("accounts", false, b"assets:cash\nexpenses:food\n"),
     (
         "register|-V|--depth=1|food",
+        false,
         b"2024-01-05 bread                 expenses                    20 USD       20 USD\n",
     ),
     (
         "balance",
+        false,
         b"             -10 EUR  assets:cash\n              10 EUR  expenses:food\n--------------------\n                   0  \n",
     ),
     (
         "balance|-M|-V|-T|-A|-S",
+        false,
         b"Balance changes in 2024-01-01..2024-01-31:\n\n               || 2024-01    Total  Average \n===============++===========================\n expenses:food ||  20 USD   20 USD   20 USD \n assets:cash   || -20 USD  -20 USD  -20 USD \n---------------++---------------------------\n               ||       0        0        0 \n",
     ),
     (
         "is|-M",
+        false,
         b"Income Statement 2024-01-01..2024-01-31\n\n               || 2024-01 \n===============++=========\n Revenues      ||         \n---------------++---------\n---------------++---------\n               ||       0 \n===============++=========\n Expenses      ||         \n---------------++---------\n expenses:food ||  10 EUR \n---------------++---------\n               ||  10 EUR \n===============++=========\n Net:          || -10 EUR \n",
     ),
     (
         "bs|-M",
+        false,
         b"Balance Sheet 2024-01-01..2024-01-31\n\n             || 2024-01-31 \n=============++============\n Assets      ||            \n-------------++------------\n assets:cash ||    -10 EUR \n-------------++------------\n             ||    -10 EUR \n=============++============\n Liabilities ||            \n-------------++------------\n-------------++------------\n             ||          0 \n=============++============\n Net:        ||    -10 EUR \n",
     ),
-];
-
-/// The tree of what the one rule adds, and a part of the other's goal.
-const PLANNED: [(&str, &[u8]); 2] = [
     (
         "balance|--auto|-t|-N|budget",
+        true,
         b"             -10 EUR  budget\n             -10 EUR    food\n",
     ),
     (
         "balance|--budget|-M|-b|2024-01-01|-e|2024-02-01|food",
+        true,
         b"Budget performance in 2024-01-01..2024-01-31:\n\n               ||                2024-01 \n===============++========================\n expenses:food || 10 EUR [25% of 40 EUR] \n---------------++------------------------\n               || 10 EUR [25% of 40 EUR] \n",
     ),
 ];
 
 #[test]
 fn reports_over_an_entry(rt: HostRuntime) -> Result<(), Fail> {
-    each_over::<Brand, HostRuntime>(&rt, rt.alloc(), Blank::new(3), BREAD, &PLAIN, &PLANNED)
+    each_over::<Brand, HostRuntime>(&rt, rt.alloc(), Blank::new(3), BREAD, &ANSWERS)
 }
