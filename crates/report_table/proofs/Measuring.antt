@@ -6,13 +6,13 @@ use Rattle.report_table.specs.Cells.{width_of, widest}
 use Rattle.report_table.specs.Tables.{cells_at, column_width, column_widths, names_in}
 use Rattle.report_table.specs.declared.lines.TableLine.{TableLine}
 
-widest-max : (w least : ℕ) (texts : List (List ℕ)) → widest (max w least) texts ≡ max w (widest least texts)
+pub widest-max : (w least : ℕ) (texts : List (List ℕ)) → widest (max w least) texts ≡ max w (widest least texts)
 widest-max w least [] = refl
 widest-max w least (t ∷ ts) =
     let rest : widest (max w least) ts ≡ max w (widest least ts) = widest-max w least ts in
     rw rest (omega arith)
 
-widest-append : (least : ℕ) (xs ys : List (List ℕ)) → widest least (xs ++ ys) ≡ widest (widest least xs) ys
+pub widest-append : (least : ℕ) (xs ys : List (List ℕ)) → widest least (xs ++ ys) ≡ widest (widest least xs) ys
 widest-append least [] ys = refl
 widest-append least (x ∷ xs) ys =
     ap (max (width_of x)) (widest-append least xs ys) ∙ sym (widest-max (width_of x) (widest least xs) ys)

@@ -1,16 +1,16 @@
 //! The text of a table.
 ghost use Rattle.std.specs.Prelude.{◌≡◌, ◌++◌, ◌∷◌, [], IfOk, OnOk, codes, replicate};
 ghost use Rattle.std.specs.List.{flat_map};
-ghost use Rattle.hl_base.specs.Ascii.{space};
+ghost use Rattle.hl_base.specs.Ascii.{line_feed, space};
 ghost use Rattle.book.specs.Styles.{style_in};
-ghost use Rattle.report_table.specs.Tables.{aligned, framed, left_aligned, line_text, ruled, table_text};
+ghost use Rattle.report_table.specs.Tables.{aligned, framed, left_aligned, line_text, lines_text, ruled, table_text};
 
 use crate::lines::{TableLine, table_lines};
-use crate::printed::Printed;
 use crate::table::Table2;
+use crate::texts::Printed;
 use crate::widths::{column_widths, name_width};
 use book::Styles;
-use hl_base::{Bytes, Memory};
+use hl_base::{Bytes, Memory, Text};
 use std::alloc::Global;
 
 /// A table as text: its title, an empty line, and its lines, each ended by LF. A name stands left aligned behind a space,
@@ -22,12 +22,27 @@ pub fn table_text(alloc: Global, table: &Table2, styles: &Styles) -> Result<Byte
     ensures { IfOk result (λ text. text ≡ table_text (style_in styles.now) table.now) }
 {
     let lines = table_lines(alloc, table, styles)?;
-    let width = name_width(lines.as_slice());
-    let widths = column_widths(alloc, table.heads.len(), lines.as_slice())?;
+    let text = titled_lines(alloc, &table.title, table.heads.len(), lines.as_slice())?;
+    Ok(text)
+}
+
+/// A title, an empty line, and the lines of a table with a number of columns, each ended by LF. Names and cells stand in
+/// the widths of the widest. Fails only for want of memory.
+pub fn titled_lines(
+    alloc: Global,
+    title: &Text,
+    columns: usize,
+    lines: &[TableLine],
+) -> Result<Bytes, Memory>
+    ensures { IfOk result (λ text. text
+        ≡ title.now ++ (line_feed ∷ line_feed ∷ []) ++ lines_text columns lines.now) }
+{
+    let width = name_width(lines);
+    let widths = column_widths(alloc, columns, lines)?;
     let mut out = Vec::new(alloc);
-    out.extend_from_slice(table.title.as_bytes())?;
+    out.extend_from_slice(title.as_bytes())?;
     out.extend_from_slice(b"\n\n")?;
-    push_lines(&mut out, width, widths.as_slice(), lines.as_slice())?;
+    push_lines(&mut out, width, widths.as_slice(), lines)?;
     Ok(Bytes::from_vec(out))
 }
 
@@ -126,7 +141,7 @@ fn push_rule(out: &mut Vec<u8>, mark: u8, width: usize) -> Result<(), Memory>
 }
 
 /// Appends a byte a number of times.
-fn push_repeated(out: &mut Vec<u8>, byte: u8, count: usize) -> Result<(), Memory>
+pub fn push_repeated(out: &mut Vec<u8>, byte: u8, count: usize) -> Result<(), Memory>
     ensures { OnOk result (out.new.items ≡ out.old.items ++ replicate count byte) }
 {
     for _pushed in 0..count {

@@ -3,9 +3,11 @@
 
 mod layout;
 mod lines;
-mod printed;
 mod table;
+mod texts;
 mod widths;
 
-pub use layout::table_text;
+pub use layout::{push_repeated, table_text, titled_lines};
+pub use lines::{THICK, THIN, TableLine, head_line};
 pub use table::{Section, Table2};
+pub use texts::{Printed, push_cell_text};

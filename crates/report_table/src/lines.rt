@@ -4,8 +4,8 @@ ghost use Rattle.std.specs.List.{flat_map};
 ghost use Rattle.book.specs.Styles.{style_in};
 ghost use Rattle.report_table.specs.Tables.{block_lines, head_line, last_lines, name_lines, row_line, section_lines, table_lines, total_lines};
 
-use crate::printed::{Printed, cell_texts};
 use crate::table::{Section, Table2};
+use crate::texts::{Printed, cell_texts};
 use book::{Mixed, Styles};
 use hl_base::{List, Memory, Text};
 use std::alloc::Global;
@@ -18,10 +18,10 @@ pub enum TableLine {
 }
 
 /// The rule below a section's name and above its totals.
-const THIN: u8 = b'-';
+pub const THIN: u8 = b'-';
 
 /// The rule above a section and above the last line.
-const THICK: u8 = b'=';
+pub const THICK: u8 = b'=';
 
 /// The lines of a table: the heads, and below a thick rule each the sections and the last line.
 pub fn table_lines(alloc: Global, table: &Table2, styles: &Styles) -> Result<Vec<TableLine>, Memory>
@@ -49,7 +49,7 @@ fn printed(alloc: Global, text: &Text) -> Result<Printed, Memory>
 }
 
 /// The line of the heads, which has no name.
-fn head_line(alloc: Global, heads: &[Text]) -> Result<TableLine, Memory>
+pub fn head_line(alloc: Global, heads: &[Text]) -> Result<TableLine, Memory>
     ensures { IfOk result (λ line. line ≡ head_line heads.now) }
 {
     let mut cells = Vec::new(alloc);

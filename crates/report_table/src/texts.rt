@@ -31,6 +31,7 @@ impl Model for Printed {
 }
 
 impl Printed {
+    /// The text, measured.
     pub fn new(text: Text) -> Printed
         ensures { result ≡ text }
     {
@@ -38,13 +39,14 @@ impl Printed {
         Printed { text, columns }
     }
 
+    /// The bytes of the text.
     pub fn as_bytes(&self) -> &[u8]
         ensures { result.now ≡ self.now }
     {
         self.text.as_bytes()
     }
 
-    /// The columns that the text takes.
+    /// The columns that the text takes on a terminal.
     pub fn columns(&self) -> usize
         ensures { result ≡ width_of self.now }
     {
@@ -78,18 +80,36 @@ fn push_amounts(
     Ok(())
 }
 
-/// The text of a cell: its sums with `, ` between them, or `0` where there is none.
-pub fn cell_text(alloc: Global, cell: &Mixed, styles: &Styles) -> Result<Printed, Memory>
-    ensures { IfOk result (λ text. text ≡ cell_text (style_in styles.now) cell.now) }
+/// Appends the text of a cell: its sums with `, ` between them, or `0` where there is none.
+pub fn push_cell_text(
+    alloc: Global,
+    out: &mut String,
+    sums: &[(Text, Dec)],
+    styles: &Styles,
+) -> Result<(), Memory>
+    ensures { OnOk result (string_bytes out.new
+        ≡ string_bytes out.old ++ cell_text (style_in styles.now) sums.now) }
 {
-    match cell.entries() {
-        [] => Ok(Printed::new(Text::copied(alloc, "0")?)),
+    match sums {
+        [] => {
+            out.push_str("0")?;
+            Ok(())
+        }
         [first, rest @ ..] => {
-            let mut text = amount_text(alloc, first, styles)?.into_string(alloc)?;
-            push_amounts(alloc, &mut text, rest, styles)?;
-            Ok(Printed::new(Text::from_string(text)))
+            let text = amount_text(alloc, first, styles)?;
+            out.push_str(text.as_str())?;
+            push_amounts(alloc, out, rest, styles)
         }
     }
+}
+
+/// The text of a cell.
+fn cell_text(alloc: Global, cell: &Mixed, styles: &Styles) -> Result<Printed, Memory>
+    ensures { IfOk result (λ text. text ≡ cell_text (style_in styles.now) cell.now) }
+{
+    let mut text = String::new(alloc);
+    push_cell_text(alloc, &mut text, cell.entries(), styles)?;
+    Ok(Printed::new(Text::from_string(text)))
 }
 
 /// The texts of some cells.

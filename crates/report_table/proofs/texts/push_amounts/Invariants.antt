@@ -3,7 +3,7 @@ use Rattle.std.specs.List.{flat_map}
 use Rattle.std.specs.String.{string_bytes}
 use Rattle.book.specs.Styles.{style_in}
 use Rattle.report_table.specs.Cells.{next_amount}
-use Rattle.report_table.proofs.printed.push_amounts.Given as goal
+use Rattle.report_table.proofs.texts.push_amounts.Given as goal
 
 abbrev pub invariant-loop-sum : goal.invariant-loop-sum
 invariant-loop-sum l =
