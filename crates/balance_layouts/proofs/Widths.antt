@@ -5,22 +5,14 @@ use Rattle.std.proofs.lemmas.List.{at_drop_more}
 use Rattle.hl_base.specs.Ascii.{line_feed}
 use Rattle.book.specs.declared.style.Style.{Style}
 use Rattle.report_cells.specs.Report.{Sums}
+use Rattle.report_table.specs.Cells.{width_of, widest}
+use Rattle.report_table.specs.Tables.{right_aligned}
+use Rattle.report_table.proofs.Measuring.{widest-append, widest-max}
 use Rattle.balance_rows.specs.declared.layout.Layout.{Layout}
 use Rattle.balance_rows.specs.Layouts.{name_in}
 use Rattle.balance_rows.specs.Rows.{Row, first_cell}
 use Rattle.balance_layouts.specs.Lists.{balance_list, least_columns, list_above}
-use Rattle.balance_layouts.specs.Shown.{Printed, amount_lines, named_line, printed_row, right_aligned, row_lines, texts_of, width_of, widest}
-
-pub widest-max : (w least : ℕ) (texts : List (List ℕ)) → widest (max w least) texts ≡ max w (widest least texts)
-widest-max w least [] = refl
-widest-max w least (t ∷ ts) =
-    let rest : widest (max w least) ts ≡ max w (widest least ts) = widest-max w least ts in
-    rw rest (omega arith)
-
-pub widest-append : (least : ℕ) (xs ys : List (List ℕ)) → widest least (xs ++ ys) ≡ widest (widest least xs) ys
-widest-append least [] ys = refl
-widest-append least (x ∷ xs) ys =
-    ap (max (width_of x)) (widest-append least xs ys) ∙ sym (widest-max (width_of x) (widest least xs) ys)
+use Rattle.balance_layouts.specs.Shown.{Printed, amount_lines, named_line, printed_row, row_lines, texts_of}
 
 pub widest-swap : (least : ℕ) (xs ys : List (List ℕ)) → widest least (xs ++ ys) ≡ widest (widest least ys) xs
 widest-swap least [] ys = refl

@@ -3,10 +3,11 @@ use Rattle.std.specs.Prelude.{ℕ, List, ◌++◌, map, if◌then◌else◌}
 use Rattle.std.specs.List.{flat_map}
 use Rattle.book.specs.declared.style.Style.{Style}
 use Rattle.report_cells.specs.Report.{Sums}
+use Rattle.report_table.specs.Cells.{widest}
 use Rattle.balance_rows.specs.declared.layout.Layout.{Layout}
 use Rattle.balance_rows.specs.Layouts.{name_in}
 use Rattle.balance_rows.specs.Rows.{Row, first_cell}
-use Rattle.balance_layouts.specs.Shown.{Printed, end_lines, printed_row, row_lines, texts_of, widest}
+use Rattle.balance_layouts.specs.Shown.{Printed, end_lines, printed_row, row_lines, texts_of}
 
 -- the least number of columns of the amounts
 abbrev pub least_columns : ℕ

@@ -1,20 +1,11 @@
 -- The rows of a balance list, printed, and their lines.
-use Rattle.std.specs.Prelude.{ℕ, ◌-◌, false, List, [], ◌∷◌, ◌++◌, map, max, replicate, chars, codes}
-use Rattle.hl_base.specs.Ascii.{line_feed, space}
-use Rattle.unicode_width.specs.Width.{str_width}
+use Rattle.std.specs.Prelude.{ℕ, List, [], ◌∷◌, ◌++◌, map, replicate, codes}
+use Rattle.hl_base.specs.Ascii.{line_feed}
 use Rattle.book.specs.declared.style.Style.{Style}
 use Rattle.book.specs.Printed.{printed_units_of}
 use Rattle.report_cells.specs.Report.{Sums}
+use Rattle.report_table.specs.Tables.{right_aligned}
 use Rattle.balance_rows.specs.Rows.{Row, first_cell}
-
--- how many columns a text takes
-abbrev pub width_of : List ℕ → ℕ
-width_of text = str_width false (chars text)
-
--- the widest of some texts, and at least that wide
-abbrev pub widest : ℕ → List (List ℕ) → ℕ
-widest least [] = least
-widest least (text ∷ texts) = max (width_of text) (widest least texts)
 
 -- the texts of some sums, each in its symbol's style
 abbrev pub texts_of : (List ℕ → Style) → Sums → List (List ℕ)
@@ -26,10 +17,6 @@ Printed = List ℕ × List (List ℕ)
 
 abbrev pub printed_row : (List ℕ → List ℕ) → (List ℕ → Style) → Row → Printed
 printed_row name style row = (name row.0, texts_of style (first_cell row.1))
-
--- right aligned in a number of columns
-abbrev pub right_aligned : ℕ → List ℕ → List ℕ
-right_aligned width text = replicate (width - width_of text) space ++ text
 
 -- the line of an amount that a name follows
 abbrev pub named_line : ℕ → List ℕ → List ℕ → List ℕ

@@ -26,12 +26,8 @@ fn is_lesser(symbol: &Text, least: &Option<Text>) -> bool
     }
 }
 
-/// Keeps a symbol, where it is less than the one that is kept, or none is kept.
-pub(crate) fn keep_lesser(
-    alloc: Global,
-    least: &mut Option<Text>,
-    symbol: &Text,
-) -> Result<(), Memory>
+/// Keeps a symbol, where it is less than the one that is kept, or none is kept. Fails only for want of memory.
+pub fn keep_lesser(alloc: Global, least: &mut Option<Text>, symbol: &Text) -> Result<(), Memory>
     ensures { OnOk result (least.new ≡ lesser least.old symbol.now) }
 {
     if is_lesser(symbol, least) {

@@ -15,7 +15,7 @@ mod totals;
 
 pub use averaging::averages;
 pub use balance::balance_text;
-pub use least::check_averages;
+pub use least::{check_averages, keep_lesser};
 pub use list::list_text;
 pub use table::{table_rows, table_text, table_totals};
 pub use titles::{heads, span_name, title};

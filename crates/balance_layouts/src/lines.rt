@@ -1,23 +1,14 @@
 //! The lines of a balance list.
-ghost use Rattle.std.specs.Prelude.{◌≡◌, ◌++◌, ◌∷◌, [], OnOk, replicate};
+ghost use Rattle.std.specs.Prelude.{◌≡◌, ◌++◌, ◌∷◌, [], OnOk};
 ghost use Rattle.std.specs.List.{flat_map};
 ghost use Rattle.hl_base.specs.Ascii.{line_feed};
-ghost use Rattle.balance_layouts.specs.Shown.{amount_lines, end_lines, named_line, right_aligned, row_lines};
+ghost use Rattle.report_table.specs.Tables.{right_aligned};
+ghost use Rattle.balance_layouts.specs.Shown.{amount_lines, end_lines, named_line, row_lines};
 
-use crate::printed::Printed;
 use crate::shown::Shown;
 use hl_base::{Memory, Text};
+use report_table::{Printed, push_repeated};
 use std::alloc::Global;
-
-/// Appends a byte a number of times.
-fn push_repeated(out: &mut Vec<u8>, byte: u8, count: usize) -> Result<(), Memory>
-    ensures { OnOk result (out.new.items ≡ out.old.items ++ replicate count byte) }
-{
-    for _pushed in 0..count {
-        out.push(byte)?;
-    }
-    Ok(())
-}
 
 /// Appends an amount, right aligned in a number of columns.
 fn push_aligned(out: &mut Vec<u8>, columns: usize, amount: &Printed) -> Result<(), Memory>

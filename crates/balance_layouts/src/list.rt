@@ -3,16 +3,18 @@ ghost use Rattle.std.specs.Prelude.{◌≡◌, IfOk, map};
 ghost use Rattle.std.specs.List.{flat_map};
 ghost use Rattle.book.specs.Styles.{style_in};
 ghost use Rattle.report_cells.specs.Report.{row_seen, seen};
+ghost use Rattle.report_table.specs.Cells.{widest};
 ghost use Rattle.balance_layouts.specs.Lists.{balance_list, least_columns, list_above};
-ghost use Rattle.balance_layouts.specs.Shown.{row_lines, widest};
+ghost use Rattle.balance_layouts.specs.Shown.{row_lines};
 
 use crate::lines::{push_end, push_rows};
-use crate::printed::{Printed, printed_cell, widest_amount};
+use crate::printed::{printed_cell, widest_amount};
 use crate::shown::{Shown, printed_rows, widest_row};
 use balance_rows::Layout;
 use book::{Mixed, Styles};
 use hl_base::{Bytes, Memory};
 use report_cells::CellRow;
+use report_table::Printed;
 use std::alloc::Global;
 
 /// The least number of columns of the amounts.

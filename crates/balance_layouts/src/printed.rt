@@ -1,56 +1,16 @@
-//! Printed amounts, each with the columns that it takes.
-ghost use Rattle.std.specs.Prelude.{◌≡◌, IfOk, List, ℕ, map, max};
+//! Printed amounts.
+ghost use Rattle.std.specs.Prelude.{◌≡◌, IfOk, map};
 ghost use Rattle.book.specs.Styles.{style_in};
 ghost use Rattle.report_cells.specs.Report.{seen};
+ghost use Rattle.report_table.specs.Cells.{widest};
 ghost use Rattle.balance_rows.specs.Rows.{first_cell};
-ghost use Rattle.balance_layouts.specs.Shown.{texts_of, width_of, widest};
+ghost use Rattle.balance_layouts.specs.Shown.{texts_of};
 
 use book::{Mixed, Styles, print_amount};
 use hl_base::{Memory, Text};
 use hl_num::Dec;
+use report_table::Printed;
 use std::alloc::Global;
-use std::marker::Model;
-use unicode_width::UnicodeWidthStr;
-
-/// A printed amount, with the columns that it takes. Contracts see its text.
-#[derive(Drop)]
-pub(crate) struct Printed {
-    text: Text,
-    columns: usize,
-}
-
-impl Model for Printed {
-    ghost use Rattle.std.specs.Prelude.{◌≡◌, List, ℕ};
-    ghost use Rattle.balance_layouts.specs.Shown.{width_of};
-
-    ghost Value = { List ℕ };
-
-    ghost view = { λ p. p.text };
-
-    ghost invariant = { λ p. p.columns ≡ width_of p.text };
-}
-
-impl Printed {
-    pub fn new(text: Text) -> Printed
-        ensures { result ≡ text }
-    {
-        let columns = text.as_str().width();
-        Printed { text, columns }
-    }
-
-    pub fn as_bytes(&self) -> &[u8]
-        ensures { result.now ≡ self.now }
-    {
-        self.text.as_bytes()
-    }
-
-    /// The columns that the amount takes.
-    pub fn columns(&self) -> usize
-        ensures { result ≡ width_of self.now }
-    {
-        self.columns
-    }
-}
 
 /// Each sum of a list, printed in its symbol's style.
 fn printed_sums(

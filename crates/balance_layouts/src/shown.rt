@@ -3,14 +3,16 @@ ghost use Rattle.std.specs.Prelude.{◌≡◌, IfOk, List, ℕ, map};
 ghost use Rattle.std.specs.List.{flat_map};
 ghost use Rattle.book.specs.Styles.{style_in};
 ghost use Rattle.report_cells.specs.Report.{row_seen};
+ghost use Rattle.report_table.specs.Cells.{widest};
 ghost use Rattle.balance_rows.specs.Layouts.{name_in};
-ghost use Rattle.balance_layouts.specs.Shown.{printed_row, widest};
+ghost use Rattle.balance_layouts.specs.Shown.{printed_row};
 
-use crate::printed::{Printed, printed_cell, widest_amount};
+use crate::printed::{printed_cell, widest_amount};
 use balance_rows::{Order, name_of};
 use book::Styles;
 use hl_base::{Memory, Text};
 use report_cells::CellRow;
+use report_table::Printed;
 use std::alloc::Global;
 use std::marker::Model;
 

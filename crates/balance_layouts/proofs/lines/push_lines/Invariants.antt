@@ -1,7 +1,7 @@
 use Rattle.std.proofs.Common.{◌≡◌, ◌++◌, ◌∷◌, [], take}
 use Rattle.std.specs.List.{flat_map}
 use Rattle.hl_base.specs.Ascii.{line_feed}
-use Rattle.balance_layouts.specs.Shown.{right_aligned}
+use Rattle.report_table.specs.Tables.{right_aligned}
 use Rattle.balance_layouts.proofs.lines.push_lines.Given as goal
 
 abbrev pub invariant-loop-amount : goal.invariant-loop-amount

@@ -2,8 +2,9 @@ use Rattle.std.proofs.Common.{◌≡◌, ℕ, List, map, IfOk, subst}
 use Rattle.std.specs.List.{flat_map}
 use Rattle.book.specs.Styles.{style_in}
 use Rattle.report_cells.specs.Report.{row_seen, seen}
+use Rattle.report_table.specs.Cells.{widest}
 use Rattle.balance_layouts.specs.Lists.{balance_list, least_columns, list_above}
-use Rattle.balance_layouts.specs.Shown.{Printed, widest}
+use Rattle.balance_layouts.specs.Shown.{Printed}
 use Rattle.balance_layouts.proofs.Answering.{if_ok}
 use Rattle.balance_layouts.proofs.Widths.{list_from_parts}
 use Rattle.balance_layouts.proofs.list.list_text.Goals as goal

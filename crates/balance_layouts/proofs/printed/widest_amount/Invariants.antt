@@ -1,5 +1,5 @@
 use Rattle.std.proofs.Common.{◌≡◌, drop}
-use Rattle.balance_layouts.specs.Shown.{widest}
+use Rattle.report_table.specs.Cells.{widest}
 use Rattle.balance_layouts.proofs.printed.widest_amount.Given as goal
 
 abbrev pub invariant-loop-amount : goal.invariant-loop-amount

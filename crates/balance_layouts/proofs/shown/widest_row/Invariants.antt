@@ -1,6 +1,6 @@
 use Rattle.std.proofs.Common.{◌≡◌, drop}
 use Rattle.std.specs.List.{flat_map}
-use Rattle.balance_layouts.specs.Shown.{widest}
+use Rattle.report_table.specs.Cells.{widest}
 use Rattle.balance_layouts.proofs.shown.widest_row.Given as goal
 
 abbrev pub invariant-loop-row : goal.invariant-loop-row
