@@ -4,7 +4,6 @@ pub mod Counting
 pub mod Fitted
 pub mod Lining
 pub mod Linked
-pub mod Measured
 pub mod Parts
 pub mod Placing
 pub mod Promised

@@ -3,7 +3,6 @@ pub mod Counted
 pub mod Fits
 pub mod Grouped
 pub mod Lined
-pub mod OnLine
 pub mod OnPage
 pub mod Percents
 pub mod Placed

@@ -8,6 +8,7 @@ ghost use Rattle.budget_layout.specs.Beside.{beside, beside_out};
 use crate::cell::budget_cell;
 use book::{Mixed, Styles};
 use hl_base::{List, Memory, Text};
+use report_table::Printed;
 use std::alloc::Global;
 
 /// The texts of cells, each beside that of its goals. Of the symbols in which a percentage can't be told and the one
@@ -18,7 +19,7 @@ pub(crate) fn beside(
     goals: &[Mixed],
     styles: &Styles,
     least: &mut Option<Text>,
-) -> Result<List<Text>, Memory>
+) -> Result<List<Printed>, Memory>
     ensures texts { IfOk result (λ texts. texts
         ≡ beside (style_in styles.now) (map seen actual.now) (map seen goals.now)) }
     ensures least { OnOk result (least.new

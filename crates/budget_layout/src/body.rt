@@ -10,7 +10,6 @@ ghost use Rattle.balance_layouts.specs.TableRows.{seen_totals};
 ghost use Rattle.balance_layouts.specs.Totals.{TotalsFit, asks_totals};
 ghost use Rattle.budget_layout.specs.Fits.{CellsFit};
 ghost use Rattle.budget_layout.specs.Lined.{goals_in};
-ghost use Rattle.budget_layout.specs.OnLine.{as_line};
 ghost use Rattle.budget_layout.specs.OnPage.{layout_on};
 ghost use Rattle.budget_layout.specs.RowsFit.{LinesFit};
 ghost use Rattle.budget_layout.specs.Shown.{body_on, body_out_on, last_on, last_out_on, line_on, line_out_on, lines_on, outs_on};
@@ -18,7 +17,6 @@ ghost use Rattle.budget_layout.specs.Told.{told_by};
 
 use crate::beside::beside;
 use crate::goals::{GoalCells, wide_goals};
-use crate::line::{Line, THIN};
 use crate::page::Page;
 use crate::places::Places;
 use crate::rows::{Rows, budget_rows};
@@ -26,6 +24,7 @@ use balance_layouts::{check_averages, with_total};
 use book::Mixed;
 use hl_base::{List, Memory, Text};
 use report_cells::{CellRow, Cells, ReportFault};
+use report_table::{Printed, THIN, TableLine};
 use std::alloc::Global;
 
 /// The line of a row beside its goals. Of the symbols in which an average or a percentage can't be told and the one that
@@ -36,10 +35,10 @@ fn budget_line(
     row: CellRow,
     goals: &[Mixed],
     least: &mut Option<Text>,
-) -> Result<Line, Memory>
+) -> Result<TableLine, Memory>
     requires some { 0 < page.now.columns }
     requires fits { asks_totals (layout_on page.now) ≡ true → RowFits (row_seen row) }
-    ensures line { IfOk result (λ line. as_line line
+    ensures line { IfOk result (λ line. line
         ≡ line_on page.now (row_seen row) (map seen goals.now)) }
     ensures least { OnOk result (least.new
         ≡ least_with least.old (line_out_on page.now (row_seen row) (map seen goals.now))) }
@@ -48,21 +47,21 @@ fn budget_line(
     let columns = page.columns as u64;
     let cells = with_total(alloc, cells, page.layout, columns, page.styles, least)?;
     let texts = beside(alloc, cells.as_slice(), goals, page.styles, least)?;
-    Ok(Line::Row(account, texts))
+    Ok(TableLine::Row(Printed::new(account), texts))
 }
 
 /// Appends the line of a row beside its goals.
 fn push_row(
     alloc: Global,
     page: &Page,
-    lines: &mut Vec<Line>,
+    lines: &mut Vec<TableLine>,
     row: CellRow,
     goals: &[Mixed],
     least: &mut Option<Text>,
 ) -> Result<(), Memory>
     requires some { 0 < page.now.columns }
     requires fits { asks_totals (layout_on page.now) ≡ true → RowFits (row_seen row) }
-    ensures lines { OnOk result (map as_line lines.new.items ≡ map as_line lines.old.items
+    ensures lines { OnOk result (lines.new.items ≡ lines.old.items
         ++ line_on page.now (row_seen row) (map seen goals.now) ∷ []) }
     ensures least { OnOk result (least.new
         ≡ least_with least.old (line_out_on page.now (row_seen row) (map seen goals.now))) }
@@ -76,7 +75,7 @@ fn push_row(
 fn push_rows(
     alloc: Global,
     page: &Page,
-    lines: &mut Vec<Line>,
+    lines: &mut Vec<TableLine>,
     rows: List<CellRow>,
     goals: &GoalCells,
     least: &mut Option<Text>,
@@ -84,7 +83,7 @@ fn push_rows(
     requires some { 0 < page.now.columns }
     requires fits { asks_totals (layout_on page.now) ≡ true
         → AllByRecursion RowFits (map row_seen rows) }
-    ensures lines { OnOk result (map as_line lines.new.items ≡ map as_line lines.old.items
+    ensures lines { OnOk result (lines.new.items ≡ lines.old.items
         ++ lines_on page.now (goals_in goals.now) (map row_seen rows)) }
     ensures least { OnOk result (least.new
         ≡ least_with least.old (outs_on page.now (goals_in goals.now) (map row_seen rows))) }
@@ -99,14 +98,14 @@ fn push_rows(
 fn push_beside(
     alloc: Global,
     page: &Page,
-    lines: &mut Vec<Line>,
+    lines: &mut Vec<TableLine>,
     row: CellRow,
     goals: &GoalCells,
     least: &mut Option<Text>,
 ) -> Result<(), Memory>
     requires some { 0 < page.now.columns }
     requires fits { asks_totals (layout_on page.now) ≡ true → RowFits (row_seen row) }
-    ensures lines { OnOk result (map as_line lines.new.items ≡ map as_line lines.old.items
+    ensures lines { OnOk result (lines.new.items ≡ lines.old.items
         ++ line_on page.now (row_seen row) (goals_in goals.now row.account) ∷ []) }
     ensures least { OnOk result (least.new
         ≡ least_with least.old
@@ -120,7 +119,7 @@ fn push_beside(
 fn push_totals(
     alloc: Global,
     page: &Page,
-    lines: &mut Vec<Line>,
+    lines: &mut Vec<TableLine>,
     totals: List<Mixed>,
     goals: &Option<List<Mixed>>,
     least: &mut Option<Text>,
@@ -128,7 +127,7 @@ fn push_totals(
     requires some { 0 < page.now.columns }
     requires fits { asks_totals (layout_on page.now) ≡ true
         → OnSome (seen_totals goals.now) (Fit (entries_of (map seen totals))) }
-    ensures lines { OnOk result (map as_line lines.new.items ≡ map as_line lines.old.items
+    ensures lines { OnOk result (lines.new.items ≡ lines.old.items
         ++ last_on page.now (map seen totals) (seen_totals goals.now)) }
     ensures least { OnOk result (least.new
         ≡ least_with least.old (last_out_on page.now (map seen totals) (seen_totals goals.now))) }
@@ -143,14 +142,14 @@ fn push_totals(
 fn push_shown(
     alloc: Global,
     page: &Page,
-    lines: &mut Vec<Line>,
+    lines: &mut Vec<TableLine>,
     totals: List<Mixed>,
     goals: &[Mixed],
     least: &mut Option<Text>,
 ) -> Result<(), Memory>
     requires some { 0 < page.now.columns }
     requires fits { asks_totals (layout_on page.now) ≡ true → Fit (entries_of (map seen totals)) }
-    ensures lines { OnOk result (map as_line lines.new.items ≡ map as_line lines.old.items
+    ensures lines { OnOk result (lines.new.items ≡ lines.old.items
         ++ last_on page.now (map seen totals) (Some (map seen goals.now))) }
     ensures least { OnOk result (least.new
         ≡ least_with least.old
@@ -160,7 +159,7 @@ fn push_shown(
         account: Text::new(alloc),
         cells: totals,
     };
-    lines.push(Line::Rule(THIN))?;
+    lines.push(TableLine::Rule(THIN))?;
     push_row(alloc, page, lines, row, goals, least)?;
     Ok(())
 }
@@ -170,7 +169,7 @@ fn push_shown(
 fn push_lines(
     alloc: Global,
     page: &Page,
-    lines: &mut Vec<Line>,
+    lines: &mut Vec<TableLine>,
     actual: Rows,
     goals: &GoalCells,
     least: &mut Option<Text>,
@@ -179,7 +178,7 @@ fn push_lines(
     requires fits { LinesFit (layout_on page.now) (map row_seen actual.rows)
         (map row_seen actual.rest)
         (map seen actual.totals) (seen_totals goals.now.totals) }
-    ensures lines { OnOk result (map as_line lines.new.items ≡ map as_line lines.old.items
+    ensures lines { OnOk result (lines.new.items ≡ lines.old.items
         ++ (lines_on page.now (goals_in goals.now) (map row_seen actual.rows)
         ++ lines_on page.now (λ account. []) (map row_seen actual.rest)
         ++ last_on page.now (map seen actual.totals) (seen_totals goals.now.totals))) }
@@ -201,7 +200,7 @@ fn push_lines(
 pub(crate) fn push_body(
     alloc: Global,
     page: &Page,
-    lines: &mut Vec<Line>,
+    lines: &mut Vec<TableLine>,
     cells: Cells,
     goals: Cells,
 ) -> Result<(), ReportFault>
@@ -209,7 +208,7 @@ pub(crate) fn push_body(
     requires fits { CellsFit (layout_on page.now) (told_by cells) }
     requires goals_fit { TotalsFit (layout_on page.now) (map row_seen goals.rows)
         (map seen goals.totals) }
-    ensures lines { OnOk result (map as_line lines.new.items ≡ map as_line lines.old.items
+    ensures lines { OnOk result (lines.new.items ≡ lines.old.items
         ++ body_on page.now (told_by cells) (told_by goals)) }
     ensures told { OnOk result (least (body_out_on page.now (told_by cells) (told_by goals))
         ≡ None) }

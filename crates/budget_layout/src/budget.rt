@@ -7,20 +7,18 @@ ghost use Rattle.report_table.specs.declared.lines.TableLine.TheVariants as tabl
 ghost use Rattle.balance_layouts.specs.Balance.{IsFault};
 ghost use Rattle.balance_layouts.specs.Totals.{TotalsFit};
 ghost use Rattle.budget_layout.specs.Fits.{CellsFit};
-ghost use Rattle.budget_layout.specs.OnLine.{as_line};
 ghost use Rattle.budget_layout.specs.Told.{told_by};
 ghost use Rattle.budget_layout.specs.Written.{budget_text, out_of_range, title_of};
 
 use crate::body::push_body;
-use crate::layout::table_text;
-use crate::line::{Line, THICK};
 use crate::page::Page;
 use balance_layouts::{heads, span_name};
 use balance_rows::Layout;
 use book::Styles;
-use hl_base::{Bytes, List, Memory, Text};
+use hl_base::{Bytes, Memory, Text};
 use hl_time::Span;
 use report_cells::{Cells, ReportFault};
+use report_table::{THICK, TableLine, head_line, titled_lines};
 use std::alloc::Global;
 
 /// The title: of which days.
@@ -35,13 +33,13 @@ fn title(alloc: Global, columns: &[Span]) -> Result<Text, Memory>
 }
 
 /// The line of the heads, which has no name, and the rule below it.
-fn top_lines(alloc: Global, heads: List<Text>) -> Result<Vec<Line>, Memory>
+fn top_lines(alloc: Global, heads: &[Text]) -> Result<Vec<TableLine>, Memory>
     ensures { IfOk result (λ lines.
-        map as_line lines.items ≡ head_line heads ∷ table_line.Rule thick ∷ []) }
+        lines.items ≡ head_line heads.now ∷ table_line.Rule thick ∷ []) }
 {
     let mut lines = Vec::new(alloc);
-    lines.push(Line::Row(Text::new(alloc), heads))?;
-    lines.push(Line::Rule(THICK))?;
+    lines.push(head_line(alloc, heads)?)?;
+    lines.push(TableLine::Rule(THICK))?;
     Ok(lines)
 }
 
@@ -79,7 +77,7 @@ pub fn budget_text(
         columns: columns.len(),
     };
     let count = heads.len();
-    let mut lines = top_lines(alloc, heads)?;
+    let mut lines = top_lines(alloc, heads.as_slice())?;
     push_body(alloc, &page, &mut lines, cells, goals)?;
-    Ok(table_text(alloc, &title, count, lines.as_slice())?)
+    Ok(titled_lines(alloc, &title, count, lines.as_slice())?)
 }

@@ -14,6 +14,7 @@ use crate::percent::{Percent, percent_in};
 use book::{Mixed, Styles};
 use hl_base::{Memory, Text};
 use hl_num::Dec;
+use report_table::Printed;
 use std::alloc::Global;
 
 /// The goal of a column, without sums where there is none.
@@ -78,7 +79,7 @@ pub(crate) fn budget_cell(
     at: usize,
     styles: &Styles,
     least: &mut Option<Text>,
-) -> Result<Text, Memory>
+) -> Result<Printed, Memory>
     ensures text { IfOk result (λ text. text
         ≡ budget_cell (style_in styles.now) (seen actual.now) (cell_at at (map seen goals.now))) }
     ensures least { OnOk result (least.new
@@ -88,5 +89,5 @@ pub(crate) fn budget_cell(
     let mut text = String::new(alloc);
     push_sums(alloc, &mut text, actual.entries(), styles)?;
     push_goal(alloc, &mut text, actual, goal, styles, least)?;
-    Ok(Text::from_string(text))
+    Ok(Printed::new(Text::from_string(text)))
 }

@@ -8,13 +8,10 @@ mod budget;
 mod cell;
 mod goals;
 mod groups;
-mod layout;
 mod least;
-mod line;
 mod page;
 mod percent;
 mod places;
 mod rows;
-mod widths;
 
 pub use budget::budget_text;

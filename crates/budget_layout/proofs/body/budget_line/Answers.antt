@@ -1,4 +1,4 @@
-use Rattle.std.proofs.Common.{ℕ, List, map, ap, ◌∙◌}
+use Rattle.std.proofs.Common.{List, map, ap, ◌∙◌}
 use Rattle.report_cells.specs.Report.{Sums, seen}
 use Rattle.report_table.specs.declared.lines.TableLine.TheVariants as table_line
 use Rattle.balance_layouts.specs.Averages.{least_with}
@@ -12,8 +12,8 @@ pub returns-clause-line : goal.returns-clause-line
 returns-clause-line c =
     let style = style_on c.args.page.now in
     let goals = map seen c.args.goals.now in
-    ap (λ (texts : List (List ℕ)). table_line.Row c.args.row.account texts)
-    (c.in_ok-texts.ensures.texts ∙ ap (λ (cells : List Sums). beside style cells goals) (ap (map seen) c.as_slice.ensures ∙ c.in_ok-cells.ensures.cells))
+    let texts = c.in_ok-texts.ensures.texts ∙ ap (λ (cells : List Sums). beside style cells goals) (ap (map seen) c.as_slice.ensures ∙ c.in_ok-cells.ensures.cells) in
+    λ i. table_line.Row (c.new.ensures i) (texts i)
 
 pub returns-clause-least : goal.returns-clause-least
 returns-clause-least c =

@@ -10,7 +10,6 @@ use Rattle.balance_layouts.specs.Totals.{with_total}
 use Rattle.budget_layout.specs.Counted.{goal_rows, ordered, rest_rows}
 use Rattle.budget_layout.specs.Grouped.{names_of, place_from}
 use Rattle.budget_layout.specs.Lined.{goals_in}
-use Rattle.budget_layout.specs.OnLine.{as_line}
 use Rattle.budget_layout.specs.OnPage.{layout_on, style_on}
 use Rattle.budget_layout.specs.Placed.{place_in}
 use Rattle.budget_layout.specs.declared.places.Places.{Places}
@@ -46,7 +45,7 @@ returns-clause-lines c =
     let placed : (name : List ℕ) → place_in c.in_ok-wide.wide.places name ≡ place_from 0 (names_of goals.rows) name =
     λ name. ap (λ (places : Places). place_in places name) c.in_ok-wide.ensures.places ∙ c.in_ok-places.ensures name ∙ ap (λ (rows : List CellRow). place_from 0 (names_of rows) name) c.as_slice.ensures in
     c.in_ok-push_lines.ensures.lines
-    ∙ ap (λ (t : List TableLine). map as_line c.args.lines.now.items ++ t)
+    ∙ ap (λ (t : List TableLine). c.args.lines.now.items ++ t)
     (body_is layout page.columns style (told_by c.args.cells) (told_by goals) (goals_in c.in_ok-wide.wide)
     (map row_seen c.in_ok-actual.actual.rows) (map row_seen c.in_ok-actual.actual.rest) (map seen c.in_ok-actual.actual.totals) (seen_totals c.in_ok-wide.wide.totals)
     (goals_are layout page.columns style goals.rows (place_in c.in_ok-wide.wide.places) (map named_seen c.in_ok-wide.wide.cells) placed c.in_ok-wide.ensures.cells)

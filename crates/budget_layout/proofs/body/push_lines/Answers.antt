@@ -3,7 +3,6 @@ use Rattle.report_cells.specs.Report.{row_seen, seen}
 use Rattle.balance_layouts.specs.Averages.{least_with}
 use Rattle.balance_layouts.specs.TableRows.{seen_totals}
 use Rattle.budget_layout.specs.Lined.{goals_in, last_lines, last_out, lines_by, outs_by}
-use Rattle.budget_layout.specs.OnLine.{as_line}
 use Rattle.budget_layout.specs.OnPage.{layout_on, style_on}
 use Rattle.budget_layout.proofs.Lining.{least_then, thrice}
 use Rattle.budget_layout.proofs.body.push_lines.Goals as goal
@@ -23,13 +22,13 @@ returns-clause-lines c =
     let layout = layout_on page in
     let style = style_on page in
     let rest = map row_seen c.args.actual.rest in
-    thrice (map as_line c.args.lines.now.items) (map as_line c.push_rows.new.lines.items) (map as_line c.push_rows-2.new.lines.items) (map as_line c.push_totals.new.lines.items)
+    thrice c.args.lines.now.items c.push_rows.new.lines.items c.push_rows-2.new.lines.items c.push_totals.new.lines.items
     (lines_by layout page.columns style (goals_in c.args.goals.now) (map row_seen c.args.actual.rows))
     (lines_by layout page.columns style (λ account. []) rest)
     (last_lines layout page.columns style (map seen c.args.actual.totals) (seen_totals c.args.goals.now.totals))
     c.in_ok-push_rows.ensures.lines
     (c.in_ok-push_rows-2.ensures.lines
-    ∙ (λ i. map as_line c.push_rows.new.lines.items ++ lines_by layout page.columns style (λ (account : List ℕ). c.none-none.ensures account i) rest))
+    ∙ (λ i. c.push_rows.new.lines.items ++ lines_by layout page.columns style (λ (account : List ℕ). c.none-none.ensures account i) rest))
     c.in_ok-push_totals.ensures.lines
 
 pub returns-clause-least : goal.returns-clause-least

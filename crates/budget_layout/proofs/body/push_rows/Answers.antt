@@ -7,7 +7,6 @@ use Rattle.report_cells.specs.Report.{row_seen}
 use Rattle.balance_rows.specs.Fitting.{RowFits}
 use Rattle.balance_layouts.proofs.Turns.{row_at}
 use Rattle.budget_layout.specs.Lined.{goals_in}
-use Rattle.budget_layout.specs.OnLine.{as_line}
 use Rattle.budget_layout.specs.OnPage.{layout_on, style_on}
 use Rattle.budget_layout.proofs.Lining.{least_more, lines_more}
 use Rattle.budget_layout.proofs.body.push_rows.Goals as goal
@@ -27,8 +26,8 @@ loop-row-preserved c =
     let page = c.args.page.now in
     let goals = goals_in c.args.goals.now in
     record {
-      lines = lines_more (layout_on page) page.columns (style_on page) goals (map as_line c.args.lines.now.items) (map as_line c.loop-row.lines.items)
-          (map as_line c.push_beside.new.lines.items) c.loop-row.yielded c.in-Some.row c.loop-row.invariant.lines c.in_ok-push_beside.ensures.lines;
+      lines = lines_more (layout_on page) page.columns (style_on page) goals c.args.lines.now.items c.loop-row.lines.items
+          c.push_beside.new.lines.items c.loop-row.yielded c.in-Some.row c.loop-row.invariant.lines c.in_ok-push_beside.ensures.lines;
       least = least_more (layout_on page) page.columns (style_on page) goals c.args.least.now c.loop-row.least c.push_beside.new.least
           c.loop-row.yielded c.in-Some.row c.loop-row.invariant.least c.in_ok-push_beside.ensures.least;
     }
