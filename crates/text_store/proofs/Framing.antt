@@ -84,7 +84,7 @@ unfolding frames_of open_entries
 no_frames file short = ap (λ (es : List Entry). frames_from (base_of file) es) (short_none (length file) 32 (drop 32 file) (omega (arith, length-drop 32 file)))
 
 -- two files in their places that a crash may leave
-left_beside : {D : Type 0} (g : Ghosts D) (b : Bool) (live spare : D) (P : List ℕ → List ℕ → Type 0) → Leaves g (placed b live spare) P
+pub left_beside : {D : Type 0} (g : Ghosts D) (b : Bool) (live spare : D) (P : List ℕ → List ℕ → Type 0) → Leaves g (placed b live spare) P
     → (file beside : List ℕ) → g.may_leave live file → g.may_leave spare beside → Beside b P file beside
 left_beside g true live spare P leaves file beside of_live of_spare = leaves beside file of_spare of_live
 left_beside g false live spare P leaves file beside of_live of_spare = leaves file beside of_live of_spare

@@ -28,4 +28,5 @@ pub mod Rewriting
 pub mod Rows
 pub mod Wholes
 pub mod Splicing
+pub mod Parts
 pub mod Writable

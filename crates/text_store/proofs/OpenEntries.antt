@@ -63,7 +63,7 @@ whole_record (suc n) at kind r gate tail size le =
     ∙ ap (λ (l : List Entry). record { at = at; kind = kind; payload = drop 8 r } ∷ l) (enough n (length (gate ∷ tail)) (at + 2 + length r) (gate ∷ tail) short (omega arith))
 
 -- a front of a record, without the gate byte behind it, is none
-cut_record : (n at kind k : ℕ) (r : List ℕ) → length r ≡ 8 + from_le_bytes w64 (take 8 r) → k ≤ length r → open_from n at (1 ∷ kind ∷ take k (r ++ 0 ∷ [])) ≡ []
+pub cut_record : (n at kind k : ℕ) (r : List ℕ) → length r ≡ 8 + from_le_bytes w64 (take 8 r) → k ≤ length r → open_from n at (1 ∷ kind ∷ take k (r ++ 0 ∷ [])) ≡ []
 unfolding open_from
 cut_record zero at kind k r size le = refl
 cut_record (suc n) at kind k r size le =

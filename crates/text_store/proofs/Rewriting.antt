@@ -39,7 +39,7 @@ take_more (x ∷ a) b (suc n) le =
     ap (λ (l : List ℕ). x ∷ l) (take_more a b n (omega arith) ∙ ap (λ (k : ℕ). a ++ take k b) (let e : n - length a ≡ suc n - suc (length a) = omega arith in e))
 
 -- the fronts of a file that is being written anew are such files
-rewritten_front : (old head entry c : List ℕ) (n : ℕ) → length head ≡ 32 → IsRewritten old head entry c → IsRewritten old head entry (take n c)
+pub rewritten_front : (old head entry c : List ℕ) (n : ℕ) → length head ≡ 32 → IsRewritten old head entry c → IsRewritten old head entry (take n c)
 rewritten_front old head entry c n size (inl front) =
     let part = fronts n front.0 old in
     inl (part.0, ap (λ (l : List ℕ). take n l) front.1 ∙ part.1)

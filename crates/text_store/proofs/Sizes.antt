@@ -66,7 +66,7 @@ last_at at (b ∷ before) e rest is =
     ∙ (let same : at + record_size b + sum_by record_size before ≡ at + sum_by record_size (b ∷ before) = omega (arith, sum_by-cons record_size b before) in same)
 
 -- the bytes up to a file's last gate
-front_size : (front : List ℕ) (entries : List Entry) → IsHalf front entries → length front ≡ 32 + sum_by record_size entries
+pub front_size : (front : List ℕ) (entries : List Entry) → IsHalf front entries → length front ≡ 32 + sum_by record_size entries
 front_size front entries half =
     let fits : length {A = ℕ} [] < 2 ^ 64 = omega arith in
     let entry : Entry = record { at = length front; kind = 0; payload = [] } in
@@ -142,7 +142,7 @@ records_size limit generation base (first ∷ entries) half is = by_kind (first.
     by_kind true is = by_start (checkpointed first.payload) refl is
     by_kind false is = none_some half is
 
-live_size : (file : List ℕ) (half : Half) → live file ≡ Some half → 33 + sum_by record_size (open_entries 32 file) ≡ half_size half
+pub live_size : (file : List ℕ) (half : Half) → live file ≡ Some half → 33 + sum_by record_size (open_entries 32 file) ≡ half_size half
 live_size file half is = by_head _ is
   where
     by_head : (b : Bool) → (if b then first_of (number_8 (drop 8 (take 32 file))) (number_8 (drop 16 (take 32 file))) (number_8 (drop 24 (take 32 file))) (open_entries 32 file) else None) ≡ Some half

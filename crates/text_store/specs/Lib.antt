@@ -18,4 +18,5 @@ pub mod Reads
 pub mod Refusals
 pub mod Rest
 pub mod Settled
+pub mod Standing
 pub mod Stores

@@ -25,7 +25,7 @@ impl<D: Disk> Half<D> {
     ghost use Rattle.text_store.specs.Entries.{Entry, body};
     ghost use Rattle.text_store.specs.Faults.{ReadRefused};
     ghost use Rattle.text_store.specs.Halves.{HasEitherImage};
-    ghost use Rattle.text_store.specs.Rest.{IsReadOn};
+    ghost use Rattle.text_store.specs.Rest.{IsAt, IsReadOn, RestsAs, StandsIn};
     ghost use Rattle.text_store.specs.Settled.{IsSettled, IsUnsettled};
 
     /// The half of a file whose last gate is at a place, with a limit of the file's length.
@@ -135,6 +135,13 @@ impl<D: Disk> Half<D> {
             → LeavesOnly D.moment D.left_since self.old.device self.new.device
             (HasEitherImage other (front ++ 0 ∷ []) (front ++ 1 ∷ (body kind payload ++ 0 ∷ []))) }
 
+        // It leaves the bytes up to the last gate, and behind them a part of the record.
+        ensures left { (front : List ℕ) → length front ≡ self.old.gate
+            → RestsAs D.seen D.tells_crashes D.may_leave self.old.device (front ++ 0 ∷ [])
+            → IsTrue (D.tells_crashes self.old.device)
+            → LeavesOnly D.moment D.left_since self.old.device self.new.device
+            (IsAt front entry.now) }
+
         ensures fault { OnErr result ((front : List ℕ) (entries : List Entry) (kind : ℕ)
             (payload : List ℕ) → entry.now ≡ body kind payload ++ 0 ∷ []
             → length payload < 2 ^ 64
@@ -170,6 +177,12 @@ impl<D: Disk> Half<D> {
             → IsTrue (D.tells_crashes self.old.device)
             → LeavesOnly D.moment D.left_since self.old.device self.new.device
             (HasEitherImage other (front ++ 0 ∷ []) (front ++ 1 ∷ entry)) }
+
+        ensures left { (front entry : List ℕ) → length front ≡ self.old.gate
+            → StandsIn D.seen D.tells_crashes D.may_leave self.old.device (IsAt front entry)
+            → IsTrue (D.tells_crashes self.old.device)
+            → LeavesOnly D.moment D.left_since self.old.device self.new.device
+            (IsAt front entry) }
 
         ensures fault { OnErr result ((front entry : List ℕ) (entries : List Entry)
             → IsUnsettled D.seen D.tells_crashes D.may_leave self.old front entries entry

@@ -36,12 +36,14 @@ impl<D: Disk> Store<D> {
     ghost use Rattle.text_store.specs.declared.image.Image.{Image};
     ghost use Rattle.text_store.specs.Changes.{kind_of, payload_of, HasShortName};
     ghost use Rattle.text_store.specs.Edits.{edited, whole_size};
-    ghost use Rattle.text_store.specs.Entries.{body};
+    ghost use Rattle.text_store.specs.Entries.{Entry, body};
     ghost use Rattle.text_store.specs.Faults.{ReadRefused};
     ghost use Rattle.text_store.specs.Frames.{frames_of};
     ghost use Rattle.text_store.specs.Image.{image, live, chosen};
     ghost use Rattle.text_store.specs.Files.{new_front, next_generation, IsWritable, fresh, WhileMade, WhileOpened, ShowsOf, opened_limit, opened_size, rest_of};
     ghost use Rattle.text_store.specs.Refusals.{PutRefused, CreateRefused, OpenRefused, RenewRefused, ImageStays, TellImage, Told};
+    ghost use Rattle.text_store.specs.Standing.{Stand, StandFor, IsPartDone, Task, put_of, rewrite_of};
+    ghost use Rattle.text_store.specs.Settled.{IsSettled};
     ghost use Rattle.text_store.specs.Stores.{disks, disks_made, disks_opened, size_of, limit_of, repair_due, Tell, fault_count, placed, Throughout, Shows, ShowsEither, Holds, MayShow, bounds, NoWider, Keeps};
 
     /// Makes a store of a text in two empty files, with a limit of each file's length in bytes.
@@ -410,6 +412,16 @@ impl<D: Disk> Store<D> {
         ensures beside { (self.new.spare ≡ self.old.spare)
             × (self.new.in_second ≡ self.old.in_second)
             × (self.new.generation ≡ self.old.generation) }
+
+        // A disk fault, and a crash at any moment, leaves the records as they were, and behind them a part of the one of
+        // the change.
+        ensures torn { result ≡ Err FailedDisk → (shown : Image)
+            (held : Holds self.old shown)
+            → IsPartDone self.new held.front held.entries shown
+            (put_of change.now held.beside) }
+        ensures left { (shown : Image) (held : Holds self.old shown) → Tell D.Disk (disks self.old)
+            → Throughout D.Disk (disks self.old) (disks self.new)
+            (StandFor self.old.in_second held.front (put_of change.now held.beside)) }
     {
         let entry = record_of(alloc, change)?;
         let len = entry.len() as u64;
@@ -455,6 +467,16 @@ impl<D: Disk> Store<D> {
             ++ 0 ∷ []))) }
         ensures turned { OnOk result ((self.new.generation ≡ next_generation self.old.generation)
             × (self.new.in_second ≡ not self.old.in_second)) }
+
+        // A disk fault, and a crash at any moment, leaves the records as they were, and beside them a part of the other
+        // file.
+        ensures torn { result ≡ Err FailedDisk → (shown : Image)
+            (held : Holds self.old shown)
+            → IsPartDone self.new held.front held.entries shown
+            (rewrite_of self.old image.now held.beside) }
+        ensures left { (shown : Image) (held : Holds self.old shown) → Tell D.Disk (disks self.old)
+            → Throughout D.Disk (disks self.old) (disks self.new)
+            (StandFor self.old.in_second held.front (rewrite_of self.old image.now held.beside)) }
     {
         let limit = self.live.limit();
         let size = whole_len(image);
@@ -540,6 +562,18 @@ impl<D: Disk> Store<D> {
         ensures keeps { Keeps D.Disk (disks self.old) (disks self.new) (bounds self.old) }
         ensures cause { HasCause (fault_count D.Disk (disks self.old))
             (fault_count D.Disk (disks self.new)) result }
+
+        // The records stay, whichever file a repair is due of.
+        ensures records { OnOk result ((front : List ℕ) (entries : List Entry) (shown : Image)
+            (task : Task) → IsPartDone self.old front entries shown task
+            → IsSettled D.seen D.tells_crashes D.may_leave self.new.live front entries) }
+        ensures torn { OnErr result ((front : List ℕ) (entries : List Entry) (shown : Image)
+            (task : Task) → IsPartDone self.old front entries shown task
+            → IsPartDone self.new front entries shown task) }
+        ensures left { (front : List ℕ) (entries : List Entry) (shown : Image) (task : Task)
+            → IsPartDone self.old front entries shown task → Tell D.Disk (disks self.old)
+            → Throughout D.Disk (disks self.old) (disks self.new)
+            (StandFor self.old.in_second front task) }
     {
         if self.is_torn {
             self.empty_spare()
@@ -591,6 +625,13 @@ impl<D: Disk> Store<D> {
         ensures keeps { Keeps D.Disk (disks self.old) (disks self.new) (0, 0) }
         ensures no_fault { OnOk result (fault_count D.Disk (disks self.new)
             ≡ fault_count D.Disk (disks self.old)) }
+
+        // Both files stay, also after a disk fault and at any moment.
+        ensures records { D.seen self.new.live.device ≡ D.seen self.old.live.device }
+        ensures left { (shown : Image) (held : Holds self.old shown) → Tell D.Disk (disks self.old)
+            → Throughout D.Disk (disks self.old) (disks self.new)
+            (Stand self.old.in_second (λ file. file ≡ held.front ++ 0 ∷ [])
+            (λ file. file ≡ held.beside)) }
     {
         let file = self.live.read_whole(alloc)?;
         let frames = frames_of(alloc, file.as_slice())?;

@@ -45,3 +45,9 @@ returns-clause-any_moment g c front other entries kind payload bytes fits settle
     weakened d.moment d.left_since c.args.self.now.device c.append_entry.new.device (IsAt front c.args.entry.now) (HasEitherImage other (front ++ 0 ∷ []) (front ++ 1 ∷ entry))
     (c.append_entry.ensures.any_moment front settled.place settled.rests telling)
     (λ f at. either_image front entries settled.is_half entry other f (is_record kind payload fits) (subst (λ (l : List ℕ). IsAt front l f) bytes at))
+
+pub returns-in_err-append_entry-clause-left : goal.returns-in_err-append_entry-clause-left
+returns-in_err-append_entry-clause-left g c front place rests telling = c.append_entry.ensures.any_moment front place rests telling
+
+pub returns-clause-left : goal.returns-clause-left
+returns-clause-left g c front place rests telling = c.append_entry.ensures.any_moment front place rests telling

@@ -25,3 +25,9 @@ returns-clause-any_moment g c front entry other entries torn telling =
     weakened d.moment d.left_since c.args.self.now.device c.shut_gate.new.device (IsAt front entry) (HasEitherImage other (front ++ 0 ∷ []) (front ++ 1 ∷ entry))
     (c.shut_gate.ensures.any_moment front entry torn.place torn.stands telling)
     (λ f at. either_image front entries torn.is_half entry other f torn.is_record at)
+
+pub returns-in_err-shut_gate-clause-left : goal.returns-in_err-shut_gate-clause-left
+returns-in_err-shut_gate-clause-left g c front entry place stands telling = c.shut_gate.ensures.any_moment front entry place stands telling
+
+pub returns-clause-left : goal.returns-clause-left
+returns-clause-left g c front entry place stands telling = c.shut_gate.ensures.any_moment front entry place stands telling

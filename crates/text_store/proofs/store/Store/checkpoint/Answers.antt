@@ -1,15 +1,19 @@
-use Rattle.std.proofs.Common.{◌≡◌, ◌∙◌, ◌+◌, ◌++◌, ◌∷◌, [], List, ℕ, length, inl, sym, ap, subst, arith, Some, not, append_assoc}
+use Rattle.std.proofs.Common.{refl, ◌≡◌, ◌∙◌, ◌+◌, ◌++◌, ◌∷◌, [], List, ℕ, length, inl, sym, ap, subst, arith, Some, not, append_assoc}
 use Rattle.std.proofs.lemmas.Result.{err_from_is_err_and}
 use Rattle.text_store.specs.Entries.{body}
 use Rattle.text_store.specs.Files.{header, whole_payload, next_generation}
 use Rattle.hl_base.specs.Disk.{LeavesOnly}
 use Rattle.text_store.specs.declared.half.Half.{Half}
 use Rattle.text_store.specs.Rest.{RestsAs, StandsIn, IsRewritten}
-use Rattle.text_store.specs.Stores.{disks, bounds, Throughout, ShowsEither, Keeps}
+use Rattle.text_store.specs.Stores.{limit_of, disks, bounds, Throughout, ShowsEither, Keeps}
 use Rattle.text_store.proofs.Appending.{live_calm, due_either}
 use Rattle.text_store.proofs.Both.{stays}
 use Rattle.text_store.proofs.HalfImages.{length_record}
+use Rattle.text_store.proofs.Holding.{leads_on}
 use Rattle.text_store.proofs.Rewriting.{rewriting, rewrite_torn, rewrite_done, disks_spare, disks_turned, rose_spare, keeps_spare}
+use Rattle.text_store.specs.Settled.{IsSettled}
+use Rattle.text_store.specs.Standing.{StandFor, record_bytes, rewrite_of}
+use Rattle.text_store.proofs.Parts.{rewriting_on, still_rewrite}
 use Rattle.text_store.proofs.Wholes.{length_whole}
 use Rattle.text_store.proofs.store.Store.checkpoint.Goals as goal
 
@@ -142,3 +146,80 @@ returns-clause-beside g c shown held =
           ∙ ap (λ (n : ℕ). Some (header n (next_generation old.generation) next.revision ++ 1 ∷ (body 67 (whole_payload next) ++ 0 ∷ []))) c.limit-limit.ensures
           ∙ ap (λ (l : List ℕ). Some l) (sym (append_assoc (header old.live.limit (next_generation old.generation) next.revision) (1 ∷ body 67 (whole_payload next)) (0 ∷ []))),
     )
+
+pub returns-then-size-limit-clause-left : goal.returns-then-size-limit-clause-left
+returns-then-size-limit-clause-left g c shown held tell =
+    let old = c.args.self.now in
+    let next = c.args.image.now in
+    stays g.D.Disk (disks old) _
+    (still_rewrite old shown held (header (limit_of old) (next_generation old.generation) next.revision) (record_bytes 67 (whole_payload next)) tell)
+
+pub returns-in_err-header-clause-left : goal.returns-in_err-header-clause-left
+returns-in_err-header-clause-left g c shown held tell =
+    let old = c.args.self.now in
+    let next = c.args.image.now in
+    stays g.D.Disk (disks old) _
+    (still_rewrite old shown held (header (limit_of old) (next_generation old.generation) next.revision) (record_bytes 67 (whole_payload next)) tell)
+
+pub returns-in_err-entry-clause-left : goal.returns-in_err-entry-clause-left
+returns-in_err-entry-clause-left g c shown held tell =
+    let old = c.args.self.now in
+    let next = c.args.image.now in
+    stays g.D.Disk (disks old) _
+    (still_rewrite old shown held (header (limit_of old) (next_generation old.generation) next.revision) (record_bytes 67 (whole_payload next)) tell)
+
+pub returns-in_err-rewrite_spare-clause-torn : goal.returns-in_err-rewrite_spare-clause-torn
+returns-in_err-rewrite_spare-clause-torn g c is_fault shown held =
+    let d = g.D.Disk in
+    let old = c.args.self.now in
+    let new = c.rewrite_spare.new.self in
+    let next = c.args.image.now in
+    let moves = c.rewrite_spare.ensures.moves in
+    let begun : List ℕ = header (limit_of old) (next_generation old.generation) next.revision in
+    let head : c.deref.result.now ≡ begun ++ 0 ∷ [] =
+    c.deref.ensures.value ∙ c.in_ok-header.ensures ∙ ap (λ (n : ℕ). header c.limit-limit.result n next.revision ++ 0 ∷ []) c.following-generation.ensures
+    ∙ ap (λ (n : ℕ). header n (next_generation old.generation) next.revision ++ 0 ∷ []) c.limit-limit.ensures in
+    let entry : c.deref-2.result.now ≡ record_bytes 67 (whole_payload next) = c.deref-2.ensures.value ∙ c.in_ok-entry.ensures.bytes in
+    record {
+      is_due = (ap (λ (h : Half _ d). h.is_torn) moves.0 ∙ live_calm old.is_torn old.live.is_torn c.requires.ready, c.in_err-rewrite_spare.ensures.due);
+      settled = subst (λ (h : Half _ d). IsSettled d.seen d.tells_crashes d.may_leave h held.front held.entries) (sym moves.0) held.settled;
+      stands = subst (λ (l : List ℕ). StandsIn d.seen d.tells_crashes d.may_leave new.spare (IsRewritten held.beside begun l)) entry
+          (c.in_err-rewrite_spare.ensures.fault held.beside begun head held.rests);
+      leads = leads_on old.in_second new.in_second old.generation new.generation (held.front ++ 0 ∷ []) held.beside shown moves.1 moves.2 held.leads;
+      size = refl;
+    }
+
+pub returns-in_err-rewrite_spare-clause-left : goal.returns-in_err-rewrite_spare-clause-left
+returns-in_err-rewrite_spare-clause-left g c shown held tell =
+    let d = g.D.Disk in
+    let old = c.args.self.now in
+    let new = c.rewrite_spare.new.self in
+    let next = c.args.image.now in
+    let moves = c.rewrite_spare.ensures.moves in
+    let begun : List ℕ = header (limit_of old) (next_generation old.generation) next.revision in
+    let head : c.deref.result.now ≡ begun ++ 0 ∷ [] =
+    c.deref.ensures.value ∙ c.in_ok-header.ensures ∙ ap (λ (n : ℕ). header c.limit-limit.result n next.revision ++ 0 ∷ []) c.following-generation.ensures
+    ∙ ap (λ (n : ℕ). header n (next_generation old.generation) next.revision ++ 0 ∷ []) c.limit-limit.ensures in
+    let entry : c.deref-2.result.now ≡ record_bytes 67 (whole_payload next) = c.deref-2.ensures.value ∙ c.in_ok-entry.ensures.bytes in
+    subst (λ (p : _). Throughout d (disks old) p (StandFor old.in_second held.front (rewrite_of old next held.beside))) (sym (disks_spare old new moves.0 moves.1))
+    (rewriting_on old shown held g.met.D.Disk.counts_now tell begun (record_bytes 67 (whole_payload next)) new.spare
+    (λ telling. subst (λ (l : List ℕ). LeavesOnly d.moment d.left_since old.spare new.spare (IsRewritten held.beside begun l)) entry
+    (c.rewrite_spare.ensures.any_moment held.beside begun head held.rests telling)))
+
+pub returns-clause-left : goal.returns-clause-left
+returns-clause-left g c shown held tell =
+    let d = g.D.Disk in
+    let old = c.args.self.now in
+    let new = c.rewrite_spare.new.self in
+    let next = c.args.image.now in
+    let moves = c.rewrite_spare.ensures.moves in
+    let begun : List ℕ = header (limit_of old) (next_generation old.generation) next.revision in
+    let head : c.deref.result.now ≡ begun ++ 0 ∷ [] =
+    c.deref.ensures.value ∙ c.in_ok-header.ensures ∙ ap (λ (n : ℕ). header c.limit-limit.result n next.revision ++ 0 ∷ []) c.following-generation.ensures
+    ∙ ap (λ (n : ℕ). header n (next_generation old.generation) next.revision ++ 0 ∷ []) c.limit-limit.ensures in
+    let entry : c.deref-2.result.now ≡ record_bytes 67 (whole_payload next) = c.deref-2.ensures.value ∙ c.in_ok-entry.ensures.bytes in
+    subst (λ (p : _). Throughout d (disks old) p (StandFor old.in_second held.front (rewrite_of old next held.beside)))
+    (sym (disks_turned new c.turn.new.self c.turn.ensures.disks c.turn.ensures.place ∙ disks_spare old new moves.0 moves.1))
+    (rewriting_on old shown held g.met.D.Disk.counts_now tell begun (record_bytes 67 (whole_payload next)) new.spare
+    (λ telling. subst (λ (l : List ℕ). LeavesOnly d.moment d.left_since old.spare new.spare (IsRewritten held.beside begun l)) entry
+    (c.rewrite_spare.ensures.any_moment held.beside begun head held.rests telling)))

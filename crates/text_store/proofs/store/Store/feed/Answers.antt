@@ -1,6 +1,7 @@
 use Rattle.std.proofs.Common.{◌∙◌, ◌≤◌, ◌^◌, List, ℕ, refl, sym, ap, subst}
 use Rattle.text_store.specs.Frames.{base_of, frames_of}
 use Rattle.text_store.proofs.Framing.{fed, feeding, held_still}
+use Rattle.text_store.proofs.Parts.{reading_on}
 use Rattle.text_store.proofs.store.Store.feed.Goals as goal
 
 pub returns-in_err-file-clause-held : goal.returns-in_err-file-clause-held
@@ -26,3 +27,24 @@ returns-clause-held g c = λ shown held. held_still c.args.self.now _ c.read_who
 
 pub returns-clause-any_moment : goal.returns-clause-any_moment
 returns-clause-any_moment g c = λ shown held tell. feeding c.args.self.now shown held g.met.D.Disk.counts_now c.read_whole.new.self.device c.read_whole.ensures.reads tell
+
+pub returns-in_err-file-clause-records : goal.returns-in_err-file-clause-records
+returns-in_err-file-clause-records g c = c.read_whole.ensures.reads.seen
+
+pub returns-in_err-file-clause-left : goal.returns-in_err-file-clause-left
+returns-in_err-file-clause-left g c shown held tell =
+    reading_on c.args.self.now shown held g.met.D.Disk.counts_now tell c.read_whole.new.self.device c.read_whole.ensures.reads
+
+pub returns-in_err-frames-clause-records : goal.returns-in_err-frames-clause-records
+returns-in_err-frames-clause-records g c = c.read_whole.ensures.reads.seen
+
+pub returns-in_err-frames-clause-left : goal.returns-in_err-frames-clause-left
+returns-in_err-frames-clause-left g c shown held tell =
+    reading_on c.args.self.now shown held g.met.D.Disk.counts_now tell c.read_whole.new.self.device c.read_whole.ensures.reads
+
+pub returns-clause-records : goal.returns-clause-records
+returns-clause-records g c = c.read_whole.ensures.reads.seen
+
+pub returns-clause-left : goal.returns-clause-left
+returns-clause-left g c shown held tell =
+    reading_on c.args.self.now shown held g.met.D.Disk.counts_now tell c.read_whole.new.self.device c.read_whole.ensures.reads
