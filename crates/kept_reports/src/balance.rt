@@ -13,12 +13,12 @@ ghost use Rattle.report_takings.specs.Columns.{columns_of};
 ghost use Rattle.kept_reports.specs.Served.{IsServed};
 
 use crate::cells::kept_cells;
-use crate::layouts::layout_of;
 use balance_layouts::balance_text;
 use book::Styles;
 use hl_base::{Bytes, Steps};
 use index_cells::Kept;
 use report_cells::ReportFault;
+use report_commands::layout_of;
 use report_takings::Scope;
 use std::alloc::Global;
 use std::sync::ledger::Ledger;

@@ -3,7 +3,6 @@
 
 mod balance;
 mod cells;
-mod layouts;
 mod plain;
 pub mod reporting;
 

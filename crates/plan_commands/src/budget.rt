@@ -12,13 +12,13 @@ ghost use Rattle.plan_commands.specs.Reports as reports;
 use crate::columns::{all_columns, copied, few, goal_span};
 use crate::fault::PlanFault;
 use crate::goals::goal_cells;
-use crate::layouts::layout_of;
 use book::{Book, Items};
 use budget_layout::budget_text;
 use generated::goals;
 use hl_base::{Bytes, List, Memory};
 use hl_time::Span;
 use report_cells::{Cells, ReportFault};
+use report_commands::layout_of;
 use report_sums::{Job, sums};
 use std::alloc::Global;
 

@@ -10,7 +10,6 @@ mod columns;
 pub mod fault;
 mod goals;
 mod law;
-mod layouts;
 pub mod plan;
 mod reporting;
 

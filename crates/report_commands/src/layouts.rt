@@ -47,7 +47,7 @@ fn of_changes(start: Start, asked: bool) -> bool
 }
 
 /// What the options of a report ask of its layout.
-pub(crate) fn layout_of(options: &Options) -> Layout
+pub fn layout_of(options: &Options) -> Layout
     ensures { result ≡ spec.layout_of options.now }
 {
     Layout {

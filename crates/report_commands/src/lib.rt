@@ -13,4 +13,5 @@ mod tables;
 pub use asked::Asked;
 pub use fault::WordsFault;
 pub use law::{text_faults, text_solves};
+pub use layouts::layout_of;
 pub use reporting::{Loaded, Material, report_of};
