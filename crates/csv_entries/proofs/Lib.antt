@@ -11,7 +11,6 @@ pub mod Lent
 pub mod Numbers
 pub mod Pieces
 pub mod Progress
-pub mod Remainders
 pub mod RowTexts
 pub mod Runs
 pub mod Spaced

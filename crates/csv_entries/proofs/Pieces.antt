@@ -4,7 +4,7 @@ use Rattle.std.specs.List.{flat_map}
 use Rattle.std.proofs.lemmas.List.{append-nil, append_assoc}
 use Rattle.entry_reader.specs.Lines.{has_byte, before_byte, after_byte}
 use Rattle.csv_entries.specs.Values.{piece_text, expanded}
-use Rattle.csv_entries.proofs.Remainders.{others, others_more, others_none, first_and_others}
+use Rattle.csv_rules.proofs.Remainders.{others, others_more, others_none, first_and_others}
 
 -- what the pieces behind the first become
 abbrev pub rest_text : List (List ℕ) → List (List ℕ) → List ℕ → List ℕ

@@ -7,7 +7,7 @@ use Rattle.entry_reader.proofs.Texts as texts
 use Rattle.csv_rules.specs.Columns.{pieces}
 use Rattle.csv_rules.proofs.ColumnLaws.{cut, whole}
 use Rattle.csv_entries.specs.Judging.{without_return, spaced, one_line}
-use Rattle.csv_entries.proofs.Remainders.{first_and_others}
+use Rattle.csv_rules.proofs.Remainders.{first_and_others}
 
 -- a text may end before an ASCII byte
 pub front_utf8 : (text : List ℕ) (n : ℕ) → n ≤ length text → get_or text n 0 < 128 → is_utf8 text ≡ true → is_utf8 (take n text) ≡ true

@@ -6,3 +6,5 @@ pub mod FormatLaws
 pub mod Names
 pub mod NewOnes
 pub mod Progresses
+pub mod ReferenceLaws
+pub mod Remainders

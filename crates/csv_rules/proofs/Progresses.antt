@@ -59,17 +59,20 @@ pub record IsReached (text rest : List ℕ) (line : ℕ) (p : Progress) : Type 0
 pub reached_start : (text : List ℕ) (p : Progress) → p ≡ start → IsReached text text 1 p
 reached_start text p e = record { earlier = []; place = refl; number = refl; read = ap (λ (q : Progress). Ok q) (sym e) }
 
-pub reached_more : (text rest content after : List ℕ) (line : ℕ) (p q : Progress) (old new : List Regex) → IsReached text rest line p → contents_of rest ≡ content ∷ contents_of after → IsTaken content p q old new → IsReached text after (line + 1) q
-reached_more text rest content after line p q old new r cut taken = record {
+pub reached_by : (text rest content after : List ℕ) (line : ℕ) (p q : Progress) (form : Form) → IsReached text rest line p → contents_of rest ≡ content ∷ contents_of after → form_of p.stage content ≡ Some form → q ≡ put p form → IsReached text after (line + 1) q
+reached_by text rest content after line p q form r cut said added = record {
   earlier = r.earlier ++ content ∷ [];
   place = r.place ∙ (ap (λ (ls : List (List ℕ)). r.earlier ++ ls) cut ∙ sym (append_assoc r.earlier (content ∷ []) (contents_of after)));
   number = omega (arith, r.number, length_push r.earlier content);
-  read = one_more start p 1 r.earlier content taken.form r.read taken.said ∙ ap (λ (x : Progress). Ok x) (sym taken.added);
+  read = one_more start p 1 r.earlier content form r.read said ∙ ap (λ (x : Progress). Ok x) (sym added);
 }
   where
     length_push : (ls : List (List ℕ)) (l : List ℕ) → length (ls ++ l ∷ []) ≡ length ls + 1
     length_push [] l = refl
     length_push (x ∷ ls) l = let n = length_push ls l in omega (arith, n)
+
+pub reached_more : (text rest content after : List ℕ) (line : ℕ) (p q : Progress) (old new : List Regex) → IsReached text rest line p → contents_of rest ≡ content ∷ contents_of after → IsTaken content p q old new → IsReached text after (line + 1) q
+reached_more text rest content after line p q old new r cut taken = reached_by text rest content after line p q taken.form r cut taken.said taken.added
 
 pub reached_bad : (text rest content after : List ℕ) (line : ℕ) (p : Progress) → IsReached text rest line p → contents_of rest ≡ content ∷ contents_of after → form_of p.stage content ≡ None → sheet_in (contents_of text) ≡ Err line
 reached_bad text rest content after line p r cut said =

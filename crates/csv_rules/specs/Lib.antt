@@ -5,4 +5,5 @@ pub mod Formats
 pub mod Forms
 pub mod Importing
 pub mod Reading
+pub mod References
 pub mod Words

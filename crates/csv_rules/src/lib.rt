@@ -11,6 +11,7 @@ pub mod importing;
 mod kinds;
 mod lines;
 mod reading;
+mod references;
 pub mod words;
 
 pub use faults::RulesFault;
@@ -19,3 +20,4 @@ pub use kinds::{
     Action, Assignment, Block, Condition, DatePart, EntryField, Settings, Sheet, Value,
 };
 pub use reading::Rules;
+pub use references::{Reference, unknown_columns};
