@@ -1,4 +1,5 @@
 pub mod Asking
+pub mod Notices
 pub mod Previews
 pub mod Replacing
 pub mod Replies

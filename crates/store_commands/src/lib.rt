@@ -4,8 +4,10 @@
 mod asking;
 mod edit;
 mod lines;
+mod notices;
 mod preview;
 
 pub use edit::{Replacement, StoreEdit, edit_store, replace_store};
 pub use lines::{reply_line, reply_status};
+pub use notices::import_notices;
 pub use preview::{Preview, preview_edit};
