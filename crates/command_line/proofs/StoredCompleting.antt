@@ -41,7 +41,7 @@ use Rattle.command_words.specs.declared.task.StoreTask.TheVariants as stored
 use Rattle.command_line.specs.Answers.{FindsText, IsOfFile, IsOfSource, IsStore, status_of}
 use Rattle.command_line.specs.Complete.{AnswersWell, AreWithin, CompletesStored, IsDone, NoneRose}
 use Rattle.command_line.specs.Files.{LoadsFile, ReadsShelf}
-use Rattle.command_line.specs.Previewing.{LoadsAny, OrMemory, PreviewsFiles, PreviewsImport, PreviewsStore, ToldAsked, most_stored, or_none}
+use Rattle.command_line.specs.Previewing.{LoadsAny, OrMemory, PreviewsFiles, PreviewsImport, PreviewsNoted, PreviewsStore, ToldAsked, most_stored, or_none}
 use Rattle.command_line.specs.Runs.{ReadsText}
 use Rattle.command_line.specs.Scenes.{OutputsStay, Scene, SourceRose, scene, soundness, text_in}
 use Rattle.command_line.specs.Sources.{file_within}
@@ -162,10 +162,10 @@ module _ {S D : Type 0} (s : Shelves S D) where
 
 -- ---- runs
 
--- the outputs are as they were
+-- no write to the output failed, and none fewer to the error output
 pub record SameOutputs (old last : Scene) : Type 0 where
   pub output : last.output_faults ≡ old.output_faults
-  pub error : last.error_faults ≡ old.error_faults
+  pub error : old.error_faults ≤ last.error_faults
 
 abbrev refused : Refusal → Result (List ℕ) Refusal
 refused x = Err x
@@ -174,12 +174,12 @@ module _ {J O E S D M : Type 0} (j : Inputs J) (o : Outputs O) (e : Outputs E) (
   abbrev sc : Outside J O E S M → Scene
   sc x = scene j o e s m x
 
-  -- the answer is good, and the outputs are as they were
+  -- the answer is good, and no write to the output failed
   abbrev IsWell : Outside J O E S M → Outside J O E S M → Result (List ℕ) Refusal → Type 0
   IsWell old last r = GoodAnswer r × SameOutputs (scene j o e s m old) (scene j o e s m last)
 
   stay_same : (old mid : Scene) → OutputsStay old mid → SameOutputs old mid
-  stay_same old mid stay = record { output = stay.output_faults; error = stay.error_faults }
+  stay_same old mid stay = record { output = stay.output_faults; error = omega (arith, stay.error_faults) }
 
   -- a file wasn't read that is there
   file_unread : (most : ℕ) (name bytes : List ℕ) (old mid : S) (x : Refusal) → LoadsFile s most name old mid (refused x) → IsTrue ((s.tells old).files)
@@ -246,7 +246,7 @@ module _ {J O E S D M : Type 0} (j : Inputs J) (o : Outputs O) (e : Outputs E) (
             (λ rose. no_input (subst (λ x. Rose (j.faults old.streams.input) (j.faults x.input)) (sym streams) rose)),
         record {
           output = ap (λ x. o.faults x.output) streams ∙ inits.reads.outputs.output_faults;
-          error = ap (λ (x : E). e.faults x) errors ∙ inits.reads.outputs.error_faults;
+          error = omega (arith, ap (λ (x : E). e.faults x) errors, inits.reads.outputs.error_faults);
         },
       )
 
@@ -263,7 +263,7 @@ module _ {J O E S D M : Type 0} (j : Inputs J) (o : Outputs O) (e : Outputs E) (
             (λ rose. patterns (subst (λ (x : M). Rose (m.refusals x) (m.refusals last.maker)) maker rose)),
         record {
           output = ap (λ (x : Outside J O E S M). o.faults x.streams.output) edited.rest ∙ outputs.output;
-          error = ap (λ (x : Outside J O E S M). e.faults x.err) edited.rest ∙ outputs.error;
+          error = omega (arith, ap (λ (x : Outside J O E S M). e.faults x.err) edited.rest, outputs.error);
         },
       )
 
@@ -324,7 +324,7 @@ module _ {J O E S D M : Type 0} (j : Inputs J) (o : Outputs O) (e : Outputs E) (
       replaces.replaces plain is told well none patterns no_input
 
   unchanged : (old : Outside J O E S M) (mid : S) → SameOutputs (sc old) (sc (record old { shelf = mid }))
-  unchanged old mid = record { output = refl; error = refl }
+  unchanged old mid = record { output = refl; error = omega arith }
 
   -- ---- files that are loaded first
 
@@ -375,7 +375,7 @@ module _ {J O E S D M : Type 0} (j : Inputs J) (o : Outputs O) (e : Outputs E) (
         files.previews files.told (image_there (s.file old.shelf name) (s.file old.shelf (second_name name)) well.0 well.1) well.2 well.3 patterns,
     record {
       output = ap (λ (x : Outside J O E S M). o.faults x.streams.output) files.rest;
-      error = ap (λ (x : Outside J O E S M). e.faults x.err) files.rest;
+      error = omega (arith, ap (λ (x : Outside J O E S M). e.faults x.err) files.rest);
     },
   )
 
@@ -413,13 +413,22 @@ module _ {J O E S D M : Type 0} (j : Inputs J) (o : Outputs O) (e : Outputs E) (
       (λ again rest. ⊎_elim (λ any. second_well name what old last previews.mid any.mid any.read r again any.reads any.goes within told well none patterns)
       (λ h. stayed old (record old { shelf = previews.mid }) last r refusal.Memory h refl (unchanged old previews.mid)) rest)
 
-  preview_well : (what : Importing) (old last : Outside J O E S M) (r : Result (List ℕ) Refusal) (csv rules : List ℕ) → PreviewsImport s m what day old last r
+  noted_well : (name : List ℕ) (what : Request) (old last : Outside J O E S M) (shelf : S) (r : Result (List ℕ) Refusal) → SameShelf s old.shelf shelf
+      → PreviewsNoted sc s m name what day (record old { shelf = shelf }) last r → AreWithin name (sc old) → IsTrue ((s.tells old.shelf).files)
+      → AnswersWell name what day.0 (sc old) → NoneFailed s old.shelf last.shelf → (Rose (m.refusals old.maker) (m.refusals last.maker) → ⊥) → IsWell old last r
+  noted_well name what old last shelf r same noted within told well none patterns =
+      ⊎_elim (λ notes.
+      let done = store_well name what (record old { err = notes.err }) last shelf r same notes.goes within told well none patterns in
+      (done.0, record { output = done.1.output; error = omega (arith, notes.notes.later, done.1.error) }))
+      (λ h. stayed old (record old { shelf = shelf }) last r refusal.Memory h refl (unchanged old shelf)) noted
+
+  preview_well : (what : Importing) (old last : Outside J O E S M) (r : Result (List ℕ) Refusal) (csv rules : List ℕ) → PreviewsImport sc s m what day old last r
       → file_within most_imported what.file (s.file old.shelf what.file) ≡ Ok csv → file_within most_imported what.rules (s.file old.shelf what.rules) ≡ Ok rules
       → AreWithin what.store (sc old) → IsTrue ((s.tells old.shelf).files) → AnswersWell what.store (request.Import what.name rules csv) day.0 (sc old)
       → NoneFailed s old.shelf last.shelf → (Rose (m.refusals old.maker) (m.refusals last.maker) → ⊥) → IsWell old last r
   preview_well what old last r csv rules previews is is_rules within told well none patterns =
-      import_by what (PreviewsStore s m) old last r csv rules previews is is_rules told none
-      (λ shelf same store. store_well what.store (request.Import what.name rules csv) old last shelf r same store within told well none patterns)
+      import_by what (PreviewsNoted sc s m) old last r csv rules previews is is_rules told none
+      (λ shelf same noted. noted_well what.store (request.Import what.name rules csv) old last shelf r same noted within told well none patterns)
 
 -- ---- a run
 
@@ -444,12 +453,12 @@ module _ {J O E S D M : Type 0} (j : Inputs J) (o : Outputs O) (e : Outputs E) (
     done well =
         ended_well status (scene j o e s m runs.last) (scene j o e s m new) runs.answer well.0 runs.ends
         (λ rose. none.output (subst (λ (n : ℕ). Rose n (o.faults new.streams.output)) well.1.output rose))
-        (λ rose. none.error (subst (λ (n : ℕ). Rose n (e.faults new.err)) well.1.error rose))
+        (λ rose. none.error (rose_from s (e.faults old.err) (e.faults runs.last.err) (e.faults new.err) well.1.error rose))
 
     unread_well : (runs.answer ≡ Err refusal.Memory) × (runs.last ≡ old) → IsWell j o e s g m day old runs.last runs.answer
     unread_well h = (
       subst (λ (y : Result (List ℕ) Refusal). GoodAnswer y) (sym h.0) refl,
-      subst (λ (y : Outside J O E S M). SameOutputs (scene j o e s m old) (scene j o e s m y)) (sym h.1) (record { output = refl; error = refl }),
+      subst (λ (y : Outside J O E S M). SameOutputs (scene j o e s m old) (scene j o e s m y)) (sym h.1) (record { output = refl; error = omega arith }),
     )
 
   pub complete_stored : (what : StoreTask) → RunsIt what → CompletesStored what day.0 status (scene j o e s m old) (scene j o e s m new)

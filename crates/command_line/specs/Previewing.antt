@@ -1,5 +1,6 @@
 -- What an import would add to a store, which is written and not stored.
-use Rattle.std.specs.Prelude.{◌≡◌, ◌⊎◌, ℕ, List, [], ◌==◌, Result, Ok, Err, if◌then◌else◌}
+use Rattle.std.specs.Prelude.{◌≡◌, ◌⊎◌, ℕ, ◌≤◌, List, [], ◌==◌, Option, Result, Ok, Err, if◌then◌else◌}
+use Rattle.hl_base.specs.Causes.{Rose}
 use Rattle.hl_base.specs.declared.shelf.Shelf.{Ghosts as Shelves}
 use Rattle.hl_time.specs.declared.day.Day.{Day}
 use Rattle.query_terms.specs.declared.making.Maker.{Ghosts as Makers}
@@ -10,12 +11,15 @@ use Rattle.store_text.specs.Shelved.{second_name}
 use Rattle.store_making.specs.Lines.{line_of as making_line, status_of as making_status}
 use Rattle.store_making.specs.declared.refusal.JournalRefusal.{JournalRefusal}
 use Rattle.store_commands.specs.Asking.{told_by}
+use Rattle.store_commands.specs.Notices.{notices_of}
 use Rattle.store_commands.specs.Previews.{Previews}
 use Rattle.store_commands.specs.Replies.{IsEditReply, line_of as reply_line, status_of as reply_status}
 use Rattle.store_commands.specs.declared.preview.Preview.{Preview}
 use Rattle.store_commands.specs.declared.preview.Preview.TheVariants as preview
 use Rattle.command_words.specs.declared.task.Importing.{Importing}
+use Rattle.command_line.specs.Answers.{Wrote, WrotePrefix}
 use Rattle.command_line.specs.Files.{LoadsFile}
+use Rattle.command_line.specs.Scenes.{Scene}
 use Rattle.command_line.specs.StoreTasks.{Goes, Loads, LoadsImport, RefusedAs, ToldLine}
 use Rattle.command_line.specs.declared.outside.Outside.{Outside}
 
@@ -86,7 +90,26 @@ abbrev pub PreviewsStore : {J O E S D M : Type 0} → Shelves S D → Makers M �
 PreviewsStore s m name what day =
     Loads s most_stored name (λ first. OrMemory (LoadsAny s most_stored (second_name name) (λ second. PreviewsFiles m name first second what day)))
 
--- The file was loaded, then its rules, and then it was asked what importing it would make of the store. No file is changed.
-abbrev pub PreviewsImport : {J O E S D M : Type 0} → Shelves S D → Makers M → Importing → Day → Outside J O E S M → Outside J O E S M
-    → Result (List ℕ) Refusal → Type 0
-PreviewsImport s m what day = LoadsImport s what day (PreviewsStore s m)
+-- These lines were written to an error output; or a write to it failed, after a front of them.
+pub record Notes (lines : List ℕ) (old new : Option (List ℕ)) (faults_old faults_new : ℕ) : Type 0 where
+  pub written : ((faults_new ≡ faults_old) × Wrote old new lines) ⊎ (Rose faults_old faults_new × WrotePrefix old new lines)
+  pub later : faults_old ≤ faults_new
+
+-- These lines were written to the error output, and then this came; what fails in writing them changes nothing of it.
+pub record NotesThen {J O E S M : Type 0} (sc : Outside J O E S M → Scene) (lines : List ℕ)
+    (Then : Outside J O E S M → Outside J O E S M → Result (List ℕ) Refusal → Type 0) (old new : Outside J O E S M) (r : Result (List ℕ) Refusal) : Type 0 where
+  pub err : E
+  pub notes : Notes lines (sc old).error (sc (record old { err = err })).error (sc old).error_faults (sc (record old { err = err })).error_faults
+  pub goes : Then (record old { err = err }) new r
+
+-- The notices of a request were written to the error output, and then it was asked what it would make of the store; or there was
+-- no memory for the notices.
+abbrev pub PreviewsNoted : {J O E S D M : Type 0} → (Outside J O E S M → Scene) → Shelves S D → Makers M → List ℕ → Request → Day
+    → Outside J O E S M → Outside J O E S M → Result (List ℕ) Refusal → Type 0
+PreviewsNoted sc s m name what day = OrMemory (NotesThen sc (notices_of what) (PreviewsStore s m name what day))
+
+-- The file was loaded, then its rules; their notices were written to the error output, and then it was asked what importing it
+-- would make of the store. No file is changed.
+abbrev pub PreviewsImport : {J O E S D M : Type 0} → (Outside J O E S M → Scene) → Shelves S D → Makers M → Importing → Day
+    → Outside J O E S M → Outside J O E S M → Result (List ℕ) Refusal → Type 0
+PreviewsImport sc s m what day = LoadsImport s what day (PreviewsNoted sc s m)

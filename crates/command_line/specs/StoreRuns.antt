@@ -23,7 +23,7 @@ abbrev pub AnswersStored : {J O E S D M : Type 0} → Inputs J → (Outside J O 
 AnswersStored j sc s g m (stored.Init what) day old new r = InitsStore sc s g what old new r
 AnswersStored j sc s g m (stored.Add name) day old new r = AddsEntry sc s g m name day old new r
 AnswersStored j sc s g m (stored.Import what) day old new r = ImportsFile s g m what day old new r
-AnswersStored j sc s g m (stored.Preview what) day old new r = PreviewsImport s m what day old new r
+AnswersStored j sc s g m (stored.Preview what) day old new r = PreviewsImport sc s m what day old new r
 AnswersStored j sc s g m (stored.Replace what) day old new r = ReplacesText sc s g m what day old new r
 AnswersStored j sc s g m (stored.Feed name) day old new r = FeedsFrames s g name old new r
 AnswersStored j sc s g m (stored.Follow what) day old new r = FollowsFrames j s g what old new r

@@ -1,23 +1,24 @@
-//! What an import would add to a store: it is written, and nothing is stored.
+//! What an import would add to a store, and what is said of its rules: it is written, and nothing is stored.
 ghost use Rattle.std.specs.Prelude.{◌≡◌, IfErr};
 ghost use Rattle.hl_time.specs.Calendar.{IsDay};
 ghost use Rattle.store_text.specs.Shelved.{second_name as second_name_of};
 ghost use Rattle.store_commands.specs.Replies.{IsEdit};
 ghost use Rattle.command_line.specs.Answers.{IsOfFile, IsTextStatus};
 ghost use Rattle.command_line.specs.Previewing as spec;
+ghost use Rattle.command_line.specs.Scenes.{scene};
 ghost use Rattle.command_line.specs.StoreTasks.{IsOfStored};
 
 use crate::files::load_file;
 use crate::outside::Outside;
 use crate::store_tasks::{answer_reply, load_import, refuse_journal};
 use command_words::Importing;
-use hl_base::{Bytes, Shelf, Sink, Source, Steps, Text};
+use hl_base::{Bytes, Shelf, Sink, Source, Steps, Text, write_all};
 use hl_time::Day;
 use query::Maker;
 use refusals::Refusal;
 use std::alloc::Global;
 use std::sync::ledger::Ledger;
-use store_commands::{Preview, StoreEdit, preview_edit};
+use store_commands::{Preview, StoreEdit, import_notices, preview_edit};
 use store_making::JournalRefusal;
 use store_text::second_name;
 
@@ -175,8 +176,56 @@ fn preview_store<J: Source, O: Sink, E: Sink, S: Shelf, M: Maker, L: Ledger>(
     }
 }
 
+/// Writes what is said of the rules of an import. Where a write fails, nothing more is said.
+fn note<E: Sink>(err: &mut E, lines: &[u8])
+    ensures { spec.Notes lines.now (E.written err.old) (E.written err.new)
+        (E.faults err.old) (E.faults err.new) }
+{
+    match write_all(err, lines) {
+        Ok(()) | Err(_) => {}
+    }
+}
+
+/// Says these lines of the rules of an import, and asks what it would make of a store.
+fn preview_noted<J: Source, O: Sink, E: Sink, S: Shelf, M: Maker, L: Ledger>(
+    alloc: Global,
+    edit: &StoreEdit,
+    notices: &[u8],
+    outside: &mut Outside<J, O, E, S, M>,
+    steps: &mut Steps<L>,
+) -> Result<Bytes, Refusal>
+    requires day { IsDay edit.now.day.0 }
+    requires edit { IsEdit edit.now.request }
+    ensures previews { spec.NotesThen (scene J.Source O.Sink E.Sink S.Shelf M.Maker) notices.now
+        (spec.PreviewsStore S.Shelf M.Maker edit.now.store edit.now.request edit.now.day)
+        outside.old outside.new result }
+    ensures kind { IfErr result IsOfStored }
+{
+    note(&mut outside.err, notices);
+    preview_store(alloc, edit, outside, steps)
+}
+
+/// Says what there is to say of the rules of an import, and asks what it would make of a store.
+fn preview_loaded<J: Source, O: Sink, E: Sink, S: Shelf, M: Maker, L: Ledger>(
+    alloc: Global,
+    edit: &StoreEdit,
+    outside: &mut Outside<J, O, E, S, M>,
+    steps: &mut Steps<L>,
+) -> Result<Bytes, Refusal>
+    requires day { IsDay edit.now.day.0 }
+    requires edit { IsEdit edit.now.request }
+    ensures previews { spec.PreviewsNoted (scene J.Source O.Sink E.Sink S.Shelf M.Maker) S.Shelf
+        M.Maker edit.now.store edit.now.request edit.now.day outside.old outside.new result }
+    ensures kind { IfErr result IsOfStored }
+{
+    match import_notices(alloc, &edit.request) {
+        Ok(notices) => preview_noted(alloc, edit, notices.as_slice(), outside, steps),
+        Err(_) => Err(Refusal::Memory),
+    }
+}
+
 /// What importing a file would add to a store. The file is loaded first, then its rules, and then the files of the store, of
-/// which none is changed.
+/// which none is changed. Before these the columns that the rules refer to and don't name are written to the error output.
 pub(crate) fn preview_import<J: Source, O: Sink, E: Sink, S: Shelf, M: Maker, L: Ledger>(
     alloc: Global,
     what: Importing,
@@ -185,11 +234,12 @@ pub(crate) fn preview_import<J: Source, O: Sink, E: Sink, S: Shelf, M: Maker, L:
     steps: &mut Steps<L>,
 ) -> Result<Bytes, Refusal>
     requires { IsDay day.0 }
-    ensures previews { spec.PreviewsImport S.Shelf M.Maker what day outside.old outside.new result }
+    ensures previews { spec.PreviewsImport (scene J.Source O.Sink E.Sink S.Shelf M.Maker) S.Shelf
+        M.Maker what day outside.old outside.new result }
     ensures kind { IfErr result IsOfStored }
 {
     match load_import(alloc, what, day, &mut outside.shelf) {
-        Ok(asked) => preview_store(alloc, &asked, outside, steps),
+        Ok(asked) => preview_loaded(alloc, &asked, outside, steps),
         Err(refusal) => Err(refusal),
     }
 }
