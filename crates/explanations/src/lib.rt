@@ -2,7 +2,7 @@
 #![tactic(auto)]
 
 mod explaining;
-mod lines;
+pub mod lines;
 mod sentences;
 
 pub use explaining::explain;

@@ -1,5 +1,6 @@
-//! One line of a text, by its number.
-ghost use Rattle.std.specs.Prelude.{◌≡◌, nat_le};
+//! One line of a text, by its number, and what it begins with.
+ghost use Rattle.std.specs.Prelude.{◌≡◌, nat_eq, nat_le};
+ghost use Rattle.std.specs.List.{starts_with};
 ghost use Rattle.entry_reader.specs.Lines.{contents_of};
 ghost use Rattle.explanations.specs.Explained as spec;
 
@@ -14,7 +15,7 @@ fn is_here(left: u64) -> bool
 
 /// What the line of a number says, counted from 1; nothing where there is no such line.
 #[tactic(auto, using(crate::proofs::Numbering::line_more, crate::proofs::Numbering::line_here, crate::proofs::Numbering::line_none))]
-pub(crate) fn line_numbered(text: &[u8], number: u64) -> &[u8]
+pub fn line_numbered(text: &[u8], number: u64) -> &[u8]
     ensures { result.now ≡ spec.numbered number (contents_of text.now) }
 {
     let mut rest = text;
@@ -28,4 +29,11 @@ pub(crate) fn line_numbered(text: &[u8], number: u64) -> &[u8]
         rest = after;
     }
     rest
+}
+
+/// Whether a line begins with some bytes.
+pub fn begins_with(line: &[u8], front: &[u8]) -> bool
+    ensures { result ≡ starts_with nat_eq line.now front.now }
+{
+    line.starts_with(front)
 }

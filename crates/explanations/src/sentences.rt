@@ -1,9 +1,9 @@
 //! A sentence on each cause.
-ghost use Rattle.std.specs.Prelude.{◌≡◌, ◌==◌, ◌&&◌, codes, nat_eq};
-ghost use Rattle.std.specs.List.{starts_with};
+ghost use Rattle.std.specs.Prelude.{◌≡◌, ◌==◌, ◌&&◌};
 ghost use Rattle.directive_reader.specs.Keywords.{has_word};
 ghost use Rattle.explanations.specs.Explained as spec;
 
+use crate::lines::begins_with;
 use book::Cause;
 use directive_reader::keyword::after_word;
 use entry_reader::scan::{before, begins, begins_digit, begins_white};
@@ -52,13 +52,6 @@ fn form_sentence(line: &[u8]) -> &'static str
     } else {
         "Something that the directive takes is missing or does not read, or the line has more than it takes: begin a note with ;."
     }
-}
-
-/// Whether a line begins with some bytes.
-fn begins_with(line: &[u8], front: &[u8]) -> bool
-    ensures { result ≡ starts_with nat_eq line.now front.now }
-{
-    line.starts_with(front)
 }
 
 /// Whether a line begins with a word.
