@@ -1,4 +1,5 @@
 mod Counting
+mod FileEnds
 mod Finding
 mod Lined
 mod Marks

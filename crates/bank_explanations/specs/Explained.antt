@@ -9,9 +9,11 @@ use Rattle.csv_rules.specs.declared.reading.Rules.{Rules}
 use Rattle.csv_entries.specs.declared.faults.ConvertFault.{ConvertFault}
 use Rattle.csv_entries.specs.declared.faults.ConvertFault.TheVariants as faults
 use Rattle.bank_explanations.specs.Parts.{part_for}
-use Rattle.bank_explanations.specs.Places.{first_content, number_before, numbered, record_text}
+use Rattle.bank_explanations.specs.Places.{first_content, number_before, record_text}
 use Rattle.bank_explanations.specs.Sentences.{rules_sentence, sentence_of}
 use Rattle.bank_explanations.specs.declared.parts.Part.{Part}
+use Rattle.entry_reader.specs.Lines.{contents_of}
+use Rattle.explanations.specs.Explained.{numbered}
 pub use Rattle.book.specs.FaultLine.{ended}
 
 -- the name of a field in rules
@@ -76,4 +78,4 @@ line_explained fault line = (rule_line (line_of fault) ++ ended line) ++ ended (
 
 -- the lines that explain why rules are refused
 unfoldable pub rules_explained : List ℕ → RulesFault → List ℕ
-rules_explained text fault = line_explained fault (numbered (line_of fault) text)
+rules_explained text fault = line_explained fault (numbered (line_of fault) (contents_of text))

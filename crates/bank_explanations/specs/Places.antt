@@ -1,5 +1,5 @@
 -- The line of a file on which a record begins.
-use Rattle.std.specs.Prelude.{ℕ, ◌+◌, ◌-◌, ◌==◌, nat_eq, nat_lt, Bool, List, [], ◌∷◌, ◌++◌, length, drop, if◌then◌else◌}
+use Rattle.std.specs.Prelude.{ℕ, ◌+◌, ◌-◌, ◌==◌, nat_eq, nat_lt, Bool, List, [], ◌∷◌, ◌++◌, length, if◌then◌else◌}
 use Rattle.std.specs.List.{concat, filter, starts_with}
 use Rattle.csv.specs.Reading.{records, strip_bom}
 use Rattle.csv_entries.specs.Records.{config_of, text_after}
@@ -47,7 +47,3 @@ first_of (l ∷ ls) = l
 -- what the first line of a text says
 abbrev pub first_content : List ℕ → List ℕ
 first_content text = first_of (contents_of text)
-
--- what the line of a number says, counted from 1; nothing where there is no such line
-abbrev pub numbered : ℕ → List ℕ → List ℕ
-numbered n text = first_of (drop (n - 1) (contents_of text))

@@ -3,10 +3,11 @@ ghost use Rattle.std.specs.Prelude.{◌≡◌, ◌++◌, IfOk};
 ghost use Rattle.bank_explanations.specs.Explained as spec;
 
 use crate::parts::{Part, part_for};
-use crate::places::{first_content, number_before, numbered, record_text};
+use crate::places::{first_content, number_before, record_text};
 use crate::sentences::{rules_sentence, sentence_of};
 use csv_entries::ConvertFault;
 use csv_rules::{EntryField, Rules, RulesFault};
+use explanations::lines::line_numbered;
 use hl_base::{Bytes, Memory};
 use std::alloc::Global;
 use std::string::ToString;
@@ -178,6 +179,6 @@ fn explain_line(alloc: Global, fault: RulesFault, line: &[u8]) -> Result<Vec<u8>
 pub fn explain_rules(alloc: Global, text: &[u8], fault: RulesFault) -> Result<Bytes, Memory>
     ensures { IfOk result (λ lines. lines ≡ spec.rules_explained text.now fault) }
 {
-    let line = numbered(line_of(fault), text);
+    let line = line_numbered(text, line_of(fault));
     Ok(Bytes::from_vec(explain_line(alloc, fault, line)?))
 }

@@ -2,6 +2,7 @@
 #![tactic(auto)]
 
 mod explaining;
+mod files;
 mod parts;
 mod places;
 mod sentences;
@@ -10,3 +11,4 @@ mod spots;
 mod tests;
 
 pub use explaining::{explain, explain_rules};
+pub use files::{Explanation, explain_file};

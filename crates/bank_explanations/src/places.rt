@@ -7,14 +7,8 @@ use crate::spots::{Spot, past_line};
 use csv_entries::skipping::text_after;
 use csv_rules::Settings;
 use entry_reader::scan::cut_line;
+use explanations::lines::begins_with;
 use hl_base::line::line_at;
-
-/// Whether a text begins with another one.
-pub(crate) fn begins_with(text: &[u8], front: &[u8]) -> bool
-    ensures { result ≡ spec.begins_with text.now front.now }
-{
-    text.starts_with(front)
-}
 
 /// The text without a byte order mark at its front.
 #[tactic(auto, using(crate::proofs::Marks::mark_some, crate::proofs::Marks::mark_cut, crate::proofs::Marks::mark_none))]
@@ -93,22 +87,4 @@ pub(crate) fn first_content(text: &[u8]) -> &[u8]
     }
     let (content, _) = cut_line(text);
     content
-}
-
-/// What the line of a number says, counted from 1; nothing where there is no such line.
-#[tactic(auto, using(crate::proofs::Lined::line_more, crate::proofs::Lined::line_here, crate::proofs::Lined::line_none))]
-pub(crate) fn numbered(number: u64, text: &[u8]) -> &[u8]
-    ensures { result.now ≡ spec.numbered number text.now }
-{
-    let mut rest = text;
-    let mut before = number.saturating_sub(1);
-    while 0 < before {
-        if rest.is_empty() {
-            return rest;
-        }
-        let (_, after) = cut_line(rest);
-        before = before.saturating_sub(1);
-        rest = after;
-    }
-    first_content(rest)
 }

@@ -4,10 +4,10 @@ ghost use Rattle.bank_explanations.specs.Places.{begins_with};
 ghost use Rattle.bank_explanations.specs.Sentences as spec;
 
 use crate::parts::Part;
-use crate::places::begins_with;
 use csv_entries::ConvertFault;
 use csv_rules::{EntryField, RulesFault};
 use entry_reader::scan::{begins, begins_white, is_utf8};
+use explanations::lines::begins_with;
 
 /// The sentence on a field that isn't valid.
 fn field_sentence(field: EntryField) -> &'static str

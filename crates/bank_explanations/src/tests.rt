@@ -1,5 +1,5 @@
 //! Explanations of records and of lines of rules.
-use crate::{explain, explain_rules};
+use crate::{Explanation, explain, explain_file, explain_rules};
 use csv_entries::{ConvertFault, convert};
 use csv_rules::{Rules, RulesFault};
 use hl_base::{Bytes, Memory};
@@ -62,5 +62,50 @@ fn a_line_that_is_no_rule(rt: HostRuntime) -> Result<(), Fail> {
     let wanted =
         b"line 3\ncurrncy EUR\nThis is no rule: it begins with the name of a field, before a colon or white space, or with another word of rules.\n";
     assert_eq!(rt; lines.as_slice(), wanted.as_slice());
+    Ok(())
+}
+
+/// The lines on a record.
+fn record_lines(explanation: Explanation) -> Result<Bytes, Memory> {
+    match explanation {
+        Explanation::Record { fault: _, lines } => Ok(lines),
+        Explanation::Rules { .. } => Err(Memory),
+    }
+}
+
+/// The lines on the first record of a file that is refused.
+fn first_lines(alloc: Global, text: &[u8]) -> Result<Bytes, Memory> {
+    match explain_file(alloc, RULES, text, &mut RegexMaker::new())? {
+        Some(explanation) => record_lines(explanation),
+        None => Err(Memory),
+    }
+}
+
+/// Whether nothing is wrong with a file.
+fn is_good(alloc: Global, text: &[u8]) -> Result<bool, Memory> {
+    match explain_file(alloc, RULES, text, &mut RegexMaker::new())? {
+        Some(_) => Ok(false),
+        None => Ok(true),
+    }
+}
+
+#[test]
+fn a_file_by_its_rules(rt: HostRuntime) -> Result<(), Fail> {
+    let lines = first_lines(
+        rt.alloc(),
+        b"x\n2024-01-05,market,-1,EUR\n2024-01-06,market\n2024-01-07,market,x,\n",
+    )?;
+    let wanted =
+        b"record 2, line 3\n2024-01-06,market\nThe fields amount, amount-in and amount-out are all empty: assign a column to one of them, or leave the record out by skip.\n";
+    assert_eq!(rt; lines.as_slice(), wanted.as_slice());
+    Ok(())
+}
+
+#[test]
+fn a_file_that_becomes_entries(rt: HostRuntime) -> Result<(), Fail> {
+    assert_eq!(rt;
+        is_good(rt.alloc(), b"x\n2024-01-05,market,-1,EUR\n")?,
+        true
+    );
     Ok(())
 }
