@@ -1,3 +1,4 @@
 mod AnswerLaws
 mod HistoryLaws
+mod ShortLines
 mod StoreLaws

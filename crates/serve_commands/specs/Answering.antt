@@ -1,5 +1,5 @@
 -- What is answered to `serve`.
-use Rattle.std.specs.Prelude.{◌≡◌, ℕ, false, List, Option, Result, Ok, Err}
+use Rattle.std.specs.Prelude.{◌≡◌, ℕ, ◌≤◌, false, List, length, Option, Result, Ok, Err, IfOk}
 use Rattle.hl_base.specs.Causes.{Rose}
 use Rattle.hl_base.specs.declared.disk.Disk.{Ghosts as Disks}
 use Rattle.hl_base.specs.declared.shelf.Shelf.{Ghosts as Shelves}
@@ -7,7 +7,7 @@ use Rattle.refusals.specs.declared.refusal.Refusal.{Refusal}
 use Rattle.refusals.specs.declared.refusal.Refusal.TheVariants as refusal
 use Rattle.shared_desk.specs.Stays.{KitTold}
 use Rattle.desk_team.specs.Houses.{HouseTold}
-use Rattle.serve_commands.specs.Lines.{IsSaid}
+use Rattle.serve_commands.specs.Lines.{IsSaid, most_of_a_tally}
 use Rattle.serve_commands.specs.Stores.{ServesStore}
 use Rattle.serve_commands.specs.declared.answer.Ended.{Ended}
 use Rattle.serve_commands.specs.declared.answer.Serving.{Serving as Asked}
@@ -38,5 +38,7 @@ pub record Serves {S D A K : Type 0} (s : Shelves S D) (g : Disks D) (tell : A �
   pub served : Result Tally Unserved
   pub serves : ServesStore s g asked.store tell coming sent asked.page (post_of asked) old new house house_now served
   pub says : IsSaid asked.store served result
+  -- a line that is said of a store that was served is short
+  pub short : IfOk result (λ said. length said.line ≤ most_of_a_tally)
   -- where the house's count doesn't rise and the store was opened
   pub complete : (Rose house.faults house_now.faults → ⊥) → IsComplete served result

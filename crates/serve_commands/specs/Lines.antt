@@ -17,6 +17,10 @@ abbrev pub tally_line : Tally → List ℕ
 tally_line told =
     ended ((codes "revision " ++ decimal told.revision) ++ (codes ", requests " ++ decimal told.requests) ++ (codes ", refused " ++ decimal told.refused))
 
+-- the most bytes of such a line, whose numbers have at most 20 digits each
+abbrev pub most_of_a_tally : ℕ
+most_of_a_tally = 91
+
 abbrev pub house_line : HouseFault → List ℕ
 house_line house_fault.Failed = ended (codes "error: door fault")
 house_line house_fault.Memory = memory_line

@@ -1,7 +1,7 @@
 //! What is answered to `serve`.
-ghost use Rattle.std.specs.Prelude.{◌≡◌, ℕ, List, Ok, Err};
+ghost use Rattle.std.specs.Prelude.{◌≡◌, ◌≤◌, ℕ, IfOk, List, Ok, Err, length};
 ghost use Rattle.shared_desk.specs.Stays.{kit_told};
-ghost use Rattle.serve_commands.specs.Lines.{IsSaid, RefusedAs, line_of, status_of};
+ghost use Rattle.serve_commands.specs.Lines.{IsSaid, RefusedAs, line_of, most_of_a_tally, status_of};
 ghost use Rattle.serve_commands.specs.Answering.{Serves};
 
 use crate::lines::{tally_line, unserved_line, unserved_status};
@@ -38,7 +38,8 @@ pub struct Ended {
 
 /// What is said of a store that was served.
 fn say_tally(alloc: Global, tally: &Tally) -> Result<Ended, Refusal>
-    ensures { (name : List ℕ) → IsSaid name (Ok tally.now) result }
+    ensures said { (name : List ℕ) → IsSaid name (Ok tally.now) result }
+    ensures short { IfOk result (λ said. length said.line ≤ most_of_a_tally) }
 {
     match tally_line(alloc, tally) {
         Ok(line) => {
@@ -62,7 +63,8 @@ fn refuse(alloc: Global, name: &Text, unserved: &Unserved) -> Refusal
 
 /// What is said of how a store was served, or why it wasn't.
 fn say(alloc: Global, name: &Text, served: &Result<Tally, Unserved>) -> Result<Ended, Refusal>
-    ensures { IsSaid name.now served.now result }
+    ensures said { IsSaid name.now served.now result }
+    ensures short { IfOk result (λ said. length said.line ≤ most_of_a_tally) }
 {
     match served {
         Ok(tally) => say_tally(alloc, tally),

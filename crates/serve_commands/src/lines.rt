@@ -1,5 +1,5 @@
 //! What is said of serving a store: the exit status and the line.
-ghost use Rattle.std.specs.Prelude.{◌≡◌, ◌++◌, IfOk};
+ghost use Rattle.std.specs.Prelude.{◌≡◌, ◌++◌, ◌^◌, ◌<◌, ◌≤◌, IfOk, length};
 ghost use Rattle.std.specs.Fmt.{decimal};
 ghost use Rattle.std.specs.String.{string_bytes};
 ghost use Rattle.serve_commands.specs.Lines as spec;
@@ -13,7 +13,8 @@ use store_making::{journal_line, journal_status};
 
 /// A word and a number.
 fn counted(alloc: Global, word: &str, number: u64) -> Result<String, Memory>
-    ensures { IfOk result (λ text. string_bytes text ≡ word.now ++ decimal number) }
+    ensures text { IfOk result (λ text. string_bytes text ≡ word.now ++ decimal number) }
+    ensures fits { number < 2 ^ 64 }
 {
     let mut text = String::from_str(alloc, word)?;
     text.push_str(number.to_string(alloc)?.as_str())?;
@@ -22,7 +23,8 @@ fn counted(alloc: Global, word: &str, number: u64) -> Result<String, Memory>
 
 /// The line of what is told when all workers have ended.
 pub fn tally_line(alloc: Global, tally: &Tally) -> Result<Bytes, Memory>
-    ensures { IfOk result (λ line. line ≡ spec.tally_line tally.now) }
+    ensures line { IfOk result (λ line. line ≡ spec.tally_line tally.now) }
+    ensures short { IfOk result (λ line. length line ≤ spec.most_of_a_tally) }
 {
     let mut line = counted(alloc, "revision ", tally.revision)?;
     let requests = counted(alloc, ", requests ", tally.requests)?;

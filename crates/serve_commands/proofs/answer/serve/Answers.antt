@@ -10,8 +10,9 @@ returns g c =
     record {
       served = s.result;
       serves = s.ensures;
-      says = c.say.ensures;
+      says = c.say.ensures.said;
+      short = c.say.ensures.short;
       complete = λ none.
           complete_so g.S.Shelf g.S.Disk.Disk tell link.coming link.sent c.args.serving c.args.shelf.now s.new.shelf
-          (g.H.House.told c.args.house.now) (g.H.House.told s.new.house) none s.result c.say.result s.ensures c.say.ensures;
+          (g.H.House.told c.args.house.now) (g.H.House.told s.new.house) none s.result c.say.result s.ensures c.say.ensures.said;
     }
