@@ -1,1 +1,3 @@
+mod Completing
 mod Doors
+mod Houses

@@ -1,11 +1,14 @@
 //! One run of `serve` over memory.
-ghost use Rattle.std.specs.Prelude.{◌≡◌, All, IfOk};
-ghost use Rattle.desk_team.specs.Houses.{IsNew};
+ghost use Rattle.std.specs.Prelude.{◌≡◌, ◌∷◌, [], true, All, IfOk};
+ghost use Rattle.desk_team.specs.Houses.{IsNew, is_sound};
+ghost use Rattle.serve_commands.specs.Lines.{most_of_a_tally};
+ghost use Rattle.serve_rows.specs.Rooms.{HasRoomTo, IsSound, most_of_a_fault};
 
 use command_line::{Outside, Streams};
-use desk_team::MemHouse;
+use desk_team::{House, MemHouse};
 use hl_base::{
-    Bytes, List, MemClock, MemDoor, MemLink, MemShelf, MemSink, MemSource, Memory, Steps, Text,
+    Bytes, List, MemClock, MemDoor, MemLink, MemShelf, MemSink, MemSource, Memory, Sink, Steps,
+    Text,
 };
 use hl_time::Day;
 use query::{Maker, RegexMaker};
@@ -20,6 +23,12 @@ use web_messages::page::Page;
 
 /// A kit in memory.
 pub type MemKit = Kit<MemDoor, MemClock, RegexMaker>;
+
+/// Streams, a shelf and a maker of patterns in memory.
+pub type MemOutside = Outside<MemSource, MemSink, MemSink, MemShelf, RegexMaker>;
+
+/// The objects of a run in memory.
+pub type MemSite = Site<MemSource, MemSink, MemSink, MemShelf, RegexMaker, MemHouse<RegexMaker>>;
 
 /// The words, the bytes of the one link of the one worker, and the numbers of the calls of the house and of its door that are to
 /// fail.
@@ -56,7 +65,8 @@ fn shelf_of(alloc: Global) -> Result<MemShelf, Memory> {
 
 /// A door to which one link comes.
 fn door_of(alloc: Global, case: &Case) -> Result<MemDoor, Memory>
-    ensures { IfOk result (λ door. IsNew door 0) }
+    ensures { IfOk result (λ door. IsNew door 0
+        × (case.now.door_fails.now ≡ [] → is_sound door ≡ true)) }
 {
     let mut links = Vec::new(alloc);
     links.push(MemLink::new(alloc, case.bytes, ROOM, &[])?)?;
@@ -67,7 +77,8 @@ fn door_of(alloc: Global, case: &Case) -> Result<MemDoor, Memory>
 /// The kit of the one worker.
 fn kit_of(door: MemDoor) -> MemKit
     requires { IsNew door 0 }
-    ensures { IsNew result.door (⟦<RegexMaker as Maker>⟧.refusals result.maker) }
+    ensures { IsNew result.door (⟦<RegexMaker as Maker>⟧.refusals result.maker)
+        × (result.door ≡ door) }
 {
     let clock = MemClock::new(739_052);
     let maker = RegexMaker::new();
@@ -77,8 +88,9 @@ fn kit_of(door: MemDoor) -> MemKit
 /// A list of this kit.
 fn one_kit(alloc: Global, kit: MemKit) -> Result<List<MemKit>, Memory>
     requires { IsNew kit.door (⟦<RegexMaker as Maker>⟧.refusals kit.maker) }
-    ensures { IfOk result (All (λ kit.
+    ensures new { IfOk result (All (λ kit.
         IsNew kit.door (⟦<RegexMaker as Maker>⟧.refusals kit.maker))) }
+    ensures one { IfOk result (λ kits. kits ≡ kit ∷ []) }
 {
     let mut kits = Vec::new(alloc);
     kits.push(kit)?;
@@ -86,10 +98,53 @@ fn one_kit(alloc: Global, kit: MemKit) -> Result<List<MemKit>, Memory>
 }
 
 /// A house with that kit.
-fn house_of(alloc: Global, case: &Case) -> Result<MemHouse<RegexMaker>, Memory> {
+fn house_of(alloc: Global, case: &Case) -> Result<MemHouse<RegexMaker>, Memory>
+    ensures { IfOk result (λ house. case.now.house_fails.now ≡ [] → case.now.door_fails.now ≡ []
+        → IsSound (⟦<MemHouse<RegexMaker> as House>⟧.told house) 1) }
+{
     let door = door_of(alloc, case)?;
     let kits = one_kit(alloc, kit_of(door))?;
-    MemHouse::new(alloc, kits, case.house_fails)
+    let house = MemHouse::new(alloc, kits, case.house_fails)?;
+    Ok(house)
+}
+
+/// Outputs with room, an empty input, and the shelf with the store.
+fn outside_of(alloc: Global) -> Result<MemOutside, Memory>
+    ensures output { IfOk result (λ outside.
+        HasRoomTo ⟦<MemSink as Sink>⟧ outside.streams.output most_of_a_tally) }
+    ensures error { IfOk result (λ outside.
+        HasRoomTo ⟦<MemSink as Sink>⟧ outside.err most_of_a_fault) }
+{
+    let input = MemSource::new(alloc, b"", &[])?;
+    let output = MemSink::new(alloc, ROOM, &[])?;
+    let err = MemSink::new(alloc, ROOM, &[])?;
+    let shelf = shelf_of(alloc)?;
+    Ok(Outside {
+        streams: Streams { input, output },
+        err,
+        shelf,
+        maker: RegexMaker::new(),
+    })
+}
+
+/// The objects of the case.
+pub fn site_of(alloc: Global, case: &Case) -> Result<MemSite, Memory>
+    ensures sound { IfOk result (λ site. case.now.house_fails.now ≡ []
+        → case.now.door_fails.now ≡ []
+        → IsSound (⟦<MemHouse<RegexMaker> as House>⟧.told site.house) 1) }
+    ensures output { IfOk result (λ site.
+        HasRoomTo ⟦<MemSink as Sink>⟧ site.outside.streams.output most_of_a_tally) }
+    ensures error { IfOk result (λ site.
+        HasRoomTo ⟦<MemSink as Sink>⟧ site.outside.err most_of_a_fault) }
+{
+    let outside = outside_of(alloc)?;
+    let page = page_of(alloc)?;
+    let house = house_of(alloc, case)?;
+    Ok(Site {
+        outside,
+        house,
+        page,
+    })
 }
 
 /// A page.
@@ -128,19 +183,7 @@ fn counted<L: Ledger, W: Threads + Wait + Sync>(
     requires three { blank.parts ≡ 3 }
 {
     let words = words_of(alloc, case.words)?;
-    let mut site = Site {
-        outside: Outside {
-            streams: Streams {
-                input: MemSource::new(alloc, b"", &[])?,
-                output: MemSink::new(alloc, ROOM, &[])?,
-            },
-            err: MemSink::new(alloc, ROOM, &[])?,
-            shelf: shelf_of(alloc)?,
-            maker: RegexMaker::new(),
-        },
-        house: house_of(alloc, case)?,
-        page: page_of(alloc)?,
-    };
+    let mut site = site_of(alloc, case)?;
     let mut steps = Steps::<L>::start(blank);
     let status = run_program(
         rt,

@@ -4,4 +4,6 @@
 #[cfg(test)]
 mod case;
 #[cfg(test)]
+mod complete;
+#[cfg(test)]
 mod rows;

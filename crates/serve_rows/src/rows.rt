@@ -1,5 +1,6 @@
 //! Rows of `serve`: its words, one link, a bind and a door that fail.
 use crate::case::{Case, Seen, answer, page_of, words_of};
+use crate::complete::status_of;
 use desk::Allow;
 use hl_base::Memory;
 use serve_line::{NoReading, read_serve};
@@ -39,6 +40,15 @@ fn serves_one_link(rt: HostRuntime) -> Result<(), Fail> {
         b"revision 0, requests 1, refused 0\n".as_slice()
     );
     assert_eq!(rt; seen.error.as_slice(), b"".as_slice());
+    Ok(())
+}
+
+/// Where no call is to fail, the status is the one that the contract promises.
+#[test]
+fn ends_well_where_nothing_fails(rt: HostRuntime) -> Result<(), Fail> {
+    let words = words_of(rt.alloc(), WORDS)?;
+    let status = status_of(&rt, rt.alloc(), words.as_slice(), BALANCE)?;
+    assert_eq!(rt; status, Some(0));
     Ok(())
 }
 
