@@ -1,9 +1,15 @@
 //! A run whose words, zone, day, input, files, sockets and outputs are those of the process.
 
-ghost use Rattle.command_line.specs.Answers.{Says};
-ghost use Rattle.refusals.specs.Errors.{memory_line, usage_line};
+ghost use Rattle.std.specs.Prelude.{◌≡◌, IfOk, drop, map};
+ghost use Rattle.std.specs.Process.{exit_status};
+ghost use Rattle.std.specs.String.{string_bytes};
+ghost use Rattle.std.specs.Vec.Iter.{into_iter_items};
 ghost use Rattle.hl_time.specs.Calendar.{IsDay};
-ghost use Rattle.std.specs.Prelude.{◌≡◌};
+ghost use Rattle.refusals.specs.Errors.{memory_line, usage_line};
+ghost use Rattle.shared_desk.specs.Stays.{kit_told};
+ghost use Rattle.command_line.specs.Answers.{Says};
+ghost use Rattle.serve_line.specs.Runs.{IsServeStatus};
+ghost use Rattle.process_run.specs.Running.{RunsAs};
 
 use crate::clock::today;
 use crate::house::SocketHouse;
@@ -19,6 +25,7 @@ use query::{Maker, RegexMaker};
 use real_files::FileShelf;
 use serve_line::{Site, run_program};
 use std::alloc::Global;
+use std::env::Args;
 use std::fs::File;
 use std::io::{Read, Write};
 use std::marker::Brand;
@@ -69,7 +76,9 @@ pub fn run_process<
     I: Read + Drop,
     O: Write + Drop,
     E: Write + Drop,
->(rt: &R, input: I, output: O, errors: E) -> ExitCode {
+>(rt: &R, input: I, output: O, errors: E) -> ExitCode
+    ensures { IsServeStatus (exit_status result) }
+{
     match begin(rt) {
         Ok((words, zone, page)) => {
             let mut site = Site {
@@ -85,21 +94,25 @@ pub fn run_process<
                 house: SocketHouse::new(rt, &zone, !limits_connections(words.as_slice())),
                 page,
             };
-            let Status(status) = counted::<Brand, _, _, _, _, _, _, _>(
+            counted::<Brand, _, _, _, _, _, _, _>(
                 rt,
                 rt.alloc(),
                 Blank::new(3),
                 words.as_slice(),
                 today(rt, &zone),
                 &mut site,
-            );
-            ExitCode::from(status)
+            )
         }
-        Err(why) => {
-            let Status(status) = refuse(&mut Output::new(errors), why);
-            ExitCode::from(status)
-        }
+        Err(why) => code_of(refuse(&mut Output::new(errors), why)),
     }
+}
+
+/// The exit code of a status.
+fn code_of(status: Status) -> ExitCode
+    ensures { exit_status result ≡ status.0 }
+{
+    let Status(status) = status;
+    ExitCode::from(status)
 }
 
 /// The words after the program's name, the zone in which its days are, and the page that it may show.
@@ -112,8 +125,16 @@ fn begin<R: Env + Files + AllocGlobal>(rt: &R) -> Result<(Vec<Text>, Zone, Page)
 
 /// The words after the program's name.
 fn words<R: Env + AllocGlobal>(rt: &R) -> Result<Vec<Text>, NoWords> {
-    let mut words = Vec::new(rt.alloc());
-    for word in env::args(rt)?.skip(1) {
+    but_the_first(rt.alloc(), env::args(rt)?)
+}
+
+/// The arguments but the first, which is the program's name.
+fn but_the_first(alloc: Global, args: Args) -> Result<Vec<Text>, NoWords>
+    ensures { IfOk result (λ words.
+        words.items ≡ drop 1 (map string_bytes (into_iter_items args))) }
+{
+    let mut words = Vec::new(alloc);
+    for word in args.skip(1) {
         if words.push(Text::from_string(word)).is_err() {
             return Err(NoWords::Memory);
         }
@@ -151,6 +172,7 @@ fn refuse<E: Sink>(err: &mut E, why: NoWords) -> Status
         (E.written err.old) (E.written err.new) (E.faults err.old) (E.faults err.new) }
     ensures memory { why ≡ NoWords.Memory → Says result.0 6 memory_line
         (E.written err.old) (E.written err.new) (E.faults err.old) (E.faults err.new) }
+    ensures status { IsServeStatus result.0 }
 {
     match why {
         NoWords::Encoding => say(err, 2, b"error: usage\n"),
@@ -158,7 +180,7 @@ fn refuse<E: Sink>(err: &mut E, why: NoWords) -> Status
     }
 }
 
-/// A run whose steps are counted in a ledger of its own.
+/// The exit code of a run whose steps are counted in a ledger of its own.
 fn counted<
     L: Ledger,
     J: Source,
@@ -175,12 +197,15 @@ fn counted<
     words: &[Text],
     day: Day,
     site: &mut Site<J, O, E, S, M, H>,
-) -> Status
+) -> ExitCode
     requires name { blank.name ≡ L.name }
     requires parts { blank.parts ≡ L.parts }
     requires three { blank.parts ≡ 3 }
     requires day { IsDay day.0 }
+    ensures { RunsAs J.Source O.Sink E.Sink S.Shelf S.Disk.Disk M.Maker
+        (kit_told H.Door.Door H.Clock.Clock H.Maker.Maker) H.Door.Link.coming H.Door.Link.sent
+        H.told words.now day (exit_status result) site.old site.new }
 {
     let mut steps = Steps::<L>::start(blank);
-    run_program(rt, alloc, words, day, site, &mut steps)
+    code_of(run_program(rt, alloc, words, day, site, &mut steps))
 }
