@@ -125,19 +125,18 @@ fn begin<R: Env + Files + AllocGlobal>(rt: &R) -> Result<(Vec<Text>, Zone, Page)
 
 /// The words after the program's name.
 fn words<R: Env + AllocGlobal>(rt: &R) -> Result<Vec<Text>, NoWords> {
-    but_the_first(rt.alloc(), env::args(rt)?)
+    let words = but_the_first(rt.alloc(), env::args(rt)?)?;
+    Ok(words)
 }
 
 /// The arguments but the first, which is the program's name.
-fn but_the_first(alloc: Global, args: Args) -> Result<Vec<Text>, NoWords>
+fn but_the_first(alloc: Global, args: Args) -> Result<Vec<Text>, Memory>
     ensures { IfOk result (λ words.
         words.items ≡ drop 1 (map string_bytes (into_iter_items args))) }
 {
     let mut words = Vec::new(alloc);
     for word in args.skip(1) {
-        if words.push(Text::from_string(word)).is_err() {
-            return Err(NoWords::Memory);
-        }
+        words.push(Text::from_string(word))?;
     }
     Ok(words)
 }

@@ -1,5 +1,4 @@
-use Rattle.std.proofs.Common.{◌≡◌, map}
-use Rattle.std.specs.String.{string_bytes}
+use Rattle.std.proofs.Common.{◌≡◌, map, string_bytes}
 use Rattle.process_run.proofs.run.but_the_first.Given as goal
 
 abbrev pub invariant-loop-word : goal.invariant-loop-word
