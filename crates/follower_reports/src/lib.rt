@@ -3,4 +3,4 @@
 
 mod report;
 
-pub use report::{ShowFault, report_follower};
+pub use report::{Reported, ShowFault, report_follower};

@@ -70,3 +70,40 @@ pub fn report_follower<D: Disk, M: Maker, L: Ledger>(
     let image = follower.image();
     report_image(alloc, image.text.as_slice(), words, day, maker, steps)
 }
+
+/// What holds a text that reports are made of, as a replica does.
+pub trait Reported {
+    ghost use Rattle.std.specs.Prelude.{ℕ, List};
+
+    /// The text that it holds.
+    ghost text: { Self → List ℕ };
+
+    /// The output of a report over its text, as `report_follower` makes it of a replica's.
+    fn report<M: Maker, L: Ledger>(
+        &self,
+        alloc: Global,
+        words: &[Text],
+        day: Day,
+        maker: &mut M,
+        steps: &mut Steps<L>,
+    ) -> Result<Bytes, ShowFault>
+        requires { IsDay day.0 }
+        ensures { Shows day.0 (text self.now) words.now (M.refusals maker.old)
+            (M.refusals maker.new)
+            (M.last_refused maker.old) (M.last_refused maker.new) result };
+}
+
+impl<D: Disk> Reported for Follower<D> {
+    ghost text = { λ f. f.image.text };
+
+    fn report<M: Maker, L: Ledger>(
+        &self,
+        alloc: Global,
+        words: &[Text],
+        day: Day,
+        maker: &mut M,
+        steps: &mut Steps<L>,
+    ) -> Result<Bytes, ShowFault> {
+        report_follower(alloc, self, words, day, maker, steps)
+    }
+}
