@@ -20,8 +20,11 @@ use Rattle.desk.specs.declared.request.Request.TheVariants as request
 use Rattle.refusals.specs.Outcomes.{Outcome}
 use Rattle.refusals.specs.declared.refusal.Refusal.{Refusal}
 use Rattle.refusals.specs.declared.refusal.Refusal.TheVariants as refusal
+use Rattle.store_feeding.specs.Feeding.{FeedsStore, RefusedIn}
 use Rattle.store_text.specs.Lending.{NoneFailed}
 use Rattle.store_text.specs.Shelved.{image_in, image_under, or_empty, second_name}
+use Rattle.store_text.specs.declared.refusal.StoreRefusal.{StoreRefusal}
+use Rattle.store_text.specs.declared.refusal.StoreRefusal.TheVariants as store_refusal
 use Rattle.store_making.specs.Making.{MakesStore}
 use Rattle.store_making.specs.Refusals.{files_refusal}
 use Rattle.store_making.specs.declared.refusal.JournalRefusal.{JournalRefusal}
@@ -41,6 +44,7 @@ use Rattle.command_words.specs.declared.task.StoreTask.TheVariants as stored
 use Rattle.command_line.specs.Answers.{FindsText, IsOfFile, IsOfSource, IsStore, status_of}
 use Rattle.command_line.specs.Complete.{AnswersWell, AreWithin, CompletesStored, IsDone, NoneRose}
 use Rattle.command_line.specs.Files.{LoadsFile, ReadsShelf}
+use Rattle.command_line.specs.Frames.{FeedsFrames, ToldFrames}
 use Rattle.command_line.specs.Previewing.{LoadsAny, OrMemory, PreviewsFiles, PreviewsImport, PreviewsNoted, PreviewsStore, ToldAsked, most_stored, or_none}
 use Rattle.command_line.specs.Runs.{ReadsText}
 use Rattle.command_line.specs.Scenes.{OutputsStay, Scene, SourceRose, scene, soundness, text_in}
@@ -107,6 +111,29 @@ module _ {S D : Type 0} (s : Shelves S D) (g : Disks D) (old new : S) where
       (replied_status x ((answer_to (state_under (s.file old) name shown) day.0 what).reply) zero (edits.complete told shown is loads none patterns)) said
   edited_by name what day p (Err e) (Ok output) edits said told shown is loads zero none patterns = tt
   edited_by name what day p (Err e) (Err x) edits said told shown is loads zero none patterns = memory_of name e x (edits.complete told shown is loads none patterns) said
+
+  -- files with an image aren't refused for a cause
+  not_refused : (found : Option (Result Image NoImage)) (shown : Image) (r : StoreRefusal) → found ≡ Some (Ok shown) → RefusedIn found r → ⊥
+  not_refused found shown r is refused = subst (λ (o : Option (Result Image NoImage)). RefusedIn o r) is refused
+
+  fed_by : (name : List ℕ) (shown : Image) (fed : Result (List ℕ) StoreRefusal) (r : Result (List ℕ) Refusal) → FeedsStore s g name old new fed → ToldFrames name fed r
+      → IsTrue ((s.tells old).files) → image_under (s.file old) name ≡ Some (Ok shown) → NoneFailed s old new → GoodAnswer r
+  fed_by name shown (Ok frames) (Ok output) feeds said told is none = tt
+  fed_by name shown (Ok frames) (Err x) feeds said told is none = absurd said
+  fed_by name shown (Err e) (Ok output) feeds said told is none = tt
+  fed_by name shown (Err store_refusal.ReadFault) (Err x) feeds said told is none = absurd (none.0 (feeds.read_fault refl).0)
+  fed_by name shown (Err store_refusal.DiskFault) (Err x) feeds said told is none = absurd (none.1 (feeds.disk_fault refl))
+  fed_by name shown (Err store_refusal.Memory) (Err x) feeds said told is none = ap status_of said
+  fed_by name shown (Err store_refusal.Absent) (Err x) feeds said told is none =
+      absurd (not_refused (image_under (s.file old) name) shown store_refusal.Absent is (feeds.frames told))
+  fed_by name shown (Err (store_refusal.NotAStore at)) (Err x) feeds said told is none =
+      absurd (not_refused (image_under (s.file old) name) shown (store_refusal.NotAStore at) is (feeds.frames told))
+  fed_by name shown (Err (store_refusal.Newer version)) (Err x) feeds said told is none =
+      absurd (not_refused (image_under (s.file old) name) shown (store_refusal.Newer version) is (feeds.frames told))
+  fed_by name shown (Err (store_refusal.Exists len)) (Err x) feeds said told is none =
+      absurd (not_refused (image_under (s.file old) name) shown (store_refusal.Exists len) is (feeds.frames told))
+  fed_by name shown (Err (store_refusal.Full size limit)) (Err x) feeds said told is none =
+      absurd (not_refused (image_under (s.file old) name) shown (store_refusal.Full size limit) is (feeds.frames told))
 
 -- ---- a shelf that tells what it told
 
@@ -430,6 +457,18 @@ module _ {J O E S D M : Type 0} (j : Inputs J) (o : Outputs O) (e : Outputs E) (
       import_by what (PreviewsNoted sc s m) old last r csv rules previews is is_rules told none
       (λ shelf same noted. noted_well what.store (request.Import what.name rules csv) old last shelf r same noted within told well none patterns)
 
+  -- ---- frames
+
+  feed_well : (name : List ℕ) (old last : Outside J O E S M) (r : Result (List ℕ) Refusal) (shown : Image) → FeedsFrames s g name old last r
+      → IsTrue ((s.tells old.shelf).files) → image_under (s.file old.shelf) name ≡ Some (Ok shown) → NoneFailed s old.shelf last.shelf → IsWell old last r
+  feed_well name old last r shown feeds told is none = (
+    fed_by s g old.shelf last.shelf name shown feeds.fed r feeds.feeds feeds.told told is none,
+    record {
+      output = ap (λ (x : Outside J O E S M). o.faults x.streams.output) feeds.rest;
+      error = ap (λ (x : Outside J O E S M). e.faults x.err) feeds.rest;
+    },
+  )
+
 -- ---- a run
 
 module _ {J O E S D M : Type 0} (j : Inputs J) (o : Outputs O) (e : Outputs E) (s : Shelves S D) (g : Disks D) (m : Makers M) (day : Day) (status : ℕ) (old new : Outside J O E S M) where
@@ -486,5 +525,8 @@ module _ {J O E S D M : Type 0} (j : Inputs J) (o : Outputs O) (e : Outputs E) (
       (⊎_elim (λ replaces. replace_well j o e s g m day what old runs.last runs.answer text replaces plain is told well (none_last (stored.Replace what) runs none)
       (patterns_last (stored.Replace what) runs none patterns) (input_last (stored.Replace what) runs none))
       (λ h. unread_well (stored.Replace what) runs none h) runs.answers)
-  complete_stored (stored.Feed name) runs = tt
+  complete_stored (stored.Feed name) runs = λ none told shown is.
+      done (stored.Feed name) runs none
+      (⊎_elim (λ feeds. feed_well j o e s g m day name old runs.last runs.answer shown feeds told is (none_last (stored.Feed name) runs none))
+      (λ h. unread_well (stored.Feed name) runs none h) runs.answers)
   complete_stored (stored.Follow what) runs = tt

@@ -109,13 +109,18 @@ CompletesReplace what day status old new =
     → text_in what.source old ≡ Some (Ok text)
     → AnswersWell what.store (replacement what.base text (image_under old.file what.store)) day old → IsDone status
 
+-- a store that is there feeds its frames
+abbrev pub CompletesFeed : List ℕ → ℕ → Scene → Scene → Type 0
+CompletesFeed name status old new =
+    NoneRose old new → IsTrue old.files_told → (shown : Image) → image_under old.file name ≡ Some (Ok shown) → IsDone status
+
 abbrev pub CompletesStored : StoreTask → ℕ → ℕ → Scene → Scene → Type 0
 CompletesStored (stored.Init what) day status old new = CompletesInit what status old new
 CompletesStored (stored.Add name) day status old new = CompletesAdd name day status old new
 CompletesStored (stored.Import what) day status old new = CompletesImport what day status old new
 CompletesStored (stored.Preview what) day status old new = CompletesPreview what day status old new
 CompletesStored (stored.Replace what) day status old new = CompletesReplace what day status old new
-CompletesStored (stored.Feed name) day status old new = Unit {0}
+CompletesStored (stored.Feed name) day status old new = CompletesFeed name status old new
 CompletesStored (stored.Follow what) day status old new = Unit {0}
 
 abbrev pub CompletesTask : ℕ → ℕ → Scene → Scene → Task → Type 0
