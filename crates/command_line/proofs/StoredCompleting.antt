@@ -29,6 +29,7 @@ use Rattle.store_making.specs.Making.{MakesStore}
 use Rattle.store_making.specs.Refusals.{files_refusal}
 use Rattle.store_making.specs.declared.refusal.JournalRefusal.{JournalRefusal}
 use Rattle.store_commands.specs.Asking.{EditsStore, Patterns, opened_state, state_under, told_by}
+use Rattle.store_commands.specs.Notices.{notices_of}
 use Rattle.store_commands.specs.Previews.{Previews, state_in}
 use Rattle.store_commands.specs.Replacing.{base_or, replacement}
 use Rattle.store_commands.specs.Replies.{line_of as reply_line, status_of as reply_status}
@@ -45,7 +46,7 @@ use Rattle.command_line.specs.Answers.{FindsText, IsOfFile, IsOfSource, IsStore,
 use Rattle.command_line.specs.Complete.{AnswersWell, AreWithin, CompletesStored, IsDone, NoneRose}
 use Rattle.command_line.specs.Files.{LoadsFile, ReadsShelf}
 use Rattle.command_line.specs.Frames.{FeedsFrames, ToldFrames}
-use Rattle.command_line.specs.Previewing.{LoadsAny, OrMemory, PreviewsFiles, PreviewsImport, PreviewsNoted, PreviewsStore, ToldAsked, most_stored, or_none}
+use Rattle.command_line.specs.Previewing.{LoadsAny, NotesThen, OrMemory, PreviewsFiles, PreviewsImport, PreviewsNoted, PreviewsStore, ToldAsked, most_stored, or_none}
 use Rattle.command_line.specs.Runs.{ReadsText}
 use Rattle.command_line.specs.Scenes.{OutputsStay, Scene, SourceRose, scene, soundness, text_in}
 use Rattle.command_line.specs.Sources.{file_within}
@@ -194,6 +195,12 @@ pub record SameOutputs (old last : Scene) : Type 0 where
   pub output : last.output_faults ≡ old.output_faults
   pub error : old.error_faults ≤ last.error_faults
 
+le_is : (a b : ℕ) → b ≡ a → a ≤ b
+le_is a b e = omega (arith, e)
+
+le_then : (a b c : ℕ) → a ≤ b → b ≤ c → a ≤ c
+le_then a b c ab bc = omega (arith, ab, bc)
+
 abbrev refused : Refusal → Result (List ℕ) Refusal
 refused x = Err x
 
@@ -206,7 +213,7 @@ module _ {J O E S D M : Type 0} (j : Inputs J) (o : Outputs O) (e : Outputs E) (
   IsWell old last r = GoodAnswer r × SameOutputs (scene j o e s m old) (scene j o e s m last)
 
   stay_same : (old mid : Scene) → OutputsStay old mid → SameOutputs old mid
-  stay_same old mid stay = record { output = stay.output_faults; error = omega (arith, stay.error_faults) }
+  stay_same old mid stay = record { output = stay.output_faults; error = le_is old.error_faults mid.error_faults stay.error_faults }
 
   -- a file wasn't read that is there
   file_unread : (most : ℕ) (name bytes : List ℕ) (old mid : S) (x : Refusal) → LoadsFile s most name old mid (refused x) → IsTrue ((s.tells old).files)
@@ -273,7 +280,7 @@ module _ {J O E S D M : Type 0} (j : Inputs J) (o : Outputs O) (e : Outputs E) (
             (λ rose. no_input (subst (λ x. Rose (j.faults old.streams.input) (j.faults x.input)) (sym streams) rose)),
         record {
           output = ap (λ x. o.faults x.output) streams ∙ inits.reads.outputs.output_faults;
-          error = omega (arith, ap (λ (x : E). e.faults x) errors, inits.reads.outputs.error_faults);
+          error = le_is (e.faults old.err) (e.faults last.err) (ap (λ (x : E). e.faults x) errors ∙ inits.reads.outputs.error_faults);
         },
       )
 
@@ -290,7 +297,8 @@ module _ {J O E S D M : Type 0} (j : Inputs J) (o : Outputs O) (e : Outputs E) (
             (λ rose. patterns (subst (λ (x : M). Rose (m.refusals x) (m.refusals last.maker)) maker rose)),
         record {
           output = ap (λ (x : Outside J O E S M). o.faults x.streams.output) edited.rest ∙ outputs.output;
-          error = omega (arith, ap (λ (x : Outside J O E S M). e.faults x.err) edited.rest, outputs.error);
+          error = le_then (e.faults old.err) (e.faults mid.err) (e.faults last.err) outputs.error
+              (le_is (e.faults mid.err) (e.faults last.err) (ap (λ (x : Outside J O E S M). e.faults x.err) edited.rest));
         },
       )
 
@@ -351,7 +359,7 @@ module _ {J O E S D M : Type 0} (j : Inputs J) (o : Outputs O) (e : Outputs E) (
       replaces.replaces plain is told well none patterns no_input
 
   unchanged : (old : Outside J O E S M) (mid : S) → SameOutputs (sc old) (sc (record old { shelf = mid }))
-  unchanged old mid = record { output = refl; error = omega arith }
+  unchanged old mid = record { output = refl; error = le_is (e.faults old.err) (e.faults old.err) refl }
 
   -- ---- files that are loaded first
 
@@ -402,7 +410,7 @@ module _ {J O E S D M : Type 0} (j : Inputs J) (o : Outputs O) (e : Outputs E) (
         files.previews files.told (image_there (s.file old.shelf name) (s.file old.shelf (second_name name)) well.0 well.1) well.2 well.3 patterns,
     record {
       output = ap (λ (x : Outside J O E S M). o.faults x.streams.output) files.rest;
-      error = omega (arith, ap (λ (x : Outside J O E S M). e.faults x.err) files.rest);
+      error = le_is (e.faults old.err) (e.faults last.err) (ap (λ (x : Outside J O E S M). e.faults x.err) files.rest);
     },
   )
 
@@ -440,13 +448,24 @@ module _ {J O E S D M : Type 0} (j : Inputs J) (o : Outputs O) (e : Outputs E) (
       (λ again rest. ⊎_elim (λ any. second_well name what old last previews.mid any.mid any.read r again any.reads any.goes within told well none patterns)
       (λ h. stayed old (record old { shelf = previews.mid }) last r refusal.Memory h refl (unchanged old previews.mid)) rest)
 
+  -- its notices were written, or not
+  after_notes : (name : List ℕ) (what : Request) (old last : Outside J O E S M) (shelf : S) (r : Result (List ℕ) Refusal) → SameShelf s old.shelf shelf
+      → NotesThen sc (notices_of what) (PreviewsStore s m name what day) (record old { shelf = shelf }) last r → AreWithin name (sc old) → IsTrue ((s.tells old.shelf).files)
+      → AnswersWell name what day.0 (sc old) → NoneFailed s old.shelf last.shelf → (Rose (m.refusals old.maker) (m.refusals last.maker) → ⊥) → IsWell old last r
+  after_notes name what old last shelf r same notes within told well none patterns =
+      let done = store_well name what (record old { err = notes.err }) last shelf r same notes.goes within told well none patterns in (
+        done.0,
+        record {
+          output = done.1.output;
+          error = le_then (e.faults old.err) (e.faults notes.err) (e.faults last.err) notes.notes.later done.1.error;
+        },
+      )
+
   noted_well : (name : List ℕ) (what : Request) (old last : Outside J O E S M) (shelf : S) (r : Result (List ℕ) Refusal) → SameShelf s old.shelf shelf
       → PreviewsNoted sc s m name what day (record old { shelf = shelf }) last r → AreWithin name (sc old) → IsTrue ((s.tells old.shelf).files)
       → AnswersWell name what day.0 (sc old) → NoneFailed s old.shelf last.shelf → (Rose (m.refusals old.maker) (m.refusals last.maker) → ⊥) → IsWell old last r
   noted_well name what old last shelf r same noted within told well none patterns =
-      ⊎_elim (λ notes.
-      let done = store_well name what (record old { err = notes.err }) last shelf r same notes.goes within told well none patterns in
-      (done.0, record { output = done.1.output; error = omega (arith, notes.notes.later, done.1.error) }))
+      ⊎_elim (λ notes. after_notes name what old last shelf r same notes within told well none patterns)
       (λ h. stayed old (record old { shelf = shelf }) last r refusal.Memory h refl (unchanged old shelf)) noted
 
   preview_well : (what : Importing) (old last : Outside J O E S M) (r : Result (List ℕ) Refusal) (csv rules : List ℕ) → PreviewsImport sc s m what day old last r
@@ -497,7 +516,7 @@ module _ {J O E S D M : Type 0} (j : Inputs J) (o : Outputs O) (e : Outputs E) (
     unread_well : (runs.answer ≡ Err refusal.Memory) × (runs.last ≡ old) → IsWell j o e s g m day old runs.last runs.answer
     unread_well h = (
       subst (λ (y : Result (List ℕ) Refusal). GoodAnswer y) (sym h.0) refl,
-      subst (λ (y : Outside J O E S M). SameOutputs (scene j o e s m old) (scene j o e s m y)) (sym h.1) (record { output = refl; error = omega arith }),
+      subst (λ (y : Outside J O E S M). SameOutputs (scene j o e s m old) (scene j o e s m y)) (sym h.1) (record { output = refl; error = le_is (e.faults old.err) (e.faults old.err) refl }),
     )
 
   pub complete_stored : (what : StoreTask) → RunsIt what → CompletesStored what day.0 status (scene j o e s m old) (scene j o e s m new)
