@@ -484,7 +484,7 @@ module _ {J O E S D M : Type 0} (j : Inputs J) (o : Outputs O) (e : Outputs E) (
     fed_by s g old.shelf last.shelf name shown feeds.fed r feeds.feeds feeds.told told is none,
     record {
       output = ap (λ (x : Outside J O E S M). o.faults x.streams.output) feeds.rest;
-      error = ap (λ (x : Outside J O E S M). e.faults x.err) feeds.rest;
+      error = le_is (e.faults old.err) (e.faults last.err) (ap (λ (x : Outside J O E S M). e.faults x.err) feeds.rest);
     },
   )
 
