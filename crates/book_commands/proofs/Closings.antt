@@ -31,36 +31,37 @@ use Rattle.book_commands.specs.Works.{close_by, close_made, close_outcome, close
 use Rattle.refusals.specs.declared.refusal.Refusal.{Refusal}
 use Rattle.refusals.specs.declared.refusal.Refusal.TheVariants as refusal
 use Rattle.book_commands.specs.declared.work.CloseAsked.{CloseAsked}
+use Rattle.book_commands.specs.declared.work.Entries.{Entries}
 use Rattle.book_commands.proofs.Answering.{Tells, answering, memory_found, refused_found}
 
 -- ---- the entries, or why there are none
 
-module _ (closed : Closed) where
+module _ (chosen : Entries) (closed : Closed) where
   -- they are made
   pub closing_told : (output : List ℕ) (entries : Option (Txn × Txn)) → entries ≡ made closed → first_cause closed ≡ None
-      → output ≡ pair_text (context_at_end closed.items) entries → Finds (Ok output) (Ok (closing_outcome closed))
+      → output ≡ pair_text (context_at_end closed.items) chosen entries → Finds (Ok output) (Ok (closing_outcome chosen closed))
   closing_told output entries e passes o =
       let context = context_at_end closed.items in
       ap answering
-      (ap (λ (c : Option CloseFault). close_outcome context (made closed) c) passes
-      ∙ ap (λ (m : Option (Txn × Txn)). written (pair_text context m)) (sym e)
+      (ap (λ (c : Option CloseFault). close_outcome context chosen (made closed) c) passes
+      ∙ ap (λ (m : Option (Txn × Txn)). written (pair_text context chosen m)) (sym e)
       ∙ ap (λ (x : List ℕ). written x) (sym o))
 
-  closing_said : (fault : CloseFault) → first_cause closed ≡ Some fault → closing_outcome closed ≡ refused 1 (close_line fault)
-  closing_said fault e = ap (λ (c : Option CloseFault). close_outcome (context_at_end closed.items) (made closed) c) e
+  closing_said : (fault : CloseFault) → first_cause closed ≡ Some fault → closing_outcome chosen closed ≡ refused 1 (close_line fault)
+  closing_said fault e = ap (λ (c : Option CloseFault). close_outcome (context_at_end closed.items) chosen (made closed) c) e
 
   -- they can't be made
   pub closing_refused : (fault : CloseFault) (r : Refusal) → IsFault (first_cause closed) fault → Refuses r 1 (close_line fault)
-      → (fault ≡ close_fault.Memory → r ≡ refusal.Memory) → Finds (Err r) (Ok (closing_outcome closed))
+      → (fault ≡ close_fault.Memory → r ≡ refusal.Memory) → Finds (Err r) (Ok (closing_outcome chosen closed))
   closing_refused (close_fault.Later line day) r e k memory =
-      refused_found r 1 (close_line (close_fault.Later line day)) (closing_outcome closed) (closing_said (close_fault.Later line day) e) k
+      refused_found r 1 (close_line (close_fault.Later line day)) (closing_outcome chosen closed) (closing_said (close_fault.Later line day) e) k
   closing_refused (close_fault.Renamed account) r e k memory =
-      refused_found r 1 (close_line (close_fault.Renamed account)) (closing_outcome closed) (closing_said (close_fault.Renamed account) e) k
+      refused_found r 1 (close_line (close_fault.Renamed account)) (closing_outcome chosen closed) (closing_said (close_fault.Renamed account) e) k
   closing_refused (close_fault.Bare account) r e k memory =
-      refused_found r 1 (close_line (close_fault.Bare account)) (closing_outcome closed) (closing_said (close_fault.Bare account) e) k
+      refused_found r 1 (close_line (close_fault.Bare account)) (closing_outcome chosen closed) (closing_said (close_fault.Bare account) e) k
   closing_refused (close_fault.Fine account symbol) r e k memory =
-      refused_found r 1 (close_line (close_fault.Fine account symbol)) (closing_outcome closed) (closing_said (close_fault.Fine account symbol) e) k
-  closing_refused close_fault.Memory r e k memory = memory_found r (closing_outcome closed) (memory refl)
+      refused_found r 1 (close_line (close_fault.Fine account symbol)) (closing_outcome chosen closed) (closing_said (close_fault.Fine account symbol) e) k
+  closing_refused close_fault.Memory r e k memory = memory_found r (closing_outcome chosen closed) (memory refl)
 
 -- ---- by a query
 
@@ -97,19 +98,19 @@ unfolding close_made
 close_is asked day items book read e = ap (λ (x : Result (List Term) (List ℕ)). close_by asked items book x) e
 
 pub closing_is : (asked : CloseAsked) (day : ℕ) (items : List Placed) (book : Book) (closing : Closing) → IsClosingOf asked day items book closing
-    → close_made asked day items book ≡ closing_outcome (asked_of closing)
+    → close_made asked day items book ≡ closing_outcome asked.entries (asked_of closing)
 closing_is asked day items book closing is =
     let terms = closing.query.now.terms.items in
     let same : asked_of closing ≡ closed_over asked items book terms =
     closed_is closing is.query.built is.letters
     ∙ (λ i. over (is.on_is i) (is.into_is i) (is.items_are i) (is.book_is i).txns (letters_in (is.items_are i)) terms) in
-    close_is asked day items book (Ok terms) is.query.read ∙ ap (λ (c : Closed). closing_outcome c) (sym same)
+    close_is asked day items book (Ok terms) is.query.read ∙ ap (λ (c : Closed). closing_outcome asked.entries c) (sym same)
 
-pub closing_found : (asked : CloseAsked) (day : ℕ) (items : List Placed) (book : Book) (closing : Closing) (r : Result (List ℕ) Refusal)
-    → IsClosingOf asked day items book closing → Finds r (Ok (closing_outcome (asked_of closing))) → Finds r (Ok (close_made asked day items book))
-closing_found asked day items book closing r is h =
+pub closing_found : (asked : CloseAsked) (day : ℕ) (items : List Placed) (book : Book) (closing : Closing) (chosen : Entries) (r : Result (List ℕ) Refusal)
+    → chosen ≡ asked.entries → IsClosingOf asked day items book closing → Finds r (Ok (closing_outcome chosen (asked_of closing))) → Finds r (Ok (close_made asked day items book))
+closing_found asked day items book closing chosen r same is h =
     let F : Outcome → Type 0 = λ o. Finds r (Ok o) in
-    subst F (sym (closing_is asked day items book closing is)) h
+    subst F (ap (λ (e : Entries). closing_outcome e (asked_of closing)) same ∙ sym (closing_is asked day items book closing is)) h
 
 -- ---- where no query was made
 

@@ -38,6 +38,8 @@ use Rattle.refusals.specs.Outcomes.{Judged, Outcome, refused, written}
 use Rattle.book_commands.specs.Listed.{items_made}
 use Rattle.book_commands.specs.Texts.{judged_text}
 use Rattle.book_commands.specs.declared.work.CloseAsked.{CloseAsked}
+use Rattle.book_commands.specs.declared.work.Entries.{Entries}
+use Rattle.book_commands.specs.declared.work.Entries.TheVariants as chosen
 use Rattle.book_commands.specs.declared.work.LogForm.{LogForm}
 use Rattle.book_commands.specs.declared.work.LogForm.TheVariants as forms
 use Rattle.book_commands.specs.declared.work.Work.{Work}
@@ -116,21 +118,27 @@ closed_over asked items book terms = record {
   into = asked.into;
 }
 
--- the text of the two entries, if there are any
-abbrev pub pair_text : Context → Option (Txn × Txn) → List ℕ
-pair_text context None = []
-pair_text context (Some entries) = entry_text context entries.0 ++ entry_text context entries.1
+-- the text of those of a closing and an opening entry that are asked for
+abbrev pub chosen_text : Context → Entries → Txn × Txn → List ℕ
+chosen_text context chosen.Both entries = entry_text context entries.0 ++ entry_text context entries.1
+chosen_text context chosen.Closing entries = entry_text context entries.0
+chosen_text context chosen.Opening entries = entry_text context entries.1
 
-abbrev pub close_outcome : Context → Option (Txn × Txn) → Option CloseFault → Outcome
-close_outcome context entries None = written (pair_text context entries)
-close_outcome context entries (Some fault) = refused 1 (close_line fault)
+-- if there are any
+abbrev pub pair_text : Context → Entries → Option (Txn × Txn) → List ℕ
+pair_text context asked None = []
+pair_text context asked (Some entries) = chosen_text context asked entries
+
+abbrev pub close_outcome : Context → Entries → Option (Txn × Txn) → Option CloseFault → Outcome
+close_outcome context asked entries None = written (pair_text context asked entries)
+close_outcome context asked entries (Some fault) = refused 1 (close_line fault)
 
 -- the entries of what is closed, or the first cause against them
-abbrev pub closing_outcome : Closed → Outcome
-closing_outcome closed = close_outcome (context_at_end closed.items) (made closed) (first_cause closed)
+abbrev pub closing_outcome : Entries → Closed → Outcome
+closing_outcome asked closed = close_outcome (context_at_end closed.items) asked (made closed) (first_cause closed)
 
 abbrev pub close_by : CloseAsked → List Placed → Book → Result (List Term) (List ℕ) → Outcome
-close_by asked items book (Ok terms) = closing_outcome (closed_over asked items book terms)
+close_by asked items book (Ok terms) = closing_outcome asked.entries (closed_over asked items book terms)
 close_by asked items book (Err word) = refused 1 (term_line word)
 
 unfoldable pub close_made : CloseAsked → ℕ → List Placed → Book → Outcome

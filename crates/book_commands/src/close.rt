@@ -20,7 +20,7 @@ use crate::entries::pair_text;
 use crate::fault_lines::refuse_close;
 use crate::journal::{Kept, load_kept};
 use crate::today::Today;
-use crate::work::CloseAsked;
+use crate::work::{CloseAsked, Entries};
 use book::Txn;
 use book_care::{Closing, close_entries};
 use hl_base::{Bytes, Memory, Steps};
@@ -32,31 +32,32 @@ use std::alloc::Global;
 use std::sync::ledger::Ledger;
 use std::thread::Threads;
 
-/// The entries as they are read at the end of the text.
+/// The entries that are asked for, as they are read at the end of the text.
 fn closing_text(
     alloc: Global,
     closing: &Closing,
+    chosen: Entries,
     entries: &Option<(Txn, Txn)>,
 ) -> Result<Bytes, Memory>
     ensures { IfOk result (λ text.
-        text ≡ spec.pair_text (reads.context_at_end closing.now.items.now) entries.now) }
+        text ≡ spec.pair_text (reads.context_at_end closing.now.items.now) chosen entries.now) }
 {
     let context = context_at_end(alloc, closing.items.as_slice())?;
-    pair_text(alloc, &context, entries)
+    pair_text(alloc, &context, chosen, entries)
 }
 
-/// What is answered of what is closed: the entries, or why they can't be made.
-fn answer_closing(alloc: Global, closing: &Closing) -> Result<Bytes, Refusal>
+/// What is answered of what is closed: the entries that are asked for, or why they can't be made.
+fn answer_closing(alloc: Global, closing: &Closing, chosen: Entries) -> Result<Bytes, Refusal>
     requires fits { TurnoverFits (postings_of closing.now.book.now.txns) }
     requires day { closing.now.on.0 < last_day }
     ensures found { (asked : CloseAskedOf) (day : ℕ) (items : List Placed) (book : Book)
-        → IsClosingOf asked day items book closing.now
+        → chosen ≡ asked.entries → IsClosingOf asked day items book closing.now
         → Finds result (Ok (spec.close_made asked day items book)) }
     ensures kind { IsOfReport result }
     ensures quiet { IsQuiet result }
 {
     match close_entries(alloc, closing) {
-        Ok(entries) => Ok(closing_text(alloc, closing, &entries)?),
+        Ok(entries) => Ok(closing_text(alloc, closing, chosen, &entries)?),
         Err(fault) => Err(refuse_close(alloc, &fault)),
     }
 }
@@ -85,7 +86,7 @@ fn close_by(
         on: asked.on.day(),
         into: &asked.into,
     };
-    answer_closing(alloc, &closing)
+    answer_closing(alloc, &closing, asked.entries)
 }
 
 /// What is asked to be closed of a journal, on a day: the query of its words is made first.

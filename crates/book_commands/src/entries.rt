@@ -2,6 +2,7 @@
 ghost use Rattle.std.specs.Prelude.{◌≡◌, ◌++◌, IfOk, OnOk};
 ghost use Rattle.book_commands.specs.Works as spec;
 
+use crate::work::Entries;
 use book::Txn;
 use entry_reader::Context;
 use hl_base::{Bytes, Memory};
@@ -45,16 +46,44 @@ fn two_text(alloc: Global, context: &Context, first: &Txn, second: &Txn) -> Resu
     Ok(Bytes::from_vec(out))
 }
 
-/// Two entries, if there are any.
+/// One entry.
+fn one_text(alloc: Global, context: &Context, txn: &Txn) -> Result<Bytes, Memory>
+    ensures { IfOk result (λ text. text ≡ spec.entry_text context.now txn.now) }
+{
+    let mut out = Vec::new(alloc);
+    push_entry(alloc, &mut out, context, txn)?;
+    Ok(Bytes::from_vec(out))
+}
+
+/// Those of a closing and an opening entry that are asked for.
+fn chosen_text(
+    alloc: Global,
+    context: &Context,
+    chosen: Entries,
+    closing: &Txn,
+    opening: &Txn,
+) -> Result<Bytes, Memory>
+    ensures { IfOk result (λ text.
+        text ≡ spec.chosen_text context.now chosen (closing.now, opening.now)) }
+{
+    match chosen {
+        Entries::Both => two_text(alloc, context, closing, opening),
+        Entries::Closing => one_text(alloc, context, closing),
+        Entries::Opening => one_text(alloc, context, opening),
+    }
+}
+
+/// Those of a closing and an opening entry that are asked for, if there are any.
 pub(crate) fn pair_text(
     alloc: Global,
     context: &Context,
+    chosen: Entries,
     entries: &Option<(Txn, Txn)>,
 ) -> Result<Bytes, Memory>
-    ensures { IfOk result (λ text. text ≡ spec.pair_text context.now entries.now) }
+    ensures { IfOk result (λ text. text ≡ spec.pair_text context.now chosen entries.now) }
 {
     match entries {
-        Some((first, second)) => two_text(alloc, context, first, second),
+        Some((closing, opening)) => chosen_text(alloc, context, chosen, closing, opening),
         None => Ok(Bytes::new(alloc)),
     }
 }

@@ -19,4 +19,4 @@ mod work;
 
 pub use law::report_judged;
 pub use today::Today;
-pub use work::{CloseAsked, ClosingDay, LogForm, Work, answer_text};
+pub use work::{CloseAsked, ClosingDay, Entries, LogForm, Work, answer_text};

@@ -76,9 +76,22 @@ impl ClosingDay {
     }
 }
 
-/// What is closed: the accounts that the words of a query mean, on a day, into an account.
+/// Which of the two entries of a closing are written.
+#[derive(Clone, Copy, Debug, PartialEq, Eq)]
+pub enum Entries {
+    /// The closing and the opening entry.
+    Both,
+    /// The closing entry.
+    Closing,
+    /// The opening entry.
+    Opening,
+}
+
+/// What is closed: the accounts that the words of a query mean, on a day, into an account; and the entries that are
+/// written of it.
 #[derive(Drop)]
 pub struct CloseAsked {
+    pub entries: Entries,
     pub on: ClosingDay,
     pub into: Text,
     pub words: List<Text>,
@@ -95,7 +108,7 @@ pub enum Work {
     Hours(LogForm),
     /// Checks, in this order.
     Strict(List<Check>),
-    /// The entries that close accounts and open them again.
+    /// The entries that close accounts and open them again, or one of them.
     Close(CloseAsked),
     /// What is wrong with the text, and how it is mended.
     Explain,
