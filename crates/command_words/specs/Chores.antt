@@ -105,6 +105,12 @@ abbrev pub is_import : Chore → Bool
 is_import chores.Import = true
 is_import _ = false
 
+-- it is over a file of a bank
+abbrev pub is_of_bank_files : Chore → Bool
+is_of_bank_files chores.Explain = true
+is_of_bank_files chores.Import = true
+is_of_bank_files _ = false
+
 abbrev pub is_replace : Chore → Bool
 is_replace chores.Replace = true
 is_replace _ = false
@@ -122,7 +128,7 @@ has_option chore names.On = is_close chore
 has_option chore names.Into = is_close chore
 has_option chore names.Limit = is_of_new_stores chore
 has_option chore names.Base = is_replace chore
-has_option chore names.Rules = is_import chore
+has_option chore names.Rules = is_of_bank_files chore
 has_option chore names.Remembered = is_import chore
 has_option chore names.DryRun = is_import chore
 has_option chore names.Allow = is_talk chore

@@ -1,6 +1,7 @@
 pub mod Chores
 pub mod Commands
 pub mod Connections
+pub mod ExplainWords
 pub mod HelpWords
 pub mod Limits
 pub mod Said

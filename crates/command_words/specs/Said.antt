@@ -136,7 +136,6 @@ checked word None = misplaced_item word
 -- another one is a check, a word of the query or a name
 abbrev pub plain_item : Chore → List ℕ → Result Item UsageFault
 plain_item chores.Hours word = misplaced_item word
-plain_item chores.Explain word = misplaced_item word
 plain_item chores.Talk word = misplaced_item word
 plain_item chores.Strict word = checked word (check_named word)
 plain_item _ word = Ok (items.Word word)

@@ -15,7 +15,7 @@ pub enum Chore {
     Strict,
     /// Closing entries.
     Close,
-    /// What is wrong with a text.
+    /// What is wrong with a text, or with a file of a bank.
     Explain,
     /// A store of a text.
     Init,
@@ -209,7 +209,8 @@ pub(crate) fn has_option(chore: Chore, name: Name) -> bool
         Name::On | Name::Into => matches!(chore, Chore::Close),
         Name::Limit => matches!(chore, Chore::Init | Chore::Follow),
         Name::Base => matches!(chore, Chore::Replace),
-        Name::Rules | Name::Remembered | Name::DryRun => matches!(chore, Chore::Import),
+        Name::Rules => matches!(chore, Chore::Explain | Chore::Import),
+        Name::Remembered | Name::DryRun => matches!(chore, Chore::Import),
         Name::Allow => matches!(chore, Chore::Talk),
     }
 }

@@ -324,9 +324,10 @@ pub(crate) fn plain_item(alloc: Global, chore: Chore, word: &Text) -> Result<Ite
     ensures { Gives (λ item. item) usage_cause result (spec.plain_item chore word.now) }
 {
     match chore {
-        Chore::Hours | Chore::Explain | Chore::Talk => misplaced(alloc, word),
+        Chore::Hours | Chore::Talk => misplaced(alloc, word),
         Chore::Strict => checked(alloc, word, check_named(word.as_bytes())),
         Chore::Close
+        | Chore::Explain
         | Chore::Init
         | Chore::Add
         | Chore::Import

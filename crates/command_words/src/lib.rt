@@ -3,6 +3,7 @@
 
 mod chore_tasks;
 mod chores;
+mod explain_words;
 mod help_words;
 mod items;
 mod limit;
@@ -15,7 +16,8 @@ mod words;
 
 pub use chores::Chore;
 pub use task::{
-    Following, Importing, Making, Origin, Replacing, StoreTask, Subject, Talking, Task, TextTask,
+    Explaining, Following, Importing, Making, Origin, Replacing, StoreTask, Subject, Talking, Task,
+    TextTask,
 };
 pub use usage::UsageFault;
 pub use words::{read_words, refuse_words};

@@ -22,7 +22,7 @@ fn misplaced(alloc: Global, word: &Text) -> Result<Text, UsageFault>
 }
 
 /// A name with no word behind it.
-fn name_alone(alloc: Global, name: &Text, rest: &[Text]) -> Result<Text, UsageFault>
+pub(crate) fn name_alone(alloc: Global, name: &Text, rest: &[Text]) -> Result<Text, UsageFault>
     ensures { Gives (λ name. name) usage_cause result (spec.name_alone name.now rest.now) }
 {
     match rest {
@@ -144,7 +144,11 @@ fn rules_beside(alloc: Global, file: &Text) -> Result<Text, Memory>
 }
 
 /// The name of the rules of a file.
-fn rules_or_default(alloc: Global, rules: Option<Text>, file: &Text) -> Result<Text, Memory>
+pub(crate) fn rules_or_default(
+    alloc: Global,
+    rules: Option<Text>,
+    file: &Text,
+) -> Result<Text, Memory>
     ensures { IfOk result (λ name. name ≡ spec.rules_or_default rules file.now) }
 {
     match rules {

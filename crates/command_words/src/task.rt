@@ -50,6 +50,15 @@ pub struct Importing {
     pub name: Text,
 }
 
+/// A file of a bank that is to be explained.
+#[derive(Drop)]
+pub struct Explaining {
+    /// The name of the file.
+    pub file: Text,
+    /// The name of the file of its rules.
+    pub rules: Text,
+}
+
 /// A text that is to take the place of a store's.
 #[derive(Drop)]
 pub struct Replacing {
@@ -70,7 +79,7 @@ pub struct Following {
     pub limit: u64,
 }
 
-/// What is asked of a store.
+/// What is asked of a store, or of a file of a bank.
 #[derive(Drop)]
 pub enum StoreTask {
     /// That it is made.
@@ -81,6 +90,8 @@ pub enum StoreTask {
     Import(Importing),
     /// What an import would add.
     Preview(Importing),
+    /// Why a file of a bank isn't imported.
+    Explain(Explaining),
     /// A text in the place of a store's.
     Replace(Replacing),
     /// The frames of the store of this name.
