@@ -142,6 +142,10 @@ memory_kind = six
 pub journal_kind : (e : JournalRefusal) (status : ℕ) (line : List ℕ) → status ≡ making_status e → IsOfStored (refusal.Line status line)
 journal_kind e status line is = subst (λ (n : ℕ). IsTold n) (sym is) (journal_told e)
 
+-- the status is that of a reply
+pub replied_kind : (r : Reply) (status : ℕ) (line : List ℕ) → status ≡ reply_status r → IsOfStored (refusal.Line status line)
+replied_kind r status line is = subst (λ (n : ℕ). IsTold n) (sym is) (reply_told r)
+
 line_kind : (status : ℕ) (line : List ℕ) (x : Refusal) → IsTold status → (x ≡ refusal.Memory) ⊎ ((status ≢ 0) × (x ≡ refusal.Line status line)) → IsOfStored x
 line_kind status line x k (inl e) = subst (λ (y : Refusal). IsOfStored y) (sym e) six
 line_kind status line x k (inr h) = subst (λ (y : Refusal). IsOfStored y) (sym h.1) k

@@ -544,6 +544,7 @@ module _ {J O E S D M : Type 0} (j : Inputs J) (o : Outputs O) (e : Outputs E) (
       (⊎_elim (λ replaces. replace_well j o e s g m day what old runs.last runs.answer text replaces plain is told well (none_last (stored.Replace what) runs none)
       (patterns_last (stored.Replace what) runs none patterns) (input_last (stored.Replace what) runs none))
       (λ h. unread_well (stored.Replace what) runs none h) runs.answers)
+  complete_stored (stored.Explain what) runs = tt
   complete_stored (stored.Feed name) runs = λ none told shown is.
       done (stored.Feed name) runs none
       (⊎_elim (λ feeds. feed_well j o e s g m day name old runs.last runs.answer shown feeds told is (none_last (stored.Feed name) runs none))

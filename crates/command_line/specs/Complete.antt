@@ -120,6 +120,7 @@ CompletesStored (stored.Add name) day status old new = CompletesAdd name day sta
 CompletesStored (stored.Import what) day status old new = CompletesImport what day status old new
 CompletesStored (stored.Preview what) day status old new = CompletesPreview what day status old new
 CompletesStored (stored.Replace what) day status old new = CompletesReplace what day status old new
+CompletesStored (stored.Explain what) day status old new = Unit {0}
 CompletesStored (stored.Feed name) day status old new = CompletesFeed name status old new
 CompletesStored (stored.Follow what) day status old new = Unit {0}
 

@@ -1,4 +1,5 @@
 pub mod Answers
+pub mod BankFiles
 pub mod Complete
 pub mod Files
 pub mod Frames

@@ -10,6 +10,7 @@ use Rattle.refusals.specs.declared.refusal.Refusal.TheVariants as refusal
 use Rattle.command_words.specs.declared.task.StoreTask.{StoreTask}
 use Rattle.command_words.specs.declared.task.StoreTask.TheVariants as stored
 use Rattle.command_line.specs.Answers.{Says, Wrote, WrotePrefix, line_of, status_of}
+use Rattle.command_line.specs.BankFiles.{ExplainsBankFile}
 use Rattle.command_line.specs.Frames.{FeedsFrames, FollowsFrames}
 use Rattle.command_line.specs.Previewing.{PreviewsImport}
 use Rattle.command_line.specs.Runs.{OutputFailed}
@@ -27,6 +28,7 @@ AnswersStored j sc s g m (stored.Preview what) day old new r = PreviewsImport sc
 AnswersStored j sc s g m (stored.Replace what) day old new r = ReplacesText sc s g m what day old new r
 AnswersStored j sc s g m (stored.Feed name) day old new r = FeedsFrames s g name old new r
 AnswersStored j sc s g m (stored.Follow what) day old new r = FollowsFrames j s g what old new r
+AnswersStored j sc s g m (stored.Explain what) day old new r = ExplainsBankFile s m what old new r
 
 -- The answer was written and the status is 0; or a write to the output failed; or the line of a refusal was said, and nothing
 -- was written to the output.

@@ -2,6 +2,7 @@
 #![tactic(auto)]
 
 mod answering;
+mod bank_faults;
 mod files;
 mod frames;
 mod help;

@@ -8,6 +8,7 @@ ghost use Rattle.command_line.specs.Scenes.{scene};
 ghost use Rattle.command_line.specs.StoreRuns.{AnswersStored};
 ghost use Rattle.command_line.specs.StoreTasks as spec;
 
+use crate::bank_faults::explain_bank_file;
 use crate::files::load_file;
 use crate::frames::{feed, follow};
 use crate::outside::Outside;
@@ -25,7 +26,7 @@ use store_commands::{Replacement, StoreEdit, edit_store, replace_store, reply_li
 use store_making::{JournalRefusal, init_store, journal_line, journal_status};
 
 /// The most bytes of a file that is imported, and of its rules.
-const MOST_IMPORTED: u64 = 8_388_608;
+pub(crate) const MOST_IMPORTED: u64 = 8_388_608;
 
 /// The refusal of a journal, of a store of this name.
 pub(crate) fn refuse_journal(alloc: Global, name: &Text, refusal: &JournalRefusal) -> Refusal
@@ -263,7 +264,8 @@ fn replace<J: Source, O: Sink, E: Sink, S: Shelf, M: Maker, L: Ledger>(
     }
 }
 
-/// What is answered to a command that makes a store, edits one, or is over frames, before anything is written.
+/// What is answered to a command that makes a store, edits one, explains a file of a bank, or is over frames, before anything
+/// is written.
 pub(crate) fn answer_stored<J: Source, O: Sink, E: Sink, S: Shelf, M: Maker, L: Ledger>(
     alloc: Global,
     task: StoreTask,
@@ -281,6 +283,7 @@ pub(crate) fn answer_stored<J: Source, O: Sink, E: Sink, S: Shelf, M: Maker, L: 
         StoreTask::Add(store) => add(alloc, store, day, outside, steps),
         StoreTask::Import(what) => import(alloc, what, day, outside, steps),
         StoreTask::Preview(what) => preview_import(alloc, what, day, outside, steps),
+        StoreTask::Explain(what) => explain_bank_file(alloc, &what, outside),
         StoreTask::Replace(what) => replace(alloc, &what, day, outside, steps),
         StoreTask::Feed(name) => feed(alloc, &name, outside),
         StoreTask::Follow(what) => follow(alloc, &what, outside),

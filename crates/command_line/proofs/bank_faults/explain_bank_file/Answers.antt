@@ -1,0 +1,22 @@
+use Rattle.std.proofs.Common.{ℕ, List, Ok, Err, refl, subst}
+use Rattle.command_line.specs.BankFiles.{ExplainsBytes}
+use Rattle.command_line.specs.StoreTasks.{Loads, most_imported}
+use Rattle.command_line.proofs.StoreEnds.{file_kind}
+use Rattle.command_line.proofs.bank_faults.explain_bank_file.Goals as goal
+
+pub returns-in-Ok-clause-explains : goal.returns-in-Ok-clause-explains
+returns-in-Ok-clause-explains g c =
+    let old = record (c.args.outside.now) { shelf = c.load_file.new.shelf } in
+    let F : List ℕ → Type 0 = λ t. Loads g.S.Shelf most_imported c.args.what.now.rules (ExplainsBytes g.M.Maker t) old c.explain_by.new.outside c.explain_by.result in
+    record {
+      mid = c.load_file.new.shelf;
+      read = Ok c.in-Ok.csv;
+      reads = c.in-Ok.ensures;
+      goes = subst F c.as_slice.ensures c.explain_by.ensures.explains;
+    }
+
+pub returns-in-Err-clause-explains : goal.returns-in-Err-clause-explains
+returns-in-Err-clause-explains g c = record { mid = c.load_file.new.shelf; read = Err c.in-Err.refusal; reads = c.in-Err.ensures; goes = (refl, refl) }
+
+pub returns-in-Err-clause-kind : goal.returns-in-Err-clause-kind
+returns-in-Err-clause-kind g c = file_kind c.in-Err.refusal c.in-Err.ensures.kind
