@@ -4,12 +4,13 @@ use Rattle.std.specs.Str.{bytes_eq}
 use Rattle.std.proofs.Common.{◌≡◌, ℕ, Bool, true, false, List, [], ◌∷◌, Option, Some, None, Result, Ok, Err, refl, sym, ap}
 use Rattle.std.proofs.lemmas.Bool.{false≢true}
 use Rattle.book_care.specs.declared.faults.Check.{Check}
+use Rattle.book_commands.specs.declared.work.Entries.{Entries}
 use Rattle.report_options.specs.declared.program.Given.{Given}
 use Rattle.report_commands.specs.declared.asked.Asked.{Asked}
 use Rattle.report_commands.specs.declared.fault.WordsFault.{WordsFault}
 use Rattle.plan_commands.specs.Commands.{given_of}
 use Rattle.command_words.specs.Chores.{chore_named}
-use Rattle.command_words.specs.Commands.{chore_or_report, close_task, into_or_default, report_task, strict_task, task_by, task_from, task_of, task_over, words_or_default, origin_of}
+use Rattle.command_words.specs.Commands.{chore_or_report, close_task, entries_of, into_or_default, report_task, strict_task, task_by, task_from, task_of, task_over, words_or_default, origin_of}
 use Rattle.command_words.specs.ExplainWords.{explain_of, explain_task, explain_text, is_input}
 use Rattle.command_words.specs.HelpWords.{help_on, help_task, subject_named}
 use Rattle.command_words.specs.Limits.{most_entries, number_in}
@@ -36,9 +37,9 @@ plain_strict : (origin : Origin) (checks : List Check) → IsPlainRead (strict_t
 plain_strict origin [] = tt
 plain_strict origin (check ∷ checks) = tt
 
-plain_close : (origin : Origin) (on : Option ℕ) (into : List ℕ) (words : List (List ℕ)) → IsPlainRead (close_task origin on into words)
-plain_close origin (Some on) into words = tt
-plain_close origin None into words = tt
+plain_close : (origin : Origin) (asked : Entries) (on : Option ℕ) (into : List ℕ) (words : List (List ℕ)) → IsPlainRead (close_task origin asked on into words)
+plain_close origin asked (Some on) into words = tt
+plain_close origin asked None into words = tt
 
 plain_making : (origin : Origin) (limit : Option ℕ) (name : Result (List ℕ) UsageFault) → IsPlainRead (making_of origin limit name)
 plain_making origin limit (Ok name) = tt
@@ -105,7 +106,7 @@ plain_following limit (Err fault) = tt
 plain_over : (chore : Chore) (said : Said) (origin : Origin) → (chore ≡ chores.Talk → ⊥) → IsPlainRead (task_over chore said origin)
 plain_over chores.Hours said origin h = tt
 plain_over chores.Strict said origin h = plain_strict origin said.checks
-plain_over chores.Close said origin h = plain_close origin said.on (into_or_default said.into) (words_or_default said.words)
+plain_over chores.Close said origin h = plain_close origin (entries_of said.closing said.opening) said.on (into_or_default said.into) (words_or_default said.words)
 plain_over chores.Explain said origin h = plain_explain origin said.rules said.words
 plain_over chores.Init said origin h = plain_making origin said.limit (plain_name said.words)
 plain_over chores.Add said origin h = plain_adding (plain_name said.words)

@@ -55,6 +55,8 @@ name_of word =
     else if bytes_eq word (codes "--store") then Some names.Store
     else if bytes_eq word (codes "--on") then Some names.On
     else if bytes_eq word (codes "--into") then Some names.Into
+    else if bytes_eq word (codes "--close") then Some names.Closing
+    else if bytes_eq word (codes "--open") then Some names.Opening
     else if bytes_eq word (codes "--limit") then Some names.Limit
     else if bytes_eq word (codes "--base") then Some names.Base
     else if bytes_eq word (codes "--rules") then Some names.Rules
@@ -66,6 +68,8 @@ name_of word =
 -- a value has to be written
 abbrev pub takes_value : Name → Bool
 takes_value names.Dot = false
+takes_value names.Closing = false
+takes_value names.Opening = false
 takes_value names.DryRun = false
 takes_value _ = true
 
@@ -126,6 +130,8 @@ has_option chore names.Dot = is_hours chore
 has_option chore names.Store = is_of_journals chore
 has_option chore names.On = is_close chore
 has_option chore names.Into = is_close chore
+has_option chore names.Closing = is_close chore
+has_option chore names.Opening = is_close chore
 has_option chore names.Limit = is_of_new_stores chore
 has_option chore names.Base = is_replace chore
 has_option chore names.Rules = is_of_bank_files chore

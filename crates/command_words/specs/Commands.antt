@@ -1,9 +1,11 @@
 -- What the words of the program ask for.
-use Rattle.std.specs.Prelude.{ℕ, ◌≤◌, Bool, List, [], ◌∷◌, Option, Some, None, Result, Ok, Err, if◌then◌else◌, codes}
+use Rattle.std.specs.Prelude.{ℕ, ◌≤◌, Bool, true, false, List, [], ◌∷◌, Option, Some, None, Result, Ok, Err, if◌then◌else◌, codes}
 use Rattle.std.specs.Str.{bytes_eq}
 use Rattle.book_care.specs.declared.faults.Check.{Check}
 use Rattle.refusals.specs.Errors.{usage_line, words_line}
 use Rattle.book_commands.specs.Works.{IsWorkable}
+use Rattle.book_commands.specs.declared.work.Entries.{Entries}
+use Rattle.book_commands.specs.declared.work.Entries.TheVariants as entries
 use Rattle.book_commands.specs.declared.work.LogForm.{LogForm}
 use Rattle.book_commands.specs.declared.work.LogForm.TheVariants as forms
 use Rattle.book_commands.specs.declared.work.Work.{Work}
@@ -103,15 +105,22 @@ abbrev pub words_or_default : List (List ℕ) → List (List ℕ)
 words_or_default [] = one_word (codes "type:AL")
 words_or_default (word ∷ words) = word ∷ words
 
+-- the entries of a closing that are asked for: both where neither is, or each
+abbrev pub entries_of : Bool → Bool → Entries
+entries_of true false = entries.Closing
+entries_of false true = entries.Opening
+entries_of true true = entries.Both
+entries_of false false = entries.Both
+
 -- closing entries; their day has to be given
-abbrev pub close_task : Origin → Option ℕ → List ℕ → List (List ℕ) → Result Task UsageFault
-close_task origin (Some on) into words = Ok (text_task origin (works.Close (record { on = on; into = into; words = words })))
-close_task origin None into words = missing
+abbrev pub close_task : Origin → Entries → Option ℕ → List ℕ → List (List ℕ) → Result Task UsageFault
+close_task origin asked (Some on) into words = Ok (text_task origin (works.Close (record { entries = asked; on = on; into = into; words = words })))
+close_task origin asked None into words = missing
 
 abbrev pub task_over : Chore → Said → Origin → Result Task UsageFault
 task_over chores.Hours said origin = Ok (text_task origin (works.Hours (log_form said.dot)))
 task_over chores.Strict said origin = strict_task origin said.checks
-task_over chores.Close said origin = close_task origin said.on (into_or_default said.into) (words_or_default said.words)
+task_over chores.Close said origin = close_task origin (entries_of said.closing said.opening) said.on (into_or_default said.into) (words_or_default said.words)
 task_over chores.Explain said origin = explain_task origin said.rules said.words
 task_over chores.Init said origin = init_task origin said.limit said.words
 task_over chores.Add said origin = add_task said.words

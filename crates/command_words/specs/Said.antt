@@ -94,6 +94,8 @@ store_item word name = Some (items.Store word name)
 -- what an option says with a value, by the word that names it, and without one
 abbrev pub valued : Name → List ℕ → List ℕ → Option Item
 valued names.Dot word value = None
+valued names.Closing word value = None
+valued names.Opening word value = None
 valued names.DryRun word value = None
 valued names.File word value = Some (items.File value)
 valued names.Store word value = store_item word value
@@ -107,6 +109,8 @@ valued names.Allow word value = allow_item (allow_named value)
 
 abbrev pub bare : Name → Option Item
 bare names.Dot = Some items.Dot
+bare names.Closing = Some items.Closing
+bare names.Opening = Some items.Opening
 bare names.DryRun = Some items.DryRun
 bare _ = None
 
@@ -175,7 +179,7 @@ plain_items chore those = all_said (map (plain_item chore) those)
 -- ---- all of it
 
 abbrev pub unsaid : Said
-unsaid = record { dot = false; journal = named.Unnamed; on = None; into = None; limit = None; base = None; rules = None; remembered = None; dry = false; allow = None; checks = []; words = [] }
+unsaid = record { dot = false; journal = named.Unnamed; on = None; into = None; closing = false; opening = false; limit = None; base = None; rules = None; remembered = None; dry = false; allow = None; checks = []; words = [] }
 
 -- the journal that is named where a file is named too, or a store: the first two words that exclude each other stay
 abbrev pub with_file : Named → List ℕ → Named
@@ -197,6 +201,8 @@ with_item said (items.File name) = record said { journal = with_file said.journa
 with_item said (items.Store word name) = record said { journal = with_store said.journal word name }
 with_item said (items.On day) = record said { on = Some day }
 with_item said (items.Into account) = record said { into = Some account }
+with_item said items.Closing = record said { closing = true }
+with_item said items.Opening = record said { opening = true }
 with_item said (items.Limit limit) = record said { limit = Some limit }
 with_item said (items.Base revision) = record said { base = Some revision }
 with_item said (items.Rules name) = record said { rules = Some name }

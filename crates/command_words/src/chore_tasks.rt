@@ -15,7 +15,7 @@ use crate::talk_words::{sample_task, talk_task};
 use crate::task::{Origin, Task, TextTask};
 use crate::usage::UsageFault;
 use book_care::Check;
-use book_commands::{CloseAsked, ClosingDay, LogForm, Work};
+use book_commands::{CloseAsked, ClosingDay, Entries, LogForm, Work};
 use hl_base::{List, Memory, Text};
 use report_commands::WordsFault;
 use std::alloc::Global;
@@ -124,19 +124,39 @@ fn words_or_default(alloc: Global, words: List<Text>) -> Result<List<Text>, Memo
     Ok(words)
 }
 
+/// The entries of a closing that are asked for: both where neither is, or each.
+fn entries_of(closing: bool, opening: bool) -> Entries
+    ensures { result ≡ spec.entries_of closing opening }
+{
+    match (closing, opening) {
+        (true, false) => Entries::Closing,
+        (false, true) => Entries::Opening,
+        (true, true) | (false, false) => Entries::Both,
+    }
+}
+
 /// Closing entries of a text; their day has to be given.
 fn close_task(
     origin: Origin,
+    entries: Entries,
     on: Option<ClosingDay>,
     into: Text,
     words: List<Text>,
 ) -> Result<Task, UsageFault>
     ensures answer { Gives (λ task.
-        task) usage_cause result (spec.close_task origin on into words) }
+        task) usage_cause result (spec.close_task origin entries on into words) }
     ensures valid { IfOk result spec.IsReadable }
 {
     match on {
-        Some(on) => Ok(text_task(origin, Work::Close(CloseAsked { on, into, words }))),
+        Some(on) => {
+            let asked = CloseAsked {
+                entries,
+                on,
+                into,
+                words,
+            };
+            Ok(text_task(origin, Work::Close(asked)))
+        }
         None => Err(UsageFault::Missing),
     }
 }
@@ -151,6 +171,8 @@ fn task_said(alloc: Global, chore: Chore, said: Said) -> Result<Task, UsageFault
         journal,
         on,
         into,
+        closing,
+        opening,
         limit,
         base,
         rules,
@@ -167,7 +189,7 @@ fn task_said(alloc: Global, chore: Chore, said: Said) -> Result<Task, UsageFault
         Chore::Close => {
             let into = into_or_default(alloc, into)?;
             let words = words_or_default(alloc, words)?;
-            close_task(origin, on, into, words)
+            close_task(origin, entries_of(closing, opening), on, into, words)
         }
         Chore::Explain => explain_task(alloc, origin, rules, words.as_slice()),
         Chore::Init => init_task(alloc, origin, limit, words.as_slice()),

@@ -47,6 +47,8 @@ pub(crate) enum Name {
     Store,
     On,
     Into,
+    Closing,
+    Opening,
     Limit,
     Base,
     Rules,
@@ -150,6 +152,10 @@ pub(crate) fn name_of(word: &[u8]) -> Option<Name>
         Some(Name::On)
     } else if is_same(word, b"--into") {
         Some(Name::Into)
+    } else if is_same(word, b"--close") {
+        Some(Name::Closing)
+    } else if is_same(word, b"--open") {
+        Some(Name::Opening)
     } else if is_same(word, b"--limit") {
         Some(Name::Limit)
     } else if is_same(word, b"--base") {
@@ -173,6 +179,8 @@ pub(crate) fn takes_value(name: Name) -> bool
 {
     match name {
         Name::Dot => false,
+        Name::Closing => false,
+        Name::Opening => false,
         Name::DryRun => false,
         Name::File
         | Name::Store
@@ -206,7 +214,7 @@ pub(crate) fn has_option(chore: Chore, name: Name) -> bool
             chore,
             Chore::Strict | Chore::Close | Chore::Explain | Chore::Talk
         ),
-        Name::On | Name::Into => matches!(chore, Chore::Close),
+        Name::On | Name::Into | Name::Closing | Name::Opening => matches!(chore, Chore::Close),
         Name::Limit => matches!(chore, Chore::Init | Chore::Follow),
         Name::Base => matches!(chore, Chore::Replace),
         Name::Rules => matches!(chore, Chore::Explain | Chore::Import),

@@ -34,6 +34,10 @@ pub(crate) enum Item {
     On(ClosingDay),
     /// The account that takes the balances.
     Into(Text),
+    /// The closing entry.
+    Closing,
+    /// The opening entry.
+    Opening,
     /// The most bytes of each file of a store.
     Limit(u64),
     /// The revision that a text is to follow.
@@ -230,7 +234,7 @@ fn valued(alloc: Global, name: Name, word: &Text, value: &str) -> Result<Option<
     ensures { IfOk result (λ item. item ≡ spec.valued name word.now value.now) }
 {
     match name {
-        Name::Dot | Name::DryRun => Ok(None),
+        Name::Dot | Name::Closing | Name::Opening | Name::DryRun => Ok(None),
         Name::File => Ok(Some(Item::File(Text::copied(alloc, value)?))),
         Name::Store => store_item(alloc, word, value),
         Name::On => Ok(day_item(value.as_bytes())),
@@ -249,6 +253,8 @@ fn bare(name: Name) -> Option<Item>
 {
     match name {
         Name::Dot => Some(Item::Dot),
+        Name::Closing => Some(Item::Closing),
+        Name::Opening => Some(Item::Opening),
         Name::DryRun => Some(Item::DryRun),
         Name::File
         | Name::Store
