@@ -8,7 +8,7 @@ use Rattle.command_words.specs.declared.task.Subject.{Subject}
 use Rattle.command_words.specs.declared.task.Subject.TheVariants as subjects
 
 unfoldable pub help_text : List ℕ
-help_text = codes "nibcactus: plain text accounting\n\nnibcactus COMMAND [OPTIONS] [QUERY] < JOURNAL\nnibcactus COMMAND -f FILE [OPTIONS] [QUERY]\n\nReports\n  balance, bal          each account's sums, and the total\n  register, reg         the postings by day, with a running total\n  incomestatement, is   revenues and expenses\n  balancesheet, bs      assets and liabilities at the end of each period\n  print                 the transactions by day\n  accounts              the names of the accounts\n  check                 nothing, or the journal's first fault\n\nOthers over a text\n  strict NAME ..        accounts, commodities, payees, tags, ordereddates: what isn't declared\n  close --on=DAY        the entries that close accounts and open them again\n  explain [FILE]        the first fault of the journal, or of a bank's file, and how\n                        it is mended; --rules=NAME, else FILE.rules\n  hours                 the hours of a time log, as a journal\n\nStores\n  init STORE            a store of the journal; --limit=N: bytes of each file\n  add STORE             adds the entry on standard input\n  import STORE FILE     adds a bank's file; --rules=NAME, else FILE.rules\n  export STORE          the text of a store\n  items STORE           the number, line, day and first line of each item\n  replace STORE         replaces its text with the journal; --base=N: only at that revision\n  serve STORE           over HTTP, to several people; --host, --port, --workers=N,\n                        --connections=N, --allow=LEVEL: view, add (the default) or edit;\n                        --page: with a page for browsers\n  feed STORE            its records, as frames\n  follow REPLICA        a store that keeps the frames on standard input; --limit=N\n\nOthers\n  talk                  one HTTP connection over standard input and output\n                        --allow=LEVEL: view, add (the default) or edit\n  sample N              loads a journal of N entries, and says how long it is\n  --help [COMMAND]      this text, or the help of a command\n  --version             the version\n\nThe journal\n  -f FILE               read it from a file; - is standard input, the default\n  --store=NAME          read it from a store\n\nPeriods and intervals\n  -b, --begin DAY       from that day on\n  -e, --end DAY         before that day\n  -p, --period PERIOD   both, and the interval\n  -D -W -M -Q -Y        columns of days, weeks, months, quarters, years\n\nPostings\n  -U -P -C              unmarked, pending, cleared\n  -R, --real            no virtual ones\n  --depth=N             accounts cut to N parts\n  -E, --empty           sums of zero too\n\nValues\n  -B, --cost            at cost\n  -V, --market          in the default currency, at the end of each period\n  -X, --exchange SYM    in that symbol\n  --value=WHEN[,SYM]    cost, then, end, now or a day\n\nRules\n  --auto                what automated rules add\n  --forecast[=PERIOD]   transactions of periodic rules that are to come\n  --budget              balance: amounts beside the goals of periodic rules\n\nLayout\n  -H, --cumulative, --change   where the sums begin\n  -l, --flat; -t, --tree       a list or a tree\n  -A, -T, -N, -S               average, row total, no total, by amount\n  -x, --explicit               print: all amounts\n\nBank files\n  --name=NAME           the name under which a file is remembered; else FILE\n  --dry-run             writes the entries that would be added, and stores nothing\n\nClosing entries and time logs\n  --on=DAY              the day of the closing entry\n  --into=ACCOUNT        what takes the balances; else equity:closing\n  --dot                 the log is timedot, else timeclock\n\nA query has words of account names, and terms: acct:, desc:, payee:, note:,\ncode:, date:, status:, real:, amt:, cur:, tag:, type:, depth:, not:.\n"
+help_text = codes "nibcactus: plain text accounting\n\nnibcactus COMMAND [OPTIONS] [QUERY] < JOURNAL\nnibcactus COMMAND -f FILE [OPTIONS] [QUERY]\n\nReports\n  balance, bal          each account's sums, and the total\n  register, reg         the postings by day, with a running total\n  incomestatement, is   revenues and expenses\n  balancesheet, bs      assets and liabilities at the end of each period\n  print                 the transactions by day\n  accounts              the names of the accounts\n  check                 nothing, or the journal's first fault\n\nOthers over a text\n  strict NAME ..        accounts, commodities, payees, tags, ordereddates: what isn't declared\n  close --on=DAY        the entries that close accounts and open them again\n  explain [FILE]        the first fault of the journal, or of a bank's file, and how\n                        it is mended; --rules=NAME, else FILE.rules\n  hours                 the hours of a time log, as a journal\n\nStores\n  init STORE            a store of the journal; --limit=N: bytes of each file\n  add STORE             adds the entry on standard input\n  import STORE FILE     adds a bank's file; --rules=NAME, else FILE.rules\n  export STORE          the text of a store\n  items STORE           the number, line, day and first line of each item\n  replace STORE         replaces its text with the journal; --base=N: only at that revision\n  serve STORE           over HTTP, to several people; --host, --port, --workers=N,\n                        --connections=N, --allow=LEVEL: view, add (the default) or edit;\n                        --page: with a page for browsers\n  feed STORE            its records, as frames\n  follow REPLICA        a store that keeps the frames on standard input; --limit=N\n\nOthers\n  talk                  one HTTP connection over standard input and output\n                        --allow=LEVEL: view, add (the default) or edit\n  sample N              loads a journal of N entries, and says how long it is\n  --help [COMMAND]      this text, or the help of a command\n  --version             the version\n\nThe journal\n  -f FILE               read it from a file; - is standard input, the default\n  --store=NAME          read it from a store\n\nPeriods and intervals\n  -b, --begin DAY       from that day on\n  -e, --end DAY         before that day\n  -p, --period PERIOD   both, and the interval\n  -D -W -M -Q -Y        columns of days, weeks, months, quarters, years\n\nPostings\n  -U -P -C              unmarked, pending, cleared\n  -R, --real            no virtual ones\n  --depth=N             accounts cut to N parts\n  -E, --empty           sums of zero too\n\nValues\n  -B, --cost            at cost\n  -V, --market          in the default currency, at the end of each period\n  -X, --exchange SYM    in that symbol\n  --value=WHEN[,SYM]    cost, then, end, now or a day\n\nRules\n  --auto                what automated rules add\n  --forecast[=PERIOD]   transactions of periodic rules that are to come\n  --budget              balance: amounts beside the goals of periodic rules\n\nLayout\n  -H, --cumulative, --change   where the sums begin\n  -l, --flat; -t, --tree       a list or a tree\n  -A, -T, -N, -S               average, row total, no total, by amount\n  -x, --explicit               print: all amounts\n\nBank files\n  --name=NAME           the name under which a file is remembered; else FILE\n  --dry-run             writes the entries that would be added, and stores nothing\n\nClosing entries and time logs\n  --on=DAY              the day of the closing entry\n  --into=ACCOUNT        what takes the balances; else equity:closing\n  --close               close: the closing entry only\n  --open                close: the opening entry only\n  --dot                 the log is timedot, else timeclock\n\nA query has words of account names, and terms: acct:, desc:, payee:, note:,\ncode:, date:, status:, real:, amt:, cur:, tag:, type:, depth:, not:.\n"
 
 unfoldable pub version_text : List ℕ
 version_text = codes "nibcactus 0.2.0\n"
@@ -43,7 +43,7 @@ unfoldable pub strict_help : List ℕ
 strict_help = codes "nibcactus strict: checks of a journal that loads\n\nnibcactus strict CHECK .. [OPTIONS] < JOURNAL\n\nChecks\n  accounts              each account of a posting is declared\n  commodities           each symbol is declared\n  payees                each payee is declared\n  tags                  each tag but date is declared\n  ordereddates          no entry is before the one above it\n\nThe journal\n  -f FILE               read it from a file; - is standard input, the default\n  --store=NAME          read it from a store\n"
 
 unfoldable pub close_help : List ℕ
-close_help = codes "nibcactus close: the entries that close accounts and open them again\n\nnibcactus close --on=DAY [OPTIONS] [QUERY] < JOURNAL\n\nThe entries\n  --on=DAY              the day of the closing entry\n  --into=ACCOUNT        what takes the balances; else equity:closing\n  QUERY                 the accounts that are closed; else type:AL\n\nThe journal\n  -f FILE               read it from a file; - is standard input, the default\n  --store=NAME          read it from a store\n\nA query has words of account names, and terms: acct:, desc:, payee:, note:,\ncode:, date:, status:, real:, amt:, cur:, tag:, type:, depth:, not:.\n"
+close_help = codes "nibcactus close: the entries that close accounts and open them again\n\nnibcactus close --on=DAY [OPTIONS] [QUERY] < JOURNAL\n\nThe entries\n  --on=DAY              the day of the closing entry\n  --into=ACCOUNT        what takes the balances; else equity:closing\n  --close               the closing entry only\n  --open                the opening entry only\n  QUERY                 the accounts that are closed; else type:AL\n\nThe journal\n  -f FILE               read it from a file; - is standard input, the default\n  --store=NAME          read it from a store\n\nA query has words of account names, and terms: acct:, desc:, payee:, note:,\ncode:, date:, status:, real:, amt:, cur:, tag:, type:, depth:, not:.\n"
 
 unfoldable pub explain_help : List ℕ
 explain_help = codes "nibcactus explain: the first fault of a journal or of a bank's file, and how it is mended\n\nnibcactus explain [OPTIONS] < JOURNAL\nnibcactus explain FILE [--rules=NAME]\n\nThe journal\n  -f FILE               read it from a file; - is standard input, the default\n  --store=NAME          read it from a store\n\nA bank's file\n  FILE                  why import refuses it, or the line of its rules\n  --rules=NAME          the file of its rules; else FILE.rules\n"
