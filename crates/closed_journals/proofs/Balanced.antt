@@ -1,5 +1,5 @@
 -- What accounts hold behind the entries as they are read.
-use Rattle.std.proofs.Common.{ℕ, ℤ, suc, ◌≡◌, ◌+◌, ◌+ℤ◌, true, false, cond, List, [], ◌∷◌, ◌++◌, refl, sym, ap, ◌∙◌, arith, append-nil}
+use Rattle.std.proofs.Common.{ℕ, ℤ, pos, suc, ◌≡◌, ◌+◌, ◌+ℤ◌, true, false, cond, List, [], ◌∷◌, ◌++◌, refl, sym, ap, ◌∙◌, arith, append-nil}
 use Rattle.std.specs.Str.{bytes_eq}
 use Rattle.std.proofs.lemmas.Int.{ints}
 use Rattle.std.proofs.lemmas.List.Concat.{flat_map-append}
@@ -14,7 +14,7 @@ use Rattle.book_care.specs.Entries.{Writing, entry_on}
 use Rattle.book_care.specs.Lines.{Moved}
 use Rattle.book_care.proofs.Summing.{lines_at, moved_in, posted_at}
 use Rattle.book_care.proofs.Totals.{picked, zero_left}
-use Rattle.closed_journals.specs.Added.{Shaped, entry_at, posting_in, postings_from}
+use Rattle.closed_journals.specs.Added.{Carries, Shaped, entry_at, posting_in, postings_from}
 
 sum_of-append : (s : List ℕ) (xs ys : List Posting) → sum_of s (xs ++ ys) ≡ sum_of s xs +ℤ sum_of s ys
 sum_of-append s [] ys = sym (zero_left (sum_of s ys))
@@ -86,3 +86,17 @@ module _ (asked : Asked) (shape : Shaped) (styles : Writing) (first second : ℕ
       ∙ ap (λ z. balance a s asked.txns +ℤ z) (both a s)
       ∙ sym (balance_with a s asked.txns (closing_written ∷ opening_written ∷ []))
       ∙ close.restored a s
+
+-- ---- the opening entry alone
+
+carry : (b x y : ℤ) → b +ℤ x ≡ pos 0 → b +ℤ (x +ℤ y) ≡ b → y ≡ b
+carry b x y empty kept = omega (arith, ints, empty, kept)
+
+pub carried : (asked : Asked) (first second : Txn) → Close asked (first, second) → Carries asked second
+carried asked first second close = λ a s named.
+    let before = balance a s asked.txns in
+    carry before (held a s first.postings) (balance a s (second ∷ []))
+    (ap (λ (ps : List Posting). before +ℤ held a s ps) (sym (append-nil first.postings))
+    ∙ sym (balance_with a s asked.txns (first ∷ [])) ∙ close.emptied a s named)
+    (ap (λ (z : ℤ). before +ℤ z) (sym (held_append a s first.postings (second.postings ++ [])))
+    ∙ sym (balance_with a s asked.txns (first ∷ second ∷ [])) ∙ close.restored a s)

@@ -31,6 +31,8 @@ use Rattle.book_commands.specs.FaultLines.{close_line}
 use Rattle.book_commands.specs.Texts.{Making, judged_text, made_loaded, made_read}
 use Rattle.book_commands.specs.Works.{close_by, close_made, close_outcome, closed_over, entry_text, judge, pair_text}
 use Rattle.book_commands.specs.declared.work.CloseAsked.{CloseAsked}
+use Rattle.book_commands.specs.declared.work.Entries.{Entries}
+use Rattle.book_commands.specs.declared.work.Entries.TheVariants as chosen
 use Rattle.book_commands.specs.declared.work.Work.TheVariants as works
 use Rattle.entry_reader.specs.Causes.{◌>>=◌}
 use Rattle.entry_reader.specs.Contexts.{Context, context_of, decided_mark}
@@ -44,8 +46,8 @@ use Rattle.query_terms.specs.declared.kinds.Term.{Term}
 use Rattle.refusals.specs.Errors.{limit_line, term_line}
 use Rattle.refusals.specs.Outcomes.{Judged, Outcome, refused, written}
 use Rattle.written_logs.proofs.Lines.{joined}
-use Rattle.closed_journals.specs.Added.{Added, Closes, Fails, IsClosed, IsEnded, IsJoined, IsLong, IsRefused, Joined, entry_at}
-use Rattle.closed_journals.proofs.Balanced.{emptied, restored}
+use Rattle.closed_journals.specs.Added.{Added, Closes, Fails, IsClosed, IsEnded, IsJoined, IsLong, IsOpened, IsRefused, Joined, Opened, entry_at}
+use Rattle.closed_journals.proofs.Balanced.{carried, emptied, restored}
 use Rattle.closed_journals.proofs.Blocks.{ends_with_line, open_block_is, some_bytes}
 use Rattle.closed_journals.proofs.Cuts.{Begins, EndsLine, gap, open_in}
 use Rattle.closed_journals.proofs.Digits.{IsDecided}
@@ -78,7 +80,7 @@ whole_ended (b ∷ bs) = by (end_of b (bs ++ gap))
     by (does_end e h) = e
     by (does_lack e h) = absurd (clash (b ∷ bs) h)
 
-pair_ended : (context : Context) (entries : Option (Txn × Txn)) → line_end (pair_text context entries) ≡ []
+pair_ended : (context : Context) (entries : Option (Txn × Txn)) → line_end (pair_text context chosen.Both entries) ≡ []
 pair_ended context None = refl
 pair_ended context (Some entries) =
     let first = entry_text context entries.0 in
@@ -87,7 +89,7 @@ pair_ended context (Some entries) =
 
 module _ (year : Option ℕ) (text output : List ℕ) (closed : Closed) (book : Book) (read : items_in year text ≡ Ok closed.items) (loaded : load closed.items ≡ Ok book) (txns : closed.txns ≡ book.txns)
     (within : IsDay closed.on) (early : closed.on < last_day) (passes : first_cause closed ≡ None) (into : is_utf8 closed.into ≡ true)
-    (out_is : output ≡ pair_text (context_at_end closed.items) (made closed)) where
+    (out_is : output ≡ pair_text (context_at_end closed.items) chosen.Both (made closed)) where
   abbrev styles : Writing
   styles = style_of closed.items
 
@@ -163,7 +165,7 @@ module _ (year : Option ℕ) (text output : List ℕ) (closed : Closed) (book : 
     out_all : output ≡ first ++ (gap ++ (second ++ gap))
     out_all =
         out_is
-        ∙ ap (λ (l : List Moved). pair_text at_end (entries_with styles closed.on l)) e
+        ∙ ap (λ (l : List Moved). pair_text at_end chosen.Both (entries_with styles closed.on l)) e
         ∙ (λ i. first_text i ++ second_text i)
         ∙ append_assoc first gap (second ++ gap)
 
@@ -223,7 +225,7 @@ module _ (year : Option ℕ) (text output : List ℕ) (closed : Closed) (book : 
 
   none_added : closing_lines closed ≡ [] → (output ≡ []) × AreEmpty closed closed.txns
   none_added e = (
-    out_is ∙ ap (λ (l : List Moved). pair_text at_end (entries_with styles closed.on l)) e,
+    out_is ∙ ap (λ (l : List Moved). pair_text at_end chosen.Both (entries_with styles closed.on l)) e,
     subst (λ (l : List Moved). Settles closed (entries_with styles closed.on l)) e settled,
   )
 
@@ -311,34 +313,39 @@ judged_is make year text outcome h =
     (by_count (nat_lt item_limit (length (items_of text))) (refused 7 (limit_line (length (items_of text)) item_limit)) (made_read make (items_in year text)) outcome h)
 
 -- why there was no refusal
-record IsOutput (closed : Closed) (output : List ℕ) : Type 0 where
+record IsOutput (asked : Entries) (closed : Closed) (output : List ℕ) : Type 0 where
   passes : first_cause closed ≡ None
-  is : output ≡ pair_text (context_at_end closed.items) (made closed)
+  is : output ≡ pair_text (context_at_end closed.items) asked (made closed)
 
 no_status : (line output : List ℕ) → refused 1 line ≡ written output → ⊥
 no_status line output h = let never : 1 ≡ 0 = ap (λ (o : Outcome). o.status) h in omega (arith, never)
 
-by_cause : (closed : Closed) (output : List ℕ) (cause : Option CloseFault) → first_cause closed ≡ cause → close_outcome (context_at_end closed.items) (made closed) cause ≡ written output → IsOutput closed output
-by_cause closed output None e h = record { passes = e; is = sym (ap (λ (o : Outcome). o.output) h) }
-by_cause closed output (Some fault) e h = absurd (no_status (close_line fault) output h)
+by_cause : (asked : Entries) (closed : Closed) (output : List ℕ) (cause : Option CloseFault) → first_cause closed ≡ cause → close_outcome (context_at_end closed.items) asked (made closed) cause ≡ written output → IsOutput asked closed output
+by_cause asked closed output None e h = record { passes = e; is = sym (ap (λ (o : Outcome). o.output) h) }
+by_cause asked closed output (Some fault) e h = absurd (no_status (close_line fault) output h)
 
 record IsTermed (asked : CloseAsked) (day : ℕ) (items : List Placed) (book : Book) (output : List ℕ) : Type 0 where
   terms : List Term
   query : terms_of day asked.words ≡ Ok terms
-  is : IsOutput (closed_over asked items book terms) output
+  is : IsOutput asked.entries (closed_over asked items book terms) output
 
 by_terms : (asked : CloseAsked) (day : ℕ) (items : List Placed) (book : Book) (output : List ℕ) (r : Result (List Term) (List ℕ)) → terms_of day asked.words ≡ r → close_by asked items book r ≡ written output → IsTermed asked day items book output
 by_terms asked day items book output (Ok terms) e h =
     let closed = closed_over asked items book terms in
-    record { terms = terms; query = e; is = by_cause closed output (first_cause closed) refl h }
+    record { terms = terms; query = e; is = by_cause asked.entries closed output (first_cause closed) refl h }
 by_terms asked day items book output (Err word) e h = absurd (no_status (term_line word) output h)
 
 made_terms : (asked : CloseAsked) (day : ℕ) (items : List Placed) (book : Book) (output : List ℕ) → close_made asked day items book ≡ written output → IsTermed asked day items book output
 unfolding close_made
 made_terms asked day items book output h = by_terms asked day items book output (terms_of day asked.words) refl h
 
-pub is_closed : (day : ℕ) (year : Option ℕ) (asked : CloseAsked) (text output : List ℕ) → IsDay asked.on → asked.on < last_day → is_utf8 asked.into ≡ true → IsEnded text → judge day year (works.Close asked) text ≡ Ok (written output) → IsClosed day year asked text output
-is_closed day year asked text output within early into ended h =
+-- what is written where the entries that are asked for are these
+both_out : (closed : Closed) (output : List ℕ) (asked : Entries) → asked ≡ chosen.Both
+    → output ≡ pair_text (context_at_end closed.items) asked (made closed) → output ≡ pair_text (context_at_end closed.items) chosen.Both (made closed)
+both_out closed output asked is h = h ∙ ap (λ (e : Entries). pair_text (context_at_end closed.items) e (made closed)) is
+
+pub is_closed : (day : ℕ) (year : Option ℕ) (asked : CloseAsked) (text output : List ℕ) → asked.entries ≡ chosen.Both → IsDay asked.on → asked.on < last_day → is_utf8 asked.into ≡ true → IsEnded text → judge day year (works.Close asked) text ≡ Ok (written output) → IsClosed day year asked text output
+is_closed day year asked text output both within early into ended h =
     let m = judged_is (close_made asked day) year text (written output) h in
     let t = made_terms asked day m.items m.book output m.is in
     let closed = closed_over asked m.items m.book t.terms in
@@ -349,11 +356,11 @@ is_closed day year asked text output within early into ended h =
       loaded = m.loaded;
       terms = t.terms;
       query = t.query;
-      added = is_added year text output closed m.book m.read m.loaded refl within early (t.is).passes into (t.is).is ended;
+      added = is_added year text output closed m.book m.read m.loaded refl within early (t.is).passes into (both_out closed output asked.entries both (t.is).is) ended;
     }
 
-pub is_joined_text : (day : ℕ) (year : Option ℕ) (asked : CloseAsked) (text output : List ℕ) → IsDay asked.on → asked.on < last_day → is_utf8 asked.into ≡ true → judge day year (works.Close asked) text ≡ Ok (written output) → IsJoined day year asked text output
-is_joined_text day year asked text output within early into h =
+pub is_joined_text : (day : ℕ) (year : Option ℕ) (asked : CloseAsked) (text output : List ℕ) → asked.entries ≡ chosen.Both → IsDay asked.on → asked.on < last_day → is_utf8 asked.into ≡ true → judge day year (works.Close asked) text ≡ Ok (written output) → IsJoined day year asked text output
+is_joined_text day year asked text output both within early into h =
     let m = judged_is (close_made asked day) year text (written output) h in
     let t = made_terms asked day m.items m.book output m.is in
     let closed = closed_over asked m.items m.book t.terms in
@@ -364,5 +371,28 @@ is_joined_text day year asked text output within early into h =
       loaded = m.loaded;
       terms = t.terms;
       query = t.query;
-      joined = is_joined year text output closed m.book m.read m.loaded refl within early (t.is).passes into (t.is).is (front_of year text m.items m.read);
+      joined = is_joined year text output closed m.book m.read m.loaded refl within early (t.is).passes into (both_out closed output asked.entries both (t.is).is) (front_of year text m.items m.read);
+    }
+
+-- ---- the opening entry alone
+
+opened : (closed : Closed) (output : List ℕ) (asked : Entries) → asked ≡ chosen.Opening → (entries : Option (Txn × Txn))
+    → output ≡ pair_text (context_at_end closed.items) asked entries → Settles closed entries → Opened closed output entries
+opened closed output asked is None h empty = (h, empty)
+opened closed output asked is (Some entries) h close =
+    (h ∙ ap (λ (e : Entries). pair_text (context_at_end closed.items) e (Some entries)) is, carried closed entries.0 entries.1 close)
+
+pub is_opened : (day : ℕ) (year : Option ℕ) (asked : CloseAsked) (text output : List ℕ) → asked.entries ≡ chosen.Opening → judge day year (works.Close asked) text ≡ Ok (written output) → IsOpened day year asked text output
+is_opened day year asked text output alone h =
+    let m = judged_is (close_made asked day) year text (written output) h in
+    let t = made_terms asked day m.items m.book output m.is in
+    let closed = closed_over asked m.items m.book t.terms in
+    record {
+      items = m.items;
+      read = m.read;
+      book = m.book;
+      loaded = m.loaded;
+      terms = t.terms;
+      query = t.query;
+      opened = opened closed output asked.entries alone (made closed) (t.is).is (settles closed (made closed) refl);
     }

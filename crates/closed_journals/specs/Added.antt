@@ -15,8 +15,8 @@ use Rattle.book.specs.declared.transaction.Side.TheVariants.{Real}
 use Rattle.book.specs.declared.transaction.Txn.{Txn}
 use Rattle.book.specs.Postings.{plain_posting}
 use Rattle.balancing.specs.Load.{load}
-use Rattle.book_care.specs.Asked.{Asked as Closed}
-use Rattle.book_care.specs.Balances.{AreEmpty, IsKept}
+use Rattle.book_care.specs.Asked.{Asked as Closed, is_named}
+use Rattle.book_care.specs.Balances.{AreEmpty, IsKept, balance}
 use Rattle.book_care.specs.Entries.{made}
 use Rattle.book_care.specs.Lines.{Moved, closing_lines, opening_lines}
 use Rattle.book_care.specs.Reads.{context_at_end}
@@ -142,3 +142,24 @@ pub record IsJoined (day : ℕ) (year : Option ℕ) (asked : CloseAsked) (text o
   pub terms : List Term
   pub query : terms_of day asked.words ≡ Ok terms
   pub joined : Joined (closed_over asked items book terms) year text output (made (closed_over asked items book terms))
+
+-- ---- the opening entry alone
+
+-- In a journal of this transaction alone each named account has the balance that it has in the text.
+abbrev pub Carries : Closed → Txn → Type 0
+Carries closed txn = (account symbol : List ℕ) → is_named closed account ≡ true → balance account symbol (txn ∷ []) ≡ balance account symbol closed.txns
+
+-- what is written is the opening entry, and it carries the balances; or there is none, and the named accounts are empty
+abbrev pub Opened : Closed → List ℕ → Option (Txn × Txn) → Type 0
+Opened closed output None = (output ≡ []) × AreEmpty closed closed.txns
+Opened closed output (Some entries) = (output ≡ entry_text (context_at_end closed.items) entries.1) × Carries closed entries.1
+
+-- What a text was read and loaded to where its accounts are opened again.
+pub record IsOpened (day : ℕ) (year : Option ℕ) (asked : CloseAsked) (text output : List ℕ) : Type 0 where
+  pub items : List Placed
+  pub read : items_in year text ≡ Ok items
+  pub book : Book
+  pub loaded : load items ≡ Ok book
+  pub terms : List Term
+  pub query : terms_of day asked.words ≡ Ok terms
+  pub opened : Opened (closed_over asked items book terms) output (made (closed_over asked items book terms))

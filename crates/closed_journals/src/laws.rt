@@ -5,16 +5,18 @@ ghost use Rattle.hl_time.specs.Calendar.{IsDay, last_day};
 ghost use Rattle.refusals.specs.Outcomes.{written};
 ghost use Rattle.book_commands.specs.Works.{judge};
 ghost use Rattle.book_commands.specs.declared.work.CloseAsked.{CloseAsked};
+ghost use Rattle.book_commands.specs.declared.work.Entries.TheVariants as entries;
 ghost use Rattle.book_commands.specs.declared.work.Work.TheVariants as works;
-ghost use Rattle.closed_journals.specs.Added.{IsClosed, IsEnded, IsJoined};
+ghost use Rattle.closed_journals.specs.Added.{IsClosed, IsEnded, IsJoined, IsOpened};
 
-/// Where `close` writes something for a text that is empty or ends with a line's end, outside a comment block, that text
+/// Where `close` writes both entries for a text that is empty or ends with a line's end, outside a comment block, that text
 /// with it behind it loads to the book of the text and the two entries behind it. Behind the first each closed account is
 /// empty, and behind both every account has what it had. Or the whole is refused, since an entry is out of range or over
 /// 65,536 bytes. The day is one of the calendar, and not its last.
 pub fn closing_loads()
     ensures { (day : ℕ) (year : Option ℕ) (asked : CloseAsked) (text output : List ℕ)
-        → IsDay asked.on → asked.on < last_day → is_utf8 asked.into ≡ true → IsEnded text
+        → asked.entries ≡ entries.Both → IsDay asked.on → asked.on < last_day
+        → is_utf8 asked.into ≡ true → IsEnded text
         → judge day year (works.Close asked) text ≡ Ok (written output)
         → IsClosed day year asked text output }
 {}
@@ -24,7 +26,17 @@ pub fn closing_loads()
 /// item has 65,536 bytes and no line's end, and is too long with one.
 pub fn closing_joins()
     ensures { (day : ℕ) (year : Option ℕ) (asked : CloseAsked) (text output : List ℕ)
-        → IsDay asked.on → asked.on < last_day → is_utf8 asked.into ≡ true
+        → asked.entries ≡ entries.Both → IsDay asked.on → asked.on < last_day
+        → is_utf8 asked.into ≡ true
         → judge day year (works.Close asked) text ≡ Ok (written output)
         → IsJoined day year asked text output }
+{}
+
+/// Where `close --open` writes something, it is the opening entry, as `print` lays it out; and in a journal of this entry
+/// alone each closed account has the balance that it has in the text. Where it writes nothing, these accounts are empty.
+pub fn opening_carries()
+    ensures { (day : ℕ) (year : Option ℕ) (asked : CloseAsked) (text output : List ℕ)
+        → asked.entries ≡ entries.Opening
+        → judge day year (works.Close asked) text ≡ Ok (written output)
+        → IsOpened day year asked text output }
 {}

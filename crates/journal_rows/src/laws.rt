@@ -1,5 +1,5 @@
 //! The laws of what is written and read again, called once.
-use closed_journals::{closing_joins, closing_loads};
+use closed_journals::{closing_joins, closing_loads, opening_carries};
 use printed_entries::{entry_reads, printed_reads, styles_show};
 use sample_journals::{samples_load, samples_tell};
 use written_logs::{
@@ -10,6 +10,7 @@ use written_logs::{
 fn the_laws_hold() {
     closing_loads();
     closing_joins();
+    opening_carries();
     samples_load();
     samples_tell();
     printed_reads();
