@@ -1,5 +1,5 @@
 -- A store's records after its calls.
-use Rattle.std.proofs.Common.{◌≡◌, ◌∙◌, ℕ, ◌+◌, ◌^◌, ◌≤◌, List, [], ◌∷◌, ◌++◌, length, Option, Some, Result, Ok, Err, OnOk, IfOk, refl, sym, ap, subst, arith, append_assoc}
+use Rattle.std.proofs.Common.{◌≡◌, ◌∙◌, ℕ, ◌+◌, ◌^◌, ◌≤◌, List, [], ◌∷◌, ◌++◌, length, Option, Some, Result, Ok, Err, OnErr, OnOk, IfOk, refl, sym, ap, subst, arith, append_assoc}
 use Rattle.std.proofs.lemmas.Nat.{from_le_bytes-to_le_bytes_8}
 use Rattle.hl_base.specs.declared.disk.Disk.{Ghosts}
 use Rattle.text_store.specs.declared.change.Change.{Change}
@@ -121,7 +121,7 @@ module _ {D : Type 0} {g : Ghosts D} (store : Store D g) (records : Records) (ha
   entries_are : open_entries 32 has.file ≡ has.held.entries
   entries_are = ap (λ (f : List ℕ). open_entries 32 f) file_is ∙ shut_behind 32 front has.held.entries has.held.settled.is_half.records 0 [] (omega arith)
 
-  frames_here : AreFramesOf records (framed (base_of front) has.held.entries)
+  pub frames_here : AreFramesOf records (framed (base_of front) has.held.entries)
   frames_here = subst (λ (fs : List Frame). AreFramesOf records fs) (λ i. framed (base_is i) (entries_are i)) has.are
 
   -- what is fed
@@ -161,8 +161,7 @@ module _ {D : Type 0} {g : Ghosts D} (store : Store D g) (records : Records) (ha
     }
 
 -- written anew
-module _ {D : Type 0} {g : Ghosts D} (new : Store D g) (limit generation : ℕ) (shown : Image) (within : shown.revision ≤ 2 ^ 62)
-    (writable : IsWritable shown) (can : IsWhole shown) (held : Holds new shown) where
+module _ (limit generation : ℕ) (shown : Image) (within : shown.revision ≤ 2 ^ 62) (writable : IsWritable shown) (can : IsWhole shown) where
   abbrev head : List ℕ
   head = header limit generation shown.revision
 
@@ -189,23 +188,47 @@ module _ {D : Type 0} {g : Ghosts D} (new : Store D g) (limit generation : ℕ) 
   entries_written =
       shut_behind 32 (new_front limit generation shown) (only ∷ []) (half_grows 67 (whole_payload shown) can.fits head [] head_is).records 0 [] (omega arith)
 
-  pub anew_has : g.seen new.live.device ≡ Some fresh → HasRecords new (anew shown)
-  anew_has seen = record {
+  frames_anew : AreFramesOf (anew shown) (framed shown.revision (only ∷ []))
+  frames_anew = record {
+    first = one_frame shown.revision 67 (whole_payload shown);
+    others = [];
+    whole = refl;
+    is_first = record {
+      snapshot = record { kind = refl; payload = refl; writable = writable; states = can.states };
+      revision = refl;
+      fits = can.fits;
+    };
+    are_records = refl;
+  }
+
+  base_front : base_of (new_front limit generation shown) ≡ shown.revision
+  base_front =
+      base_kept head (1 ∷ body 67 (whole_payload shown)) (let e : length head ≡ 32 = refl in omega (arith, e))
+      ∙ base_head
+
+  pub anew_frames : AreFramesOf (anew shown) (framed (base_of (new_front limit generation shown)) (only ∷ []))
+  anew_frames = subst (λ (n : ℕ). AreFramesOf (anew shown) (framed n (only ∷ []))) (sym base_front) frames_anew
+
+  pub anew_has : {D : Type 0} {g : Ghosts D} (new : Store D g) → Holds new shown → g.seen new.live.device ≡ Some fresh → HasRecords new (anew shown)
+  anew_has new held seen = record {
     held = held;
     file = fresh;
     seen = seen;
-    are = subst (λ (fs : List Frame). AreFramesOf (anew shown) fs) (λ i. framed (sym base_written i) (sym entries_written i)) (record {
-      first = one_frame shown.revision 67 (whole_payload shown);
-      others = [];
-      whole = refl;
-      is_first = record {
-        snapshot = record { kind = refl; payload = refl; writable = writable; states = can.states };
-        revision = refl;
-        fits = can.fits;
-      };
-      are_records = refl;
-    });
+    are = subst (λ (fs : List Frame). AreFramesOf (anew shown) fs) (λ i. framed (sym base_written i) (sym entries_written i)) frames_anew;
   }
+
+-- a store at rest with these frames
+pub settled_has : {D : Type 0} {g : Ghosts D} (store : Store D g) (records : Records) (front : List ℕ) (entries : List Entry) → IsHalf front entries
+    → AreFramesOf records (framed (base_of front) entries) → Holds store records.shown → g.seen store.live.device ≡ Some (front ++ 0 ∷ []) → HasRecords store records
+settled_has store records front entries half frames held seen =
+    let base : base_of (front ++ 0 ∷ []) ≡ base_of front = base_kept front (0 ∷ []) half.records.behind in
+    let are : open_entries 32 (front ++ 0 ∷ []) ≡ entries = shut_behind 32 front entries half.records 0 [] (omega arith) in
+    record {
+      held = held;
+      file = front ++ 0 ∷ [];
+      seen = seen;
+      are = subst (λ (fs : List Frame). AreFramesOf records fs) (λ i. framed (sym base i) (sym are i)) frames;
+    }
 
 -- ---- answers
 
@@ -216,3 +239,11 @@ both_ok (Err e) a b f = tt
 pub if_ok : {X E : Type 0} {P Q : X → Type 0} (r : Result X E) → IfOk r P → ((x : X) → P x → Q x) → IfOk r Q
 if_ok (Ok x) p f = f x p
 if_ok (Err e) p f = tt
+
+pub both_err : {X E A B C : Type 0} (r : Result X E) → OnErr r A → OnErr r B → (A → B → C) → OnErr r C
+both_err (Ok x) a b f = tt
+both_err (Err e) a b f = f a b
+
+pub if_ok_two : {X E : Type 0} {P Q R : X → Type 0} (r : Result X E) → IfOk r P → IfOk r Q → ((x : X) → P x → Q x → R x) → IfOk r R
+if_ok_two (Ok x) p q f = f x p q
+if_ok_two (Err e) p q f = tt

@@ -1,3 +1,4 @@
 pub mod Fed
 pub mod Kept
 pub mod Left
+pub mod Opened
