@@ -2,8 +2,6 @@
 // adds nothing up, and reads numbers for charts alone.
 "use strict";
 
-// -- Elements
-
 const $ = (id) => document.getElementById(id);
 
 // An element: h("p.soft#id", { attributes and listeners }, ...inside).
@@ -47,14 +45,12 @@ async function each(list, act, step = 100) {
 	}
 }
 
-// -- Requests
-
 // A refused request: its error line and its status, 0 where no reply came.
 const refusal = (status, line) => Object.assign(new Error(line), { status });
-const server = { revision: null, checks: true, isLost: false };
+const server = { revision: null, isLost: false };
 let queue = Promise.resolve();
 
-// One request at a time: a connection holds one worker of the server.
+// One request at a time, so that no reply is older than the one before it.
 function ask(path, words = [], form) {
 	const reply = queue.then(() => send(path, words, form));
 	queue = reply.catch(() => {});
@@ -92,13 +88,11 @@ function refresh() {
 	shown.changed?.();
 }
 
-// Asks for the revision every five seconds while the page is seen, and every forty once nobody touched it for two minutes:
-// the server ends a connection that is silent for thirty, so an idle page lets go of its worker.
-let asked = 0, touched = Date.now(), timer = 0;
+// Asks for the revision every five seconds while the page is seen.
+let asked = 0, timer = 0;
 function plan() {
-	const pause = Date.now() - touched > 120000 ? 40000 : 5000;
 	clearTimeout(timer);
-	if (!document.hidden) timer = setTimeout(poll, Math.max(0, asked + pause - Date.now()));
+	if (!document.hidden) timer = setTimeout(poll, Math.max(0, asked + 5000 - Date.now()));
 }
 async function poll() {
 	asked = Date.now();
@@ -106,14 +100,6 @@ async function poll() {
 	plan();
 }
 on(document, "visibilitychange", plan);
-for (const kind of ["pointerdown", "keydown", "wheel"]) {
-	on(window, kind, () => {
-		touched = Date.now();
-		plan();
-	});
-}
-
-// -- Error lines as sentences
 
 const CAUSES = {
 	form: "can't be read as part of an entry or a directive",
@@ -170,8 +156,6 @@ function refused(fault, place) {
 	return notice(".bad", h("p", sentence(fault.message, place)), fault.status > 0 && h("code", fault.message));
 }
 const say = (...parts) => put($("said"), parts);
-
-// -- Reading reports
 
 const SYMBOL = '(?:"[^"\\n]*"|[^\\x00-\\x23\\x26-\\x40\\x5b-\\x5e\\x60\\x7b-\\x7f]+)';
 const AMOUNT = `(?:${SYMBOL} ?)?-?\\d+(?:[.,]\\d+)*(?: ?${SYMBOL})?`;
@@ -285,8 +269,6 @@ const parted = (account) => account.split(/(?<=:)/).map((part) => [part, h("wbr"
 const isMinus = (amount) => /-\d/.test(amount.replace(/"[^"]*"/g, ""));
 const money = (amounts) => [amounts].flat().map((amount, _, all) => all.length === 1 && /^[^-]*[1-9]/.test(amount) ? amount : h("span" + (isMinus(amount) ? ".minus" : amount === "0" ? ".soft" : ""), amount));
 
-// -- The journal's text
-
 const BLOCK = /^comment[ \t\r]*\n?$/, BLOCK_END = /^end comment[ \t\r]*\n?$/, GAP = /^[ \t\r]*(?:[;#*]|\n?$)/, INNER = /^[ \t\r]+[^ \t\r\n]/;
 
 // The items of a text, as the server numbers them from 1.
@@ -390,10 +372,7 @@ function placesAdded({ text, items }) {
 }
 const placesChanged = (from, index, text) => places(from, from.items[index].line, linesOf(text), linesOf(text) - linesOf(itemText(from, index)));
 
-// -- Words and days
-
 const wordsOf = (text) => ((text || "").match(/(?:"[^"]*"|'[^']*'|[^\s"'])+/g) || []).map((word) => word.replace(/"([^"]*)"|'([^']*)'/g, "$1$2"));
-const exactly = (account) => "acct:^" + literal(account) + "(:|$)";
 const two = (number, wide = 2) => String(number).padStart(wide, "0");
 const iso = (date) => `${two(date.getFullYear(), 4)}-${two(date.getMonth() + 1)}-${two(date.getDate())}`;
 function addMonths(month, count) {
@@ -416,8 +395,6 @@ function wordsOfDays(value, { last }) {
 	if (/^to/.test(value)) return ["-e", two(+value.slice(2) + 1, 4) + "-01-01"];
 	return value === "12" ? ["-b", addMonths(last, -11) + "-01", "-e", addMonths(last, 1) + "-01"] : [];
 }
-
-// -- Routes and views
 
 // The view that is shown; one with a revision is shown again when the journal changes.
 let shown = {}, isLoading = false, turn = 0, isKept = false;
@@ -495,12 +472,10 @@ function growing(place, rows, make, count) {
 		watch.unobserve(more);
 		if (!more.hidden) watch.observe(more);
 	};
-	const more = button(".plain", "", () => grow());
+	const more = button(".plain", "", grow);
 	grow();
 	return more;
 }
-// -- Balances
-
 const folded = new Set();
 
 async function balanceView(words, view) {
@@ -536,10 +511,8 @@ async function balanceView(words, view) {
 	view.revision = reply.revision;
 	view.parts = [view.bar, rows.length ? [h("div.folds", all("open", "Open all", false), all("close", "Close all", true)),
 		h("table.tree", h("thead", h("tr", h("th", "Account"), h("th.sum", isChange ? "Change" : "Balance"))), h("tbody", lines.map(({ line }) => line)),
-			h("tfoot", h("tr", h("th", "Total"), h("td.sum", money(total)))))] : h("p.soft", "No account has a balance here.")];
+			h("tfoot", h("tr", h("th", "Total"), h("td.sum", money(total)))))] : h("p.soft", "No account has a balance here. ", h("a", { href: "#/add" }, "Add an entry"), " or ", h("a", { href: "#/import" }, "import a bank's file"), ".")];
 }
-
-// -- Charts
 
 function chart(numbers, label, draw, caption) {
 	const low = Math.min(0, ...numbers), high = Math.max(0, ...numbers), place = h("div");
@@ -553,8 +526,6 @@ function chart(numbers, label, draw, caption) {
 	}).observe(place);
 	return h("figure", place, h("figcaption", caption));
 }
-
-const charts = (symbols, draw) => symbols.slice(0, 3).map(draw);
 
 // The running balance, a step for each day with postings.
 function balanceChart(rows, symbol, account) {
@@ -582,13 +553,11 @@ function barChart({ sections, net }, heads, symbol) {
 	}, [h("span.key", sections[0].name), h("span.key.second", sections[1].name), h("span.key.third", "Net"), symbol]);
 }
 
-// -- Register
-
 async function registerView(words, view) {
 	const account = words.get("account") || "", days = words.get("days") || "", { years } = await span();
 	view.title = account;
 	view.bar = tools("register", words, h("input", { type: "hidden", name: "account", value: account }), labelled("Days", select("days", days, [["", "All days"], ...years.map((year) => [year, year])])));
-	const reply = await ask("/register", ["-H", ...wordsOfDays(days, {}), exactly(account), ...wordsOf(words.get("q"))]);
+	const reply = await ask("/register", ["-H", ...wordsOfDays(days, {}), `acct:^${literal(account)}(:|$)`, ...wordsOf(words.get("q"))]);
 	const rows = await readRegister(reply.text), body = h("tbody"), symbols = await symbolsOf(rows.map((row) => row.totals)), plain = plainly(symbols);
 	await nameRows(rows, account.toLowerCase(), await journal());
 	view.revision = reply.revision;
@@ -598,7 +567,7 @@ async function registerView(words, view) {
 	const more = growing(body, rows.slice().reverse(), (row) => h("tr", h("td", row.day),
 		h("td", row.entry ? h("a", { href: editAddress(row.entry) }, row.title || "(no description)") : row.title, row.account !== account && h("div.comment", parted(row.account))),
 		h("td.sum", plain(row.amount)), h("td.sum", plain(row.totals))), 100);
-	view.parts = [view.bar, charts(symbols, (symbol) => balanceChart(rows, symbol, account)),
+	view.parts = [view.bar, symbols.slice(0, 3).map((symbol) => balanceChart(rows, symbol, account)),
 		h("table.register", h("thead", h("tr", h("th", "Day"), h("th", "Description"), h("th.sum", "Amount"), h("th.sum", "Balance"))), body), more];
 }
 
@@ -624,20 +593,22 @@ async function nameRows(rows, account, { entries }) {
 	});
 }
 
-// -- Statements
-
 async function statementView(words, view, name) {
 	const isIncome = name === "income", known = await span(), { first, last, years } = known;
-	const all = ["all", "All days"], isLong = addMonths(first, 11) < last;
 	view.title = isIncome ? "Income statement" : "Balance sheet";
-	const days = select("days", words.get("days") || "", [...(isLong ? [["12", "Last 12 months"], all] : [all]), ...years.map((year) => [year, year])]);
+	const days = select("days", words.get("days") || "", [addMonths(first, 11) < last ? ["12", "Last 12 months"] : [], ["all", "All days"], ...years.map((year) => [year, year])].filter((one) => one[0]));
 	const by = select("by", words.get("by"), [["-M", "Months"], ["-Q", "Quarters"], ["-Y", "Years"]]);
 	view.bar = tools(name, words, labelled("Days", days), labelled("Columns", by));
 	const reply = await ask(isIncome ? "/incomestatement" : "/balancesheet",
 		[by.value, ...(isIncome ? ["-T", "-A"] : []), ...wordsOfDays(days.value, known), ...wordsOf(words.get("q"))]);
 	const statement = readStatement(reply.text), { heads, sections, net, dates } = statement;
 	const lists = [...sections.flatMap((section) => section.totals), ...net], symbols = await symbolsOf(lists), plain = plainly(symbols);
-	const cells = (row) => heads.map((_, at) => h("td.sum", plain(row ? row[at] || "0" : [])));
+	const widths = heads.map((head) => head.length);
+	const cells = (row) => heads.map((_, at) => {
+		const cell = h("td.sum", plain(row ? row[at] || "0" : []));
+		for (const { textContent } of cell.childNodes) widths[at] = Math.max(widths[at], textContent.length);
+		return cell;
+	});
 	const totals = (label, row) => h("tr.totals", h("th", label), cells(row));
 	const body = [];
 	for (const section of sections) {
@@ -645,15 +616,23 @@ async function statementView(words, view, name) {
 		await each(section.rows, ({ name, cells: own }) => rows.push(h("tr", h("th", h("a", { href: address("register", { account: name, days: /^\d{4}$/.test(days.value) && days.value }), id: "a:" + name }, parted(name))), cells(own))), 10);
 		body.push(h("tbody", h("tr.section", h("th", section.name), cells()), rows, totals("Total " + section.name.toLowerCase(), section.totals)));
 	}
-	const scroll = h("div.scroll", { tabindex: 0, role: "region", "aria-label": view.title },
-		h("table.months", h("thead", h("tr", h("th", "Account"), heads.map((head) => h("th.sum", head)))), body, h("tfoot", totals("Net", net))));
+	const table = h("table.months", h("thead", h("tr", h("th", "Account"), heads.map((head) => h("th.sum", head)))), body, h("tfoot", totals("Net", net)));
+	const scroll = h("div.scroll", { tabindex: 0, role: "region", "aria-label": view.title }, table);
+	table.style.setProperty("--columns", widths.map((width) => `${width / 2 + 0.6}rem`).join(" "));
 	view.revision = reply.revision;
 	view.aside = dates && `${dates[1]} to ${dates[2]}`;
-	view.parts = [view.bar, charts(symbols, (symbol) => barChart(statement, isIncome ? heads.slice(0, -2) : heads, symbol)), scroll];
-	requestAnimationFrame(() => (scroll.scrollLeft = scroll.scrollWidth));
+	view.parts = [view.bar, symbols.slice(0, 3).map((symbol) => barChart(statement, isIncome ? heads.slice(0, -2) : heads, symbol)), scroll];
+	// Beside the accounts stand whole columns, the last ones first.
+	new ResizeObserver(() => {
+		let room = scroll.clientWidth;
+		for (const { offsetWidth } of [...table.rows[0].cells].reverse()) {
+			if (room - offsetWidth < 110) break;
+			room -= offsetWidth;
+		}
+		table.style.setProperty("--accounts", Math.min(room, 240) + "px");
+		scroll.scrollLeft = scroll.scrollWidth;
+	}).observe(view.bar);
 }
-
-// -- Journal
 
 const editAddress = ({ revision, number }) => `#/edit?at=${revision}.${number}`;
 const commentOf = ({ comment }) => comment && h("div.comment", comment.trim());
@@ -661,7 +640,7 @@ const commentOf = ({ comment }) => comment && h("div.comment", comment.trim());
 function entryRow(entry) {
 	return h("article.entry", h("time", entry.day),
 		h("h2", entry.sign && h("span.soft", entry.sign + " "), entry.title || "(no description)", entry.code && h("span.soft", ` (${entry.code})`), commentOf(entry)),
-		h("div.legs", entry.legs.map((leg) => h("div.leg", h("a", { href: address("register", { account: bare(leg.account) }) }, parted(leg.account)), h("span.sum" + (isMinus(leg.amount.replace(/ [@=].*/, "")) ? ".minus" : ""), leg.amount), commentOf(leg)))),
+		h("div.legs", entry.legs.map((leg) => h("div.leg", h("a", { href: address("register", { account: bare(leg.account) }) }, parted(leg.account)), h("span.sum" + (isMinus(leg.amount.replace(/ [@=].*/, "")) ? ".minus" : ""), leg.amount.replace(/(\d)[.,](?!\d)/g, "$1")), commentOf(leg)))),
 		h("a.act", { href: editAddress(entry), "aria-label": `Edit ${entry.day} ${entry.title}` }, "Edit"));
 }
 
@@ -686,8 +665,6 @@ async function journalView(words, view) {
 	view.aside = sought.length ? `${entries.length} of ${from.entries.length} entries` : "Entries: " + entries.length;
 	view.parts = [view.bar, list, !entries.length && h("p.soft", "No entry fits."), more];
 }
-
-// -- Completion
 
 // A text field with a list of what fits below it: the arrows choose, Enter or Tab takes, Escape closes.
 function completing(input, find, taken) {
@@ -745,8 +722,6 @@ function accountFits(name, typed) {
 	return low.startsWith(typed) ? 3 : inOrder.test(low) ? 2 : +low.includes(typed);
 }
 
-// -- Adding
-
 // The form lives as long as the page.
 let adder = null;
 async function addView(words, view) {
@@ -778,14 +753,11 @@ function makeAdder() {
 		put(result);
 		clearTimeout(timer);
 		const isWhole = isText || (title.value.trim() && rows[1][0].value.trim() && rows.some(([, amount]) => amount.value.trim()));
-		if (server.checks && isWhole) timer = setTimeout(check, 700);
+		if (isWhole) timer = setTimeout(check, 700);
 	};
 	const check = () => {
 		const entry = text.value, tell = (part) => entry === text.value && put(result, part);
-		ask("/check", [], { entry }).then(() => tell(h("p.soft", "The server accepts this entry.")), (fault) => {
-			if (isAway(fault)) server.checks = false;
-			else tell(refused(fault, placesAdded(adder.from)));
-		});
+		ask("/check", [], { entry }).then(() => tell(h("p.soft", "The server accepts this entry.")), (fault) => tell(refused(fault, placesAdded(adder.from))));
 	};
 	const addRow = (name, hint) => {
 		const at = rows.length, account = h("input", { id: "account" + at, value: name, "aria-label": "Account " + (at + 1) });
@@ -834,13 +806,12 @@ function makeAdder() {
 		title.focus();
 	};
 	const form = h("form.form", { autocomplete: "off", onsubmit: sending(submit, result, send) }, fields, labelled("As it will be written; you can change it here", text), result,
-		h("div.row", submit, back, button(".plain", "Clear", () => clear())));
+		h("div.row", submit, back, button(".plain", "Clear", clear)));
 	clear();
 	return { form, title };
 }
 
 // A listener that sends something once at a time, and shows below the form what was refused.
-const isAway = (fault) => fault.status === 404 || fault.status === 405;
 function sending(button, result, act, failed) {
 	return async (event) => {
 		event.preventDefault();
@@ -855,8 +826,6 @@ function sending(button, result, act, failed) {
 		button.disabled = false;
 	};
 }
-
-// -- Changing and deleting
 
 // An opened entry keeps its form, and the journal that was seen.
 const editors = new Map();
@@ -911,8 +880,6 @@ function makeEditor(key, base, index) {
 	return { parts: form, focus: text, changed };
 }
 
-// -- Importing
-
 let importer = null;
 async function importView(words, view) {
 	importer ||= makeImporter();
@@ -951,22 +918,16 @@ function makeImporter() {
 		const missing = !bytes ? "Choose the bank's file first." : !name.value.trim() ? "Give the file a name." : !rules.value.trim() && "Give the rules.";
 		if (missing) return tell(notice(".bad", missing));
 		const before = (await journal()).items.length, reply = await ask(path, [], { name: name.value.trim(), rules: rules.value, csv });
-		if (/^unchanged|^\s*$/.test(reply.text)) return tell(notice("", "Nothing in this file is new."));
-		if (path === "/preview") return tell(notice("", "This would be added:", h("pre", reply.text.trimEnd())));
+		if (/^unchanged/.test(reply.text)) return tell(notice("", "Nothing in this file is new."));
+		if (path === "/preview") return tell(notice("", h("p", "This would be added:"), h("pre", reply.text.trimEnd())));
 		const added = (await journal()).entries.filter((entry) => entry.number > before);
 		tell(notice(".good", `New entries: ${added.length}. The journal is at revision ${reply.revision}.`), ...added.slice(0, 200).map(entryRow));
 	};
-	const preview = button("#try", "Preview", (event) => previews(event)), previews = sending(preview, result, () => asks("/preview"), (fault) => {
-		if (!isAway(fault)) return false;
-		preview.hidden = true;
-		return !tell(notice("", "This server shows no preview. An import lists the new entries here."));
-	});
+	const preview = button("#try", "Preview", (event) => previews(event)), previews = sending(preview, result, () => asks("/preview"));
 	return h("div", h("p.soft", "Rules say how a record becomes an entry. The next file of the same name adds only what is new."),
 		h("form.form", { autocomplete: "off", onsubmit: sending(send, result, () => asks("/import")) }, h("div.tools", labelled("Bank's file", file, ".wide"), labelled("Encoding", encoding), labelled("Name", name, ".wide")), look,
 			labelled("Rules, one a line", rules), h("div.tools", labelled("Or take the rules from a file", rulesFile, ".wide")), h("div.row", send, preview)), result);
 }
-
-// -- The start
 
 const VIEWS = { balance: balanceView, register: registerView, journal: journalView, add: addView, edit: editView, import: importView };
 for (const name of ["income", "sheet"]) VIEWS[name] = (words, view) => statementView(words, view, name);
