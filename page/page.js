@@ -540,8 +540,7 @@ function balanceChart(rows, symbol, account) {
 }
 
 function barChart({ sections, net }, heads, symbol) {
-	const size = heads.length, lists = [...sections.map((section) => section.totals), net];
-	const values = numbersOf(lists.flatMap((list) => heads.map((_, at) => list[at])), symbol);
+	const size = heads.length, values = numbersOf([...sections.map(({ totals }) => totals), net].flatMap((list) => heads.map((_, at) => list[at])), symbol);
 	return chart(values, `${sections[0].name}, ${sections[1].name} and net by columns; the table has the figures`, (width, bottom, y) => {
 		const step = width / size, bar = Math.min(26, step * 0.34), middle = (at) => ((at + 0.5) * step).toFixed(1), every = Math.ceil(size / Math.floor(width / 74));
 		const bars = (row) => heads.map((_, at) => {
@@ -602,7 +601,7 @@ async function statementView(words, view, name) {
 	const reply = await ask(isIncome ? "/incomestatement" : "/balancesheet",
 		[by.value, ...(isIncome ? ["-T", "-A"] : []), ...wordsOfDays(days.value, known), ...wordsOf(words.get("q"))]);
 	const statement = readStatement(reply.text), { heads, sections, net, dates } = statement;
-	const lists = [...sections.flatMap((section) => section.totals), ...net], symbols = await symbolsOf(lists), plain = plainly(symbols);
+	const symbols = await symbolsOf([...sections.flatMap((section) => section.totals), ...net]), plain = plainly(symbols);
 	const widths = heads.map((head) => head.length);
 	const cells = (row) => heads.map((_, at) => {
 		const cell = h("td.sum", plain(row ? row[at] || "0" : []));
@@ -618,18 +617,20 @@ async function statementView(words, view, name) {
 	}
 	const table = h("table.months", h("thead", h("tr", h("th", "Account"), heads.map((head) => h("th.sum", head)))), body, h("tfoot", totals("Net", net)));
 	const scroll = h("div.scroll", { tabindex: 0, role: "region", "aria-label": view.title }, table);
-	table.style.setProperty("--columns", widths.map((width) => `${width / 2 + 0.6}rem`).join(" "));
 	view.revision = reply.revision;
 	view.aside = dates && `${dates[1]} to ${dates[2]}`;
 	view.parts = [view.bar, symbols.slice(0, 3).map((symbol) => barChart(statement, isIncome ? heads.slice(0, -2) : heads, symbol)), scroll];
 	// Beside the accounts stand whole columns, the last ones first.
+	const root = getComputedStyle(document.documentElement), sizes = widths.map((width) => width / 2 + 0.6);
+	const fit = () => {
+		let room = $("main").firstChild.clientWidth / parseFloat(root.fontSize), at = sizes.length;
+		while (at && room - sizes[at - 1] > 7) room -= sizes[--at];
+		table.style.setProperty("--accounts", (at ? room + 0.1 : Math.min(room, 15)) + "rem");
+	};
+	table.style.setProperty("--columns", sizes.join("rem ") + "rem");
+	fit();
 	new ResizeObserver(() => {
-		let room = scroll.clientWidth;
-		for (const { offsetWidth } of [...table.rows[0].cells].reverse()) {
-			if (room - offsetWidth < 110) break;
-			room -= offsetWidth;
-		}
-		table.style.setProperty("--accounts", Math.min(room, 240) + "px");
+		fit();
 		scroll.scrollLeft = scroll.scrollWidth;
 	}).observe(view.bar);
 }
@@ -651,7 +652,7 @@ async function journalView(words, view) {
 	let from = await journal(), entries = from.entries;
 	if (sought.length) {
 		// What the server prints of these is a part of what it prints of all, in the same order.
-		const reply = await ask("/journal", ["-x", ...sought]), blocks = reply.text.split("\n\n");
+		const blocks = (await ask("/journal", ["-x", ...sought])).text.split("\n\n");
 		from = await journal();
 		entries = [];
 		let at = 0;
@@ -896,7 +897,7 @@ function makeImporter() {
 	const decode = () => {
 		if (!bytes) return;
 		csv = new TextDecoder(encoding.value).decode(bytes);
-		look.textContent = csv.slice(0, 3000).split(/\r\n?|\n/).slice(0, 5).join("\n");
+		look.textContent = csv.slice(0, 3000).split(/\r\n?|\n/, 5).join("\n");
 		look.hidden = false;
 	};
 	on(file, "change", async () => {
@@ -913,9 +914,11 @@ function makeImporter() {
 		}
 	});
 	on(encoding, "change", decode);
+	// A file chosen again is read again.
+	for (const one of [file, rulesFile]) on(one, "click", () => (one.value = ""));
 	on(rulesFile, "change", async () => rulesFile.files[0] && (rules.value = await rulesFile.files[0].text()));
 	const asks = async (path) => {
-		const missing = !bytes ? "Choose the bank's file first." : !name.value.trim() ? "Give the file a name." : !rules.value.trim() && "Give the rules.";
+		const missing = !file.value ? "Choose the bank's file first." : !name.value.trim() ? "Give the file a name." : !rules.value.trim() && "Give the rules.";
 		if (missing) return tell(notice(".bad", missing));
 		const before = (await journal()).items.length, reply = await ask(path, [], { name: name.value.trim(), rules: rules.value, csv });
 		if (/^unchanged/.test(reply.text)) return tell(notice("", "Nothing in this file is new."));
