@@ -264,7 +264,6 @@ const amountOf = (amounts, symbol) => (amounts || []).find((amount) => parts(amo
 function plainly([symbol, other]) {
 	return (amounts) => money([amounts].flat().map((amount) => (symbol && other === undefined ? amount.replace(symbol, "").trim() : amount)));
 }
-// An account may break after a colon.
 const parted = (account) => account.split(/(?<=:)/).map((part) => [part, h("wbr")]);
 const isMinus = (amount) => /-\d/.test(amount.replace(/"[^"]*"/g, ""));
 const money = (amounts) => [amounts].flat().map((amount, _, all) => all.length === 1 && /^[^-]*[1-9]/.test(amount) ? amount : h("span" + (isMinus(amount) ? ".minus" : amount === "0" ? ".soft" : ""), amount));
@@ -527,7 +526,7 @@ function chart(numbers, label, draw, caption) {
 	return h("figure", place, h("figcaption", caption));
 }
 
-// The running balance, a step for each day with postings.
+// A step for each day with postings.
 function balanceChart(rows, symbol, account) {
 	const ends = rows.filter((row, index) => rows[index + 1]?.day !== row.day), times = ends.map((row) => Date.parse(row.day));
 	const values = numbersOf(ends.map((row) => row.totals), symbol), first = times[0], all = times.at(-1) - first || 1;
@@ -615,7 +614,7 @@ async function statementView(words, view, name) {
 		await each(section.rows, ({ name, cells: own }) => rows.push(h("tr", h("th", h("a", { href: address("register", { account: name, days: /^\d{4}$/.test(days.value) && days.value }), id: "a:" + name }, parted(name))), cells(own))), 10);
 		body.push(h("tbody", h("tr.section", h("th", section.name), cells()), rows, totals("Total " + section.name.toLowerCase(), section.totals)));
 	}
-	const table = h("table.months", h("thead", h("tr", h("th", "Account"), heads.map((head) => h("th.sum", head)))), body, h("tfoot", totals("Net", net)));
+	const table = h("table.months" + (shown.name === name ? "" : ".new"), h("thead", h("tr", h("th", "Account"), heads.map((head) => h("th.sum", head)))), body, h("tfoot", totals("Net", net)));
 	const scroll = h("div.scroll", { tabindex: 0, role: "region", "aria-label": view.title }, table);
 	view.revision = reply.revision;
 	view.aside = dates && `${dates[1]} to ${dates[2]}`;
@@ -632,6 +631,7 @@ async function statementView(words, view, name) {
 	new ResizeObserver(() => {
 		fit();
 		scroll.scrollLeft = scroll.scrollWidth;
+		setTimeout(() => (table.className = "months"));
 	}).observe(view.bar);
 }
 
@@ -723,7 +723,6 @@ function accountFits(name, typed) {
 	return low.startsWith(typed) ? 3 : inOrder.test(low) ? 2 : +low.includes(typed);
 }
 
-// The form lives as long as the page.
 let adder = null;
 async function addView(words, view) {
 	const from = await journal(), payees = new Map(), accounts = new Map();
@@ -812,7 +811,7 @@ function makeAdder() {
 	return { form, title };
 }
 
-// A listener that sends something once at a time, and shows below the form what was refused.
+// A listener that sends once at a time, and shows what was refused.
 function sending(button, result, act, failed) {
 	return async (event) => {
 		event.preventDefault();
@@ -890,7 +889,7 @@ async function importView(words, view) {
 function makeImporter() {
 	let bytes = null, csv = "";
 	const file = h("input#file", { type: "file" }), rulesFile = h("input#rules-file", { type: "file" }), name = h("input#name");
-	const encoding = select("encoding", "utf-8", ["utf-8", "windows-1252", "iso-8859-2", "shift_jis", "utf-16le"].map((one) => [one, one.toUpperCase()]));
+	const encoding = select("encoding", "utf-8", ["utf-8", "windows-1252", "iso-8859-2", "shift_jis", "utf-16le"].map((one) => [one, one]));
 	const rules = h("textarea.text#rules", { rows: 9, placeholder: "fields date, description, amount\ncurrency EUR\naccount1 assets:bank" });
 	const look = h("pre.text", { tabindex: 0, "aria-label": "The first lines of the file", hidden: true }), result = live();
 	const send = button(".strong#send", "Import"), tell = (...parts) => put(result, ...parts);
