@@ -111,7 +111,7 @@ stored_memory day status old error faults (stored.Import what) h = λ none patte
 stored_memory day status old error faults (stored.Preview what) h = λ none patterns told csv rules is is_rules within well. memory_done status old error faults h none
 stored_memory day status old error faults (stored.Replace what) h = λ none patterns plain told text is well. memory_done status old error faults h none
 stored_memory day status old error faults (stored.Explain what) h = tt
-stored_memory day status old error faults (stored.Feed name) h = tt
+stored_memory day status old error faults (stored.Feed name) h = λ none told shown is. memory_done status old error faults h none
 stored_memory day status old error faults (stored.Follow what) h = tt
 
 memory_complete : (day status : ℕ) (old : Scene) (error : Option (List ℕ)) (faults : ℕ) (what : Result Task UsageFault) → SaysMemory status old error faults
