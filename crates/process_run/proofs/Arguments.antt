@@ -3,7 +3,7 @@ use Rattle.std.proofs.Common.{◌≡◌, ◌∙◌, ℕ, List, [], ◌∷◌, �
 use Rattle.std.proofs.lemmas.List.{map-append}
 
 -- one word more
-pub text_more : (texts more : List (List ℕ)) (words : List String) (word : String) (text : List ℕ) → more ≡ texts ++ text ∷ []
+pub text_more : {Z : Type 0} (texts more : List (List ℕ)) (words : List (String Z)) (word : String Z) (text : List ℕ) → more ≡ texts ++ text ∷ []
     → texts ≡ map string_bytes words → text ≡ string_bytes word → more ≡ map string_bytes (words ++ word ∷ [])
 text_more texts more words word text pushed so_far is =
     pushed
