@@ -20,8 +20,8 @@ _nibcactus() {
         accounts) options='--auto -U --unmarked -P --pending -C --cleared -R --real -b --begin= -e --end= -p --period= --depth= --forecast -f --store=' plain='' ;;
         check) options='-f --store=' plain='' ;;
         strict) options='-f --store=' plain='accounts commodities payees tags ordereddates' ;;
-        close) options='-f --store= --on= --into=' plain='' ;;
-        explain) options='-f --store=' plain='' ;;
+        close) options='-f --store= --on= --into= --close --open' plain='' ;;
+        explain) options='-f --store= --rules=' plain='' ;;
         hours) options='--dot -f' plain='' ;;
         init) options='-f --limit=' plain='' ;;
         add) options='' plain='' ;;
