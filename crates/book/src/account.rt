@@ -27,7 +27,7 @@ pub fn compare_accounts(a: &Text, b: &Text) -> Ordering
 }
 
 /// How two different bytes of names compare: a colon stands below all others.
-fn byte_order(a: u8, b: u8) -> Ordering
+pub fn byte_order(a: u8, b: u8) -> Ordering
     ensures { result ≡ byte_order a b }
 {
     if a == b':' {

@@ -3,14 +3,13 @@ ghost use Rattle.std.specs.Prelude.{◌≡◌};
 ghost use Rattle.std.specs.List.{find, flat_map};
 ghost use Rattle.std.specs.Option.{option_copied, option_map, option_to_list};
 ghost use Rattle.book.specs.Style.{cost_amount};
-ghost use Rattle.query.specs.Matching.{payee_of};
 ghost use Rattle.book_care.specs.Uses as spec;
 
 use crate::declarations::Declared;
 use crate::faults::Check;
 use book::{Amount, Cost, Posting, Tag, Txn};
 use hl_base::Text;
-use query_terms::cutting::{before, bytes_of, has, str_of, trimmed};
+use query::payee_of;
 use std::marker::Model;
 
 /// A name that is used in a line. Contracts see both.
@@ -41,18 +40,6 @@ impl<'a> Use<'a> {
         ensures { result.now ≡ self.now.1 }
     {
         self.name
-    }
-}
-
-/// The payee of a description: what stands before its first `|`, trimmed, or all of it.
-fn payee_of(description: &Text) -> &str
-    ensures { result.now ≡ payee_of description.now }
-{
-    let bytes = bytes_of(description.as_str());
-    if has(bytes, b'|') {
-        str_of(trimmed(before(bytes, b'|')))
-    } else {
-        str_of(bytes)
     }
 }
 

@@ -8,7 +8,7 @@ ghost use Rattle.entry_balance.specs.Fill.{filled_posting, filled_in_place, foun
 
 use crate::plan::Plan;
 use crate::rules::{Found, Recorded, is_real_of};
-use book::{Amount, Boxed, Cost, Posting, Side, Tag, Written};
+use book::{Amount, Boxed, Cost, Posting, Side, Written, copied_tags};
 use hl_base::{List, Memory, Text};
 use hl_num::Dec;
 use std::alloc::Global;
@@ -186,18 +186,6 @@ pub fn plain_amount(alloc: Global, symbol: &str, value: Dec) -> Result<Amount, M
             rest: 3,
         },
     })
-}
-
-fn copied_tags(alloc: Global, tags: &[Tag]) -> Result<List<Tag>, Memory>
-    ensures { IfOk result (λ copy. copy ≡ tags.now) }
-{
-    let mut copies = Vec::new(alloc);
-    for tag in tags {
-        let name = Text::copied(alloc, tag.name.as_str())?;
-        let value = Text::copied(alloc, tag.value.as_str())?;
-        copies.push(Tag { name, value })?;
-    }
-    Ok(List::from_vec(copies))
 }
 
 /// A posting with the recorded cost, if that is of its symbol.

@@ -62,7 +62,7 @@ pub fn cut_items(alloc: Global, text: &[u8]) -> Result<List<Piece>, Memory>
 }
 
 /// Where a piece ends whose first line ends at `start`, and how many lines it takes after that.
-fn piece_end(text: &[u8], start: usize, kind: Kind) -> (usize, u64)
+pub fn piece_end(text: &[u8], start: usize, kind: Kind) -> (usize, u64)
     requires { start ≤ length text.now }
     ensures end { result.0 ≡ start + bytes_left kind text.now start }
     ensures lines { result.1 ≡ lines_left kind text.now start }

@@ -7,10 +7,9 @@ ghost use Rattle.index_cells.specs.Tells.{Tells, taken_on};
 
 use crate::kept::Kept;
 use crate::rows::{Plan, named_rows};
-use crate::totals::totals_of;
 use hl_base::{List, Memory, Steps};
 use hl_time::Span;
-use report_cells::{Cells, Reach};
+use report_cells::{Cells, Reach, totals_of};
 use std::alloc::Global;
 use std::sync::ledger::Ledger;
 

@@ -17,7 +17,6 @@ mod rows;
 mod staying;
 #[cfg(test)]
 mod tests;
-mod totals;
 
 pub use changes::ChangedKept;
 pub use dated::are_dated;

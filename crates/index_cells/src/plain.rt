@@ -1,7 +1,7 @@
 //! The sums of a plain report.
 ghost use Rattle.std.specs.Prelude.{◌≡◌, ◌↔◌, IsTrue};
 ghost use Rattle.report_takings.specs.Asking.{question_of};
-ghost use Rattle.report_takings.specs.Takings.{is_historical, names_earlier, shown_in, takings_of};
+ghost use Rattle.report_takings.specs.Takings.{is_historical, names_earlier, takings_of};
 ghost use Rattle.index_cells.specs.Asks.{AsksFor, nodes_shown};
 ghost use Rattle.index_cells.specs.Books.{KeepsBook};
 ghost use Rattle.index_cells.specs.Posted.{IsPlain, days_in};
@@ -13,7 +13,7 @@ use hl_base::{List, Steps};
 use hl_time::{DAY_END, Span};
 use report_cells::{Cells, Reach, ReportFault};
 use report_options::Start;
-use report_takings::{Scope, is_at_cost};
+use report_takings::{Scope, is_at_cost, shown_in};
 use std::alloc::Global;
 use std::sync::ledger::Ledger;
 
@@ -77,17 +77,4 @@ fn is_historical(start: Start) -> bool
     ensures { result ≡ is_historical start }
 {
     matches!(start, Start::Historical)
-}
-
-/// The days that some columns show.
-fn shown_in(columns: &[Span]) -> Span
-    ensures { result ≡ shown_in columns.now }
-{
-    match columns.last() {
-        Some(last) => Span {
-            from: columns[0].from,
-            end: last.end,
-        },
-        None => Span { from: 0, end: 0 },
-    }
 }

@@ -1,6 +1,6 @@
 //! The transactions that a query means, as they are printed.
 ghost use Rattle.std.specs.Prelude.{◌≡◌, map, IfOk};
-ghost use Rattle.query.specs.Matching.{is_from, is_before, least, later, lies_in};
+ghost use Rattle.query.specs.Matching.{is_from, is_before, lies_in};
 ghost use Rattle.report_takings.specs.Asking.{Serves, question_of};
 ghost use Rattle.journal_printer.specs.Journal.{styled};
 ghost use Rattle.journal_listings.specs.Printed as spec;
@@ -9,7 +9,7 @@ use book::{Styles, Txn};
 use hl_base::{Bytes, Memory};
 use hl_time::Period;
 use journal_printer::{Detail, print_chosen};
-use query::Search;
+use query::{Search, earlier, later};
 use report_options::Options;
 use report_takings::Scope;
 use std::alloc::Global;
@@ -67,32 +67,6 @@ fn lies_in(bounds: Period, day: u32) -> bool
     ensures { result ≡ lies_in bounds day }
 {
     is_from(bounds.from, day) && is_before(bounds.end, day)
-}
-
-/// The earlier of two days, where there are two.
-fn earlier(a: Option<u32>, b: Option<u32>) -> Option<u32>
-    ensures { result ≡ least a b }
-{
-    match a {
-        None => b,
-        Some(day) => match b {
-            None => Some(day),
-            Some(other) => Some(day.min(other)),
-        },
-    }
-}
-
-/// The later of two days, where there are two.
-fn later(a: Option<u32>, b: Option<u32>) -> Option<u32>
-    ensures { result ≡ later a b }
-{
-    match a {
-        None => b,
-        Some(day) => match b {
-            None => Some(day),
-            Some(other) => Some(day.max(other)),
-        },
-    }
 }
 
 /// The bounds that are given: of the options, narrowed by the terms of days outside `not:`.

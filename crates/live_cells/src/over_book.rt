@@ -1,5 +1,5 @@
 //! Sums over the postings of a book before a day.
-ghost use Rattle.std.specs.Prelude.{◌≡◌, ◌≤◌, ◌++◌, ◌∷◌, [], pos, ◌+ℤ◌, Some, max, true, if◌then◌else◌};
+ghost use Rattle.std.specs.Prelude.{◌≡◌, ◌≤◌, ◌++◌, ◌∷◌, [], pos, ◌+ℤ◌, max, true, if◌then◌else◌};
 ghost use Rattle.std.specs.Bool.{nat_eq};
 ghost use Rattle.std.specs.List.{starts_with};
 ghost use Rattle.std.specs.Str.{bytes_eq};
@@ -12,10 +12,11 @@ ghost use Rattle.book.specs.SumsBefore as names;
 ghost use Rattle.placed_sums.specs.Own.{IsSumIn};
 ghost use Rattle.live_cells.specs.Earlier.{earlier_in, earlier_of, is_earlier};
 
-use book::{Amount, Posting, Txn};
+use book::{Posting, Txn};
 use hl_base::Text;
 use hl_num::Dec;
 use hl_time::Day;
+use placed_sums::amount_sum;
 
 /// The plain sum of an account in a symbol over the postings of a book before a day; with `below` those of its subaccounts
 /// count too.
@@ -72,28 +73,6 @@ fn is_earlier(txn: &Txn, posting: &Posting, account: &Text, end: Day, below: boo
     ensures { result ≡ is_earlier account.now below end.0 txn.now posting.now }
 {
     posting.day_in(txn).0 < end.0 && is_of(account, below, &posting.account)
-}
-
-/// What an amount counts for in a symbol.
-fn amount_sum(amount: &Option<Amount>, symbol: &Text) -> Dec
-    ensures value { units_of result ≡ share symbol.now amount.now }
-    ensures places { result.places ≤ places_in symbol.now amount.now }
-{
-    match amount {
-        Some(amount) => symbol_sum(amount, symbol),
-        None => Dec::zero(),
-    }
-}
-
-fn symbol_sum(amount: &Amount, symbol: &Text) -> Dec
-    ensures value { units_of result ≡ share symbol.now (Some amount.now) }
-    ensures places { result.places ≤ places_in symbol.now (Some amount.now) }
-{
-    if is_same_text(&amount.symbol, symbol) {
-        amount.value
-    } else {
-        Dec::zero()
-    }
 }
 
 fn is_same_text(a: &Text, b: &Text) -> bool

@@ -20,3 +20,4 @@ pub use on_day::OnDay;
 pub use placed::SumsAt;
 pub use replaced::{prepare_replaced, replace};
 pub use rows::{index_of, rows_of};
+pub use today::amount_sum;

@@ -103,7 +103,7 @@ fn is_posted(txn: &Txn, posting: &Posting, account: &Text, below: bool, day: Day
 }
 
 /// What an amount counts for in a symbol.
-fn amount_sum(amount: &Option<Amount>, symbol: &Text) -> Dec
+pub fn amount_sum(amount: &Option<Amount>, symbol: &Text) -> Dec
     ensures value { units_of result ≡ share symbol.now amount.now }
     ensures places { result.places ≤ places_in symbol.now amount.now }
 {

@@ -1,40 +1,14 @@
 //! The bounds of a report.
 ghost use Rattle.std.specs.Prelude.{◌≡◌, IfOk};
 ghost use Rattle.hl_time.specs.Periods.{IsPeriod};
-ghost use Rattle.query.specs.Matching.{dates_in, least, later};
+ghost use Rattle.query.specs.Matching.{dates_in};
 ghost use Rattle.plan_commands.specs.Bounds as spec;
 
 use hl_base::{Memory, Text};
 use hl_time::Period;
-use query::Query;
+use query::{Query, earlier, later};
 use report_options::{Options, Valuation};
 use std::alloc::Global;
-
-/// The later of two days, where there are two.
-fn later(a: Option<u32>, b: Option<u32>) -> Option<u32>
-    ensures { result ≡ later a b }
-{
-    match a {
-        None => b,
-        Some(day) => match b {
-            None => Some(day),
-            Some(other) => Some(day.max(other)),
-        },
-    }
-}
-
-/// The earlier of two days, where there are two.
-fn earlier(a: Option<u32>, b: Option<u32>) -> Option<u32>
-    ensures { result ≡ least a b }
-{
-    match a {
-        None => b,
-        Some(day) => match b {
-            None => Some(day),
-            Some(other) => Some(day.min(other)),
-        },
-    }
-}
 
 /// Bounds, narrowed by the days of a query.
 #[tactic(auto, using(crate::proofs::Narrowing::later_within, crate::proofs::Narrowing::least_within))]

@@ -8,7 +8,6 @@ ghost use Rattle.report_sums.specs.Celled.{cause};
 ghost use Rattle.report_takings.specs.Asking.{question_of};
 ghost use Rattle.report_takings.specs.Columns.{columns_of, cut_into};
 ghost use Rattle.report_takings.specs.Spans.{span_of};
-ghost use Rattle.report_takings.specs.Takings.{shown_in};
 ghost use Rattle.report_commands.specs.Answered as answers;
 ghost use Rattle.plan_commands.specs.Columns as spec;
 
@@ -16,21 +15,8 @@ use crate::bounds::with_bounds;
 use hl_base::{List, Memory};
 use hl_time::{DAY_END, Interval, Period, Span, split};
 use report_cells::ReportFault;
-use report_takings::{COLUMN_LIMIT, Scope, columns_of};
+use report_takings::{COLUMN_LIMIT, Scope, columns_of, shown_in};
 use std::alloc::Global;
-
-/// The days that some columns show.
-fn shown_in(columns: &[Span]) -> Span
-    ensures { result ≡ shown_in columns.now }
-{
-    match columns.last() {
-        Some(last) => Span {
-            from: columns[0].from,
-            end: last.end,
-        },
-        None => Span { from: 0, end: 0 },
-    }
-}
 
 /// The span of a report without an interval: its only column.
 fn only_span(alloc: Global, scope: &Scope) -> Result<Span, Memory>

@@ -11,5 +11,6 @@ mod queries;
 pub use account_types::Types;
 pub use faults::QueryFault;
 pub use law::means_its_terms;
-pub use queries::{Query, Search, make_query};
+pub use matching::payee_of;
+pub use queries::{Query, Search, earlier, later, make_query};
 pub use query_terms::{ListMaker, MakeFault, Maker, RegexMaker};

@@ -40,7 +40,7 @@ pub(crate) enum Asked<'a> {
 }
 
 /// The payee of a description: what stands before its first `|`, trimmed, or all of it.
-fn payee_of(description: &Text) -> &str
+pub fn payee_of(description: &Text) -> &str
     ensures { result.now ≡ spec.payee_of description.now }
 {
     let bytes = bytes_of(description.as_str());

@@ -63,7 +63,7 @@ fn least(a: Option<u64>, b: Option<u64>) -> Option<u64>
     }
 }
 
-fn earlier(a: Option<u32>, b: Option<u32>) -> Option<u32>
+pub fn earlier(a: Option<u32>, b: Option<u32>) -> Option<u32>
     ensures { result ≡ matching.least a b }
 {
     match a {
@@ -75,7 +75,7 @@ fn earlier(a: Option<u32>, b: Option<u32>) -> Option<u32>
     }
 }
 
-fn later(a: Option<u32>, b: Option<u32>) -> Option<u32>
+pub fn later(a: Option<u32>, b: Option<u32>) -> Option<u32>
     ensures { result ≡ matching.later a b }
 {
     match a {

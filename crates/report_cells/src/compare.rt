@@ -1,7 +1,8 @@
 //! How names of accounts compare, by their bytes.
 ghost use Rattle.std.specs.Prelude.{◌≡◌, ◌+◌, ◌≤◌, IsTrue, length, take, drop};
-ghost use Rattle.book.specs.Accounts.{account_cmp, byte_order};
+ghost use Rattle.book.specs.Accounts.{account_cmp};
 
+use book::account::byte_order;
 use std::cmp::Ordering;
 
 /// How two names of accounts compare: part by part, each part by its bytes.
@@ -58,18 +59,5 @@ fn compare_rests(left: &[u8], right: &[u8]) -> Ordering
         Ordering::Less
     } else {
         Ordering::Equal
-    }
-}
-
-/// How two different bytes of names compare: a colon stands below all others.
-fn byte_order(a: u8, b: u8) -> Ordering
-    ensures { result ≡ byte_order a b }
-{
-    if a == b':' {
-        Ordering::Less
-    } else if b == b':' {
-        Ordering::Greater
-    } else {
-        a.cmp(&b)
     }
 }

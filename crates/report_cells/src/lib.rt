@@ -22,4 +22,5 @@ pub use gatherer::Gatherer;
 pub use reach::Reach;
 pub use row::add_share;
 pub use taking::{Share, Taking};
+pub use totals::totals_of;
 pub use turnover::check_range;

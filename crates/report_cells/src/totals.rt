@@ -9,11 +9,7 @@ use hl_base::{List, Memory};
 use std::alloc::Global;
 
 /// The sums of each column over all rows.
-pub(crate) fn totals_of(
-    alloc: Global,
-    rows: &[CellRow],
-    width: usize,
-) -> Result<List<Mixed>, Memory>
+pub fn totals_of(alloc: Global, rows: &[CellRow], width: usize) -> Result<List<Mixed>, Memory>
     requires { (at : ℕ) → at < width → EachFits [] (column_of at rows.now) }
     ensures { IfOk result (λ totals. totals ≡ column_totals width rows.now) }
 {

@@ -5,7 +5,6 @@ ghost use Rattle.book.specs.Styles.{style_in};
 ghost use Rattle.report_options.specs.Options.{IsValid};
 ghost use Rattle.report_sums.specs.Celled.{cause};
 ghost use Rattle.report_sums.specs.Matters.{matter_of};
-ghost use Rattle.report_takings.specs.Takings.{shown_in};
 ghost use Rattle.report_commands.specs.Answered as spec;
 
 use crate::tables::columns_in;
@@ -15,20 +14,8 @@ use hl_time::Span;
 use register_report::{Head, Register, register_takings, register_text};
 use report_cells::{ReportFault, Taking};
 use report_sums::{Job, valued_takings};
+use report_takings::shown_in;
 use std::alloc::Global;
-
-/// The days that some columns show.
-fn shown_in(columns: &[Span]) -> Span
-    ensures { result ≡ shown_in columns.now }
-{
-    match columns.last() {
-        Some(last) => Span {
-            from: columns[0].from,
-            end: last.end,
-        },
-        None => Span { from: 0, end: 0 },
-    }
-}
 
 /// The register of a report's days.
 pub(crate) fn register(alloc: Global, job: &Job) -> Result<Bytes, ReportFault>

@@ -4,10 +4,9 @@ ghost use Rattle.report_takings.specs.Asking.{Serves, question_of};
 ghost use Rattle.report_takings.specs.Ended as spec;
 
 use crate::scope::Scope;
-use crate::spans::{earlier, later};
 use book::{Posting, Txn};
 use hl_base::Memory;
-use query::Search;
+use query::{Search, earlier, later};
 use std::alloc::Global;
 
 /// The least and the greatest of some days.

@@ -16,4 +16,4 @@ pub use costs::is_at_cost;
 pub use entries::{Entry, chosen_entries};
 pub use gathering::gather;
 pub use scope::Scope;
-pub use takings::{take, take_entries};
+pub use takings::{shown_in, take, take_entries};

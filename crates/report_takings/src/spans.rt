@@ -1,7 +1,6 @@
 //! The span of a report.
 ghost use Rattle.std.specs.Prelude.{◌≡◌, IfOk, unwrap_or};
 ghost use Rattle.std.specs.Option.{option_map, option_or};
-ghost use Rattle.query.specs.Matching.{least, later};
 ghost use Rattle.report_takings.specs.Asking.{question_of};
 ghost use Rattle.report_takings.specs.Days.{day_after};
 ghost use Rattle.report_takings.specs.Spans as spec;
@@ -10,33 +9,8 @@ use crate::ends::{Ends, ends_of};
 use crate::scope::Scope;
 use hl_base::Memory;
 use hl_time::{DAY_END, Span};
+use query::{earlier, later};
 use std::alloc::Global;
-
-/// The earlier of two days, where there are two.
-pub(crate) fn earlier(a: Option<u32>, b: Option<u32>) -> Option<u32>
-    ensures { result ≡ least a b }
-{
-    match a {
-        None => b,
-        Some(day) => match b {
-            None => Some(day),
-            Some(other) => Some(day.min(other)),
-        },
-    }
-}
-
-/// The later of two days, where there are two.
-pub(crate) fn later(a: Option<u32>, b: Option<u32>) -> Option<u32>
-    ensures { result ≡ later a b }
-{
-    match a {
-        None => b,
-        Some(day) => match b {
-            None => Some(day),
-            Some(other) => Some(day.max(other)),
-        },
-    }
-}
 
 /// The day after a day, which is no later than the end of all days.
 fn day_after(day: u32) -> u32

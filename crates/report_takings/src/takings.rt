@@ -175,7 +175,7 @@ pub fn take_entries<'a>(
 }
 
 /// The days that some columns show.
-pub(crate) fn shown_in(columns: &[Span]) -> Span
+pub fn shown_in(columns: &[Span]) -> Span
     ensures { result ≡ spec.shown_in columns.now }
 {
     match columns.last() {

@@ -1,62 +1,17 @@
 //! How far the last piece of a text goes on in what is put behind the text.
 ghost use Rattle.std.specs.Prelude.{◌≡◌, ◌+◌, ◌≤◌, length, true};
-ghost use Rattle.hl_base.specs.Pieces as pieces;
 ghost use Rattle.text_ends.specs.Growth as spec;
 ghost use Rattle.text_ends.specs.Told as told;
 
 use crate::kept::KeptEnd;
 use hl_base::Kind;
-use hl_base::line::{closes_block, is_indented, is_remark, line_at};
+use hl_base::items::piece_end;
 
 /// How many bytes, and how many lines of them besides the LF that a text lacks, its last piece takes.
 #[derive(Clone, Copy)]
 pub(crate) struct Reach {
     pub bytes: usize,
     pub lines: u64,
-}
-
-/// Whether a piece of the kind takes the line.
-fn goes_on(kind: Kind, line: &[u8]) -> bool
-    ensures { result ≡ pieces.goes_on kind line.now }
-{
-    match kind {
-        Kind::Gap => is_remark(line),
-        Kind::Block => true,
-        Kind::Entry | Kind::Head | Kind::Stray => is_indented(line),
-    }
-}
-
-/// Whether the line is the last of a piece of the kind.
-fn closes(kind: Kind, line: &[u8]) -> bool
-    ensures { result ≡ pieces.closes kind line.now }
-{
-    match kind {
-        Kind::Block => closes_block(line),
-        Kind::Gap | Kind::Entry | Kind::Head | Kind::Stray => false,
-    }
-}
-
-/// Where a piece of the kind ends that takes lines from `start` on, and how many it takes.
-fn piece_end(text: &[u8], start: usize, kind: Kind) -> (usize, u64)
-    requires { start ≤ length text.now }
-    ensures end { result.0 ≡ start + pieces.bytes_left kind text.now start }
-    ensures lines { result.1 ≡ pieces.lines_left kind text.now start }
-    ensures bounds { (start + result.1 ≤ result.0) × (result.0 ≤ length text.now) }
-{
-    let mut end = start;
-    let mut lines = 0;
-    while end < text.len() {
-        let (line, next) = line_at(text, end);
-        if !goes_on(kind, line) {
-            return (end, lines);
-        }
-        end = next;
-        lines += 1;
-        if closes(kind, line) {
-            return (end, lines);
-        }
-    }
-    (end, lines)
 }
 
 /// Whether a last piece of the kind takes lines of what is behind the text.
