@@ -123,7 +123,7 @@ pub(crate) fn check_named(word: &[u8]) -> Option<Check>
 
 /// What requests may do, as a word says it.
 #[tactic(auto, unfolding(crate::specs::Chores::allow_named))]
-pub(crate) fn allow_named(word: &[u8]) -> Option<Allow>
+pub fn allow_named(word: &[u8]) -> Option<Allow>
     ensures { result ≡ spec.allow_named word.now }
 {
     if is_same(word, b"view") {

@@ -14,7 +14,8 @@ mod task;
 mod usage;
 mod words;
 
-pub use chores::Chore;
+pub use chores::{Chore, allow_named};
+pub use limit::number_of;
 pub use task::{
     Explaining, Following, Importing, Making, Origin, Replacing, StoreTask, Subject, Talking, Task,
     TextTask,

@@ -62,7 +62,7 @@ fn begins_with_zero(text: &[u8]) -> bool
 }
 
 /// The number that a text writes: digits of which the first isn't 0, from 1 to a greatest one.
-pub(crate) fn number_of(greatest: u64, text: &[u8]) -> Option<u64>
+pub fn number_of(greatest: u64, text: &[u8]) -> Option<u64>
     ensures value { result ≡ spec.number_in greatest text.now }
     ensures bound { IfSome result (λ n. n ≤ greatest) }
 {
