@@ -17,5 +17,5 @@ mod streams;
 mod talk;
 
 pub use outside::Outside;
-pub use program::{Status, asks_talk, run, run_waiting, say};
+pub use program::{Status, asks_talk, refuse, run, run_waiting, say};
 pub use streams::Streams;

@@ -63,7 +63,7 @@ pub fn say<E: Sink>(err: &mut E, status: u8, line: &[u8]) -> Status
 }
 
 /// Writes the line that says why there is no output; where it can't be written the status is 4.
-fn refuse<E: Sink>(err: &mut E, refusal: &Refusal) -> Status
+pub fn refuse<E: Sink>(err: &mut E, refusal: &Refusal) -> Status
     ensures told { Says result.0 (status_of refusal.now) (line_of refusal.now)
         (E.written err.old) (E.written err.new) (E.faults err.old) (E.faults err.new) }
     ensures sound { E.HasRoom err.old (length (line_of refusal.now))
