@@ -6,6 +6,7 @@ pub mod Histories
 pub mod Imports
 pub mod Keeping
 pub mod Openings
+pub mod Permissions
 pub mod Previews
 pub mod Reading
 pub mod Reports

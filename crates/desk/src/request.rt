@@ -1,4 +1,7 @@
 //! What is asked of the machine.
+ghost use Rattle.std.specs.Prelude.{◌≡◌};
+ghost use Rattle.desk.specs.Permissions.{allow_word};
+
 use hl_base::{Bytes, List, Text};
 
 /// What a request may do to the journal. Each includes those before it.
@@ -10,6 +13,19 @@ pub enum Allow {
     Add,
     /// Read it, add entries, and change what stands there.
     Edit,
+}
+
+impl Allow {
+    /// The word for it: `view`, `add` or `edit`.
+    pub fn word(self) -> &'static str
+        ensures { result.now ≡ allow_word self }
+    {
+        match self {
+            Allow::View => "view",
+            Allow::Add => "add",
+            Allow::Edit => "edit",
+        }
+    }
 }
 
 /// What is asked of the machine.
