@@ -7,10 +7,9 @@ use Rattle.csv_rules.specs.declared.faults.RulesFault.{RulesFault}
 use Rattle.csv_rules.specs.declared.faults.RulesFault.TheVariants as rules_fault
 use Rattle.csv_entries.specs.declared.faults.ConvertFault.{ConvertFault}
 use Rattle.csv_entries.specs.declared.faults.ConvertFault.TheVariants as convert_fault
+use Rattle.desk.specs.Permissions.{allow_word}
 use Rattle.desk.specs.declared.csv_fault.CsvFault.{CsvFault}
 use Rattle.desk.specs.declared.csv_fault.CsvFault.TheVariants as csv_fault
-use Rattle.desk.specs.declared.request.Allow.{Allow}
-use Rattle.desk.specs.declared.request.Allow.TheVariants as allow
 use Rattle.desk.specs.declared.reply.Reply.{Reply}
 use Rattle.desk.specs.declared.reply.Reply.TheVariants as reply
 use Rattle.generated.specs.declared.fault.GenFault.{GenFault}
@@ -28,11 +27,6 @@ ended line = line ++ (line_feed ∷ [])
 -- a text, a number, a text and a number
 abbrev pub two_numbers : List ℕ → ℕ → List ℕ → ℕ → List ℕ
 two_numbers first m second n = ended (first ++ decimal m ++ second ++ decimal n)
-
-abbrev pub allow_word : Allow → List ℕ
-allow_word allow.View = codes "view"
-allow_word allow.Add = codes "add"
-allow_word allow.Edit = codes "edit"
 
 -- no command where there is no word, else the word that has no place
 abbrev pub usage_line : List ℕ → List ℕ

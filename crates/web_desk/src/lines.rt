@@ -1,7 +1,7 @@
 //! The lines in which replies say what was done, or why not.
 ghost use Rattle.std.specs.Prelude.{◌≡◌, IfOk};
 ghost use Rattle.std.specs.String.{string_bytes};
-ghost use Rattle.web_desk.specs.Lines.{two_numbers, ended, allow_word, usage_line, conflict_line, report_line, words_line, gen_line, plan_line, rules_line, convert_line, csv_line, body_of, IsLine};
+ghost use Rattle.web_desk.specs.Lines.{two_numbers, ended, usage_line, conflict_line, report_line, words_line, gen_line, plan_line, rules_line, convert_line, csv_line, body_of, IsLine};
 ghost use Rattle.std.specs.Prelude.{◌++◌};
 ghost use Rattle.std.specs.Fmt.{decimal};
 
@@ -45,23 +45,13 @@ fn one_number_line(alloc: Global, first: &str, n: u64, second: &str) -> Result<S
     Ok(line)
 }
 
-fn allow_text(allow: Allow) -> &'static str
-    ensures { result.now ≡ allow_word allow }
-{
-    match allow {
-        Allow::View => "view",
-        Allow::Add => "add",
-        Allow::Edit => "edit",
-    }
-}
-
 fn forbidden_line(alloc: Global, need: Allow, have: Allow) -> Result<String, Memory>
     ensures { IfOk result (λ line. string_bytes line ≡ body_of (Reply.Forbidden need have)) }
 {
     let mut line = String::from_str(alloc, "error: forbidden: need ")?;
-    line.push_str(allow_text(need))?;
+    line.push_str(need.word())?;
     line.push_str(", have ")?;
-    line.push_str(allow_text(have))?;
+    line.push_str(have.word())?;
     line.push_str("\n")?;
     Ok(line)
 }
