@@ -10,7 +10,7 @@ use Rattle.query_terms.specs.declared.making.Maker.{Ghosts as Makers}
 use Rattle.book.specs.declared.fault.Cause.{Cause}
 use Rattle.book.specs.declared.fault.Cause.TheVariants as causes
 use Rattle.report_commands.specs.declared.fault.WordsFault.TheVariants as words_fault
-use Rattle.refusals.specs.Errors.{write_fault_line}
+use Rattle.refusals.specs.Errors.{fault_status, write_fault_line}
 use Rattle.refusals.specs.declared.refusal.Refusal.{Refusal}
 use Rattle.refusals.specs.declared.refusal.Refusal.TheVariants as refusal
 use Rattle.desk.specs.declared.reply.Reply.{Reply}
@@ -24,10 +24,10 @@ use Rattle.store_following.specs.declared.refusal.FollowRefusal.{FollowRefusal}
 use Rattle.store_following.specs.declared.refusal.FollowRefusal.TheVariants as follow
 use Rattle.store_text.specs.declared.refusal.StoreRefusal.{StoreRefusal}
 use Rattle.store_text.specs.declared.refusal.StoreRefusal.TheVariants as store
-use Rattle.store_making.specs.Lines.{cause_status, status_of as making_status}
+use Rattle.store_making.specs.Lines.{status_of as making_status}
 use Rattle.store_making.specs.declared.refusal.JournalRefusal.{JournalRefusal}
 use Rattle.store_making.specs.declared.refusal.JournalRefusal.TheVariants as making
-use Rattle.store_commands.specs.Replies.{cause_status as reply_cause_status, status_of as reply_status}
+use Rattle.store_commands.specs.Replies.{status_of as reply_status}
 use Rattle.command_words.specs.Usage.{usage_cause}
 use Rattle.command_words.specs.declared.task.Origin.{Origin}
 use Rattle.command_words.specs.declared.task.Origin.TheVariants as origins
@@ -80,7 +80,7 @@ store_told store.ReadFault = three
 store_told store.DiskFault = five
 store_told store.Memory = six
 
-cause_told : (c : Cause) → IsTold (cause_status c)
+cause_told : (c : Cause) → IsTold (fault_status c)
 cause_told causes.Form = one
 cause_told causes.Date = one
 cause_told causes.Number = one
@@ -95,22 +95,6 @@ cause_told causes.NotAllowed = one
 cause_told (causes.Unbalanced symbol sum) = one
 cause_told (causes.AssertionFailed wanted found) = one
 cause_told causes.Range = one
-
-reply_cause_told : (c : Cause) → IsTold (reply_cause_status c)
-reply_cause_told causes.Form = one
-reply_cause_told causes.Date = one
-reply_cause_told causes.Number = one
-reply_cause_told causes.Account = one
-reply_cause_told causes.StatusMark = one
-reply_cause_told causes.Directive = one
-reply_cause_told causes.Quote = one
-reply_cause_told causes.TooLong = seven
-reply_cause_told causes.Encoding = one
-reply_cause_told causes.TwoMissing = one
-reply_cause_told causes.NotAllowed = one
-reply_cause_told (causes.Unbalanced symbol sum) = one
-reply_cause_told (causes.AssertionFailed wanted found) = one
-reply_cause_told causes.Range = one
 
 journal_told : (e : JournalRefusal) → IsTold (making_status e)
 journal_told (making.Store r) = store_told r
@@ -127,7 +111,7 @@ reply_told (reply.Stale base current) = one
 reply_told (reply.BadBase base current) = one
 reply_told (reply.NoSuchItem n count) = one
 reply_told (reply.NotTransactions line) = one
-reply_told (reply.Load fault) = reply_cause_told fault.cause
+reply_told (reply.Load fault) = cause_told fault.cause
 reply_told (reply.TooLarge limit size) = seven
 reply_told (reply.DiskFault before after) = five
 reply_told (reply.Words fault) = one

@@ -4,7 +4,7 @@ use Rattle.hl_base.specs.declared.disk.Disk.{Ghosts as Disks}
 use Rattle.hl_base.specs.declared.shelf.Shelf.{Ghosts as Shelves}
 use Rattle.book.specs.declared.fault.Cause.{Cause}
 use Rattle.book.specs.declared.fault.Cause.TheVariants as causes
-use Rattle.refusals.specs.Errors.{usage_line, write_fault_line}
+use Rattle.refusals.specs.Errors.{fault_status, usage_line, write_fault_line}
 use Rattle.refusals.specs.declared.refusal.Refusal.{Refusal}
 use Rattle.refusals.specs.declared.refusal.Refusal.TheVariants as refusal
 use Rattle.shared_desk.specs.Stays.{KitTold}
@@ -13,7 +13,7 @@ use Rattle.desk_team.specs.declared.hosting.HouseFault.TheVariants as house_faul
 use Rattle.store_text.specs.Refusals.{status_of as store_status}
 use Rattle.store_text.specs.declared.refusal.StoreRefusal.{StoreRefusal}
 use Rattle.store_text.specs.declared.refusal.StoreRefusal.TheVariants as store
-use Rattle.store_making.specs.Lines.{cause_status, status_of as making_status}
+use Rattle.store_making.specs.Lines.{status_of as making_status}
 use Rattle.store_making.specs.declared.refusal.JournalRefusal.{JournalRefusal}
 use Rattle.store_making.specs.declared.refusal.JournalRefusal.TheVariants as making
 use Rattle.serve_commands.specs.Lines.{IsSaid, RefusedAs, line_of as unserved_line, status_of as unserved_status}
@@ -74,7 +74,7 @@ store_told store.ReadFault = three
 store_told store.DiskFault = five
 store_told store.Memory = six
 
-cause_told : (c : Cause) → IsTold (cause_status c)
+cause_told : (c : Cause) → IsTold (fault_status c)
 cause_told causes.Form = one
 cause_told causes.Date = one
 cause_told causes.Number = one

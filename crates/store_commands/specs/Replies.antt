@@ -2,20 +2,19 @@
 use Rattle.std.specs.Prelude.{ℕ, List, ◌++◌, codes}
 use Rattle.std.specs.Fmt.{decimal}
 use Rattle.book.specs.FaultLine.{ended as line_ended, fault_line}
-use Rattle.book.specs.declared.fault.Cause.{Cause}
-use Rattle.book.specs.declared.fault.Cause.TheVariants.{TooLong}
 use Rattle.csv_entries.specs.declared.faults.ConvertFault.{ConvertFault}
 use Rattle.csv_entries.specs.declared.faults.ConvertFault.TheVariants as convert_fault
 use Rattle.csv_rules.specs.declared.faults.RulesFault.{RulesFault}
 use Rattle.csv_rules.specs.declared.faults.RulesFault.TheVariants as rules_fault
+use Rattle.desk.specs.Permissions.{allow_word}
 use Rattle.desk.specs.declared.csv_fault.CsvFault.{CsvFault}
 use Rattle.desk.specs.declared.csv_fault.CsvFault.TheVariants as csv_fault
 use Rattle.desk.specs.declared.request.Allow.{Allow}
-use Rattle.desk.specs.declared.request.Allow.TheVariants as allow
 use Rattle.desk.specs.declared.request.Request.{Request}
 use Rattle.desk.specs.declared.request.Request.TheVariants as request
 use Rattle.desk.specs.declared.reply.Reply.{Reply}
 use Rattle.desk.specs.declared.reply.Reply.TheVariants as reply
+use Rattle.refusals.specs.Errors.{fault_status}
 
 -- the request asks for an edit
 abbrev pub IsEdit : Request → Type 0
@@ -37,11 +36,6 @@ ended line = line_ended line
 
 abbrev pub two_numbers : List ℕ → ℕ → List ℕ → ℕ → List ℕ
 two_numbers front number mid last = ended (front ++ decimal number ++ mid ++ decimal last)
-
-abbrev pub allow_word : Allow → List ℕ
-allow_word allow.View = codes "view"
-allow_word allow.Add = codes "add"
-allow_word allow.Edit = codes "edit"
 
 abbrev pub forbidden_line : Allow → Allow → List ℕ
 forbidden_line need have = ended (codes "error: forbidden: need " ++ allow_word need ++ codes ", have " ++ allow_word have)
@@ -87,16 +81,11 @@ line_of (reply.Csv fault) = csv_line fault
 line_of (reply.Full size limit) = two_numbers (codes "error: full: ") size (codes " of ") limit
 line_of _ = memory_line
 
--- the exit status of a text with a fault: 7 where an entry is too long, else 1
-abbrev pub cause_status : Cause → ℕ
-cause_status TooLong = 7
-cause_status _ = 1
-
 abbrev pub status_of : Reply → ℕ
 status_of (reply.Done revision) = 0
 status_of (reply.Same revision) = 0
 status_of (reply.Text revision bytes) = 0
-status_of (reply.Load fault) = cause_status fault.cause
+status_of (reply.Load fault) = fault_status fault.cause
 status_of (reply.DiskFault before after) = 5
 status_of reply.Memory = 6
 status_of (reply.TooLarge limit size) = 7

@@ -14,8 +14,8 @@ use std::sync::ledger::Ledger;
 use store_making::{JournalRefusal, of_store, of_text};
 use store_text::unopened;
 
-/// Why two disks aren't opened as a machine.
-fn of_opening(fault: DeskFault) -> JournalRefusal
+/// Why two disks aren't opened as a machine, as the refusal of a journal.
+pub fn of_opening(fault: DeskFault) -> JournalRefusal
     ensures { result ≡ of_opening fault }
 {
     match fault {

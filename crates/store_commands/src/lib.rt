@@ -7,6 +7,7 @@ mod lines;
 mod notices;
 mod preview;
 
+pub use asking::of_opening;
 pub use edit::{Replacement, StoreEdit, edit_store, replace_store};
 pub use lines::{reply_line, reply_status};
 pub use notices::import_notices;

@@ -3,11 +3,12 @@ ghost use Rattle.std.specs.Prelude.{◌≡◌, ◌++◌, IfOk};
 ghost use Rattle.std.specs.Fmt.{decimal};
 ghost use Rattle.store_commands.specs.Replies as spec;
 
-use book::{Cause, print_fault};
+use book::print_fault;
 use csv_entries::ConvertFault;
 use csv_rules::RulesFault;
 use desk::{Allow, CsvFault, Reply};
 use hl_base::{Bytes, Memory};
+use refusals::status_for;
 use std::alloc::Global;
 use std::string::ToString;
 
@@ -43,24 +44,14 @@ fn line_with(alloc: Global, front: &str, number: u64, mid: &str, last: u64) -> R
     Ok(Bytes::from_vec(line.into_bytes()))
 }
 
-fn allow_word(allow: Allow) -> &'static str
-    ensures { result.now ≡ spec.allow_word allow }
-{
-    match allow {
-        Allow::View => "view",
-        Allow::Add => "add",
-        Allow::Edit => "edit",
-    }
-}
-
 /// That an edit needs more than what is allowed.
 fn forbidden_line(alloc: Global, need: Allow, have: Allow) -> Result<Bytes, Memory>
     ensures { IfOk result (λ line. line ≡ spec.forbidden_line need have) }
 {
     let mut text = String::from_str(alloc, "error: forbidden: need ")?;
-    text.push_str(allow_word(need))?;
+    text.push_str(need.word())?;
     text.push_str(", have ")?;
-    text.push_str(allow_word(have))?;
+    text.push_str(have.word())?;
     line(alloc, text.as_str())
 }
 
@@ -137,16 +128,6 @@ pub fn reply_line(alloc: Global, reply: &Reply) -> Result<Bytes, Memory>
     }
 }
 
-/// The exit status of a text with a fault: 7 where an entry is too long, else 1.
-fn cause_status(cause: &Cause) -> u8
-    ensures { result ≡ spec.cause_status cause.now }
-{
-    match cause {
-        Cause::TooLong => 7,
-        _ => 1,
-    }
-}
-
 /// The exit status of a reply to an edit: 0 where the edit stands or leaves the text as it is; 5 where a call of a disk failed;
 /// 6 where memory ran out; 7 where the text, an entry of it or the store is past a limit; and else 1.
 pub fn reply_status(reply: &Reply) -> u8
@@ -154,7 +135,7 @@ pub fn reply_status(reply: &Reply) -> u8
 {
     match reply {
         Reply::Done { .. } | Reply::Same { .. } | Reply::Text { .. } => 0,
-        Reply::Load(fault) => cause_status(&fault.cause),
+        Reply::Load(fault) => status_for(&fault.cause),
         Reply::DiskFault { .. } => 5,
         Reply::Memory => 6,
         Reply::TooLarge { .. } | Reply::Full { .. } => 7,

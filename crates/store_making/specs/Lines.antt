@@ -2,8 +2,7 @@
 use Rattle.std.specs.Prelude.{ℕ, List, ◌++◌, codes}
 use Rattle.std.specs.Fmt.{decimal}
 use Rattle.book.specs.FaultLine.{ended, fault_line}
-use Rattle.book.specs.declared.fault.Cause.{Cause}
-use Rattle.book.specs.declared.fault.Cause.TheVariants.{TooLong}
+use Rattle.refusals.specs.Errors.{fault_status}
 use Rattle.store_text.specs.Refusals.{line_of as store_line, status_of as store_status}
 use Rattle.store_making.specs.declared.refusal.JournalRefusal.{JournalRefusal}
 use Rattle.store_making.specs.declared.refusal.JournalRefusal.TheVariants as making
@@ -15,14 +14,9 @@ limit_line count limit = ended (codes "error: limit: " ++ decimal count ++ codes
 abbrev pub memory_line : List ℕ
 memory_line = ended (codes "error: memory")
 
--- the exit status of a text with a fault: 7 where an entry is too long, else 1
-abbrev pub cause_status : Cause → ℕ
-cause_status TooLong = 7
-cause_status _ = 1
-
 abbrev pub status_of : JournalRefusal → ℕ
 status_of (making.Store r) = store_status r
-status_of (making.Load fault) = cause_status fault.cause
+status_of (making.Load fault) = fault_status fault.cause
 status_of (making.TooLarge limit size) = 7
 status_of making.Memory = 6
 

@@ -3,8 +3,9 @@ ghost use Rattle.std.specs.Prelude.{◌≡◌, IfOk};
 ghost use Rattle.store_making.specs.Lines as spec;
 
 use crate::refusal::JournalRefusal;
-use book::{Cause, print_fault};
+use book::print_fault;
 use hl_base::{Bytes, Memory, Text};
+use refusals::status_for;
 use std::alloc::Global;
 use std::string::ToString;
 use store_text::{refusal_line, refusal_status};
@@ -39,16 +40,6 @@ pub fn journal_line(alloc: Global, name: &Text, refusal: &JournalRefusal) -> Res
     }
 }
 
-/// The exit status of a text with a fault: 7 where an entry is too long, else 1.
-fn cause_status(cause: &Cause) -> u8
-    ensures { result ≡ spec.cause_status cause.now }
-{
-    match cause {
-        Cause::TooLong => 7,
-        _ => 1,
-    }
-}
-
 /// The exit status of such a refusal: that of the store, 1 where the text has a fault, 7 where it or an entry of it is past a
 /// limit, and 6 where memory ran out.
 pub fn journal_status(refusal: &JournalRefusal) -> u8
@@ -56,7 +47,7 @@ pub fn journal_status(refusal: &JournalRefusal) -> u8
 {
     match refusal {
         JournalRefusal::Store(refusal) => refusal_status(*refusal),
-        JournalRefusal::Load(fault) => cause_status(&fault.cause),
+        JournalRefusal::Load(fault) => status_for(&fault.cause),
         JournalRefusal::TooLarge { .. } => 7,
         JournalRefusal::Memory => 6,
     }
