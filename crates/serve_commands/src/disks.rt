@@ -1,33 +1,20 @@
 //! Two disks that are opened as a machine, which is served and closed.
 ghost use Rattle.std.specs.Prelude.{◌≡◌};
 ghost use Rattle.shared_desk.specs.Stays.{kit_told};
-ghost use Rattle.store_commands.specs.Asking.{of_opening};
 ghost use Rattle.serve_commands.specs.Hosting as spec;
 
 use crate::hosting::serve_desk;
 use crate::outcome::{Tally, Unserved};
 use crate::store::Post;
-use desk::{Desk, DeskFault};
+use desk::Desk;
 use desk_team::{House, HouseFault};
 use hl_base::{Disk, Steps};
 use std::alloc::Global;
 use std::sync::Wait;
 use std::sync::ledger::Ledger;
 use std::thread::Threads;
-use store_making::{JournalRefusal, of_store, of_text};
-use store_text::unopened;
+use store_commands::of_opening;
 use web_messages::page::Page;
-
-/// Why two disks aren't opened as a machine.
-fn of_opening(fault: DeskFault) -> JournalRefusal
-    ensures { result ≡ of_opening fault }
-{
-    match fault {
-        DeskFault::Store(fault) => of_store(unopened(fault)),
-        DeskFault::Load(fault) => of_text(fault),
-        DeskFault::Memory => JournalRefusal::Memory,
-    }
-}
 
 /// Why a machine wasn't served.
 fn of_house(served: Result<Tally, HouseFault>) -> Result<Tally, Unserved>

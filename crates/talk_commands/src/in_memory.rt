@@ -9,7 +9,7 @@ ghost use Rattle.store_making.specs.Refusals.{IsOfText};
 ghost use Rattle.talk_commands.specs.Links.{wire};
 ghost use Rattle.talk_commands.specs.Memory.{NeverFails, TalksFrom, begun, room};
 
-use crate::machine::{refusal_of, talk_desk};
+use crate::machine::talk_desk;
 use crate::terms::Terms;
 use desk::{Allow, Desk};
 use hl_base::{Link, MemDisk, Memory, Steps};
@@ -19,6 +19,7 @@ use std::alloc::Global;
 use std::sync::Wait;
 use std::sync::ledger::Ledger;
 use std::thread::Threads;
+use store_commands::of_opening;
 use store_making::{JournalRefusal, of_text};
 use web_desk::ConnEnd;
 
@@ -73,7 +74,7 @@ fn machine_of<L: Ledger>(
     };
     match Desk::create(alloc, first, second, text, ROOM, allow, steps) {
         Ok(desk) => Ok(desk),
-        Err((_, _, fault)) => Err(refusal_of(fault)),
+        Err((_, _, fault)) => Err(of_opening(fault)),
     }
 }
 

@@ -5,7 +5,7 @@ ghost use Rattle.store_commands.specs.Asking.{told_by};
 ghost use Rattle.talk_commands.specs.Links.{wire};
 ghost use Rattle.talk_commands.specs.Stores.{TalksDisks, TalksStore};
 
-use crate::machine::{refusal_of, talk_desk};
+use crate::machine::talk_desk;
 use crate::terms::Terms;
 use desk::Desk;
 use hl_base::{Disk, Link, Shelf, Steps, Text};
@@ -13,6 +13,7 @@ use query::Maker;
 use std::alloc::Global;
 use std::sync::Wait;
 use std::sync::ledger::Ledger;
+use store_commands::of_opening;
 use store_making::{JournalRefusal, of_store};
 use store_text::{give_back_disks, second_name, take_disks};
 use web_desk::ConnEnd;
@@ -43,7 +44,7 @@ fn talk_disks<D: Disk, W: Wait, K: Link, M: Maker, L: Ledger>(
     let (first, second) = disks;
     match Desk::open(alloc, first, second, terms.allow, steps) {
         Ok(desk) => talk_desk(rt, alloc, desk, terms.day, link, maker, steps),
-        Err((first, second, fault)) => (first, second, Err(refusal_of(fault))),
+        Err((first, second, fault)) => (first, second, Err(of_opening(fault))),
     }
 }
 

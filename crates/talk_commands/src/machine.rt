@@ -2,12 +2,12 @@
 ghost use Rattle.std.specs.Prelude.{◌≡◌, List, OnErr};
 ghost use Rattle.desk.specs.Entries.{Entry};
 ghost use Rattle.hl_time.specs.Calendar.{IsDay};
-ghost use Rattle.store_commands.specs.Asking.{of_opening, told_by};
+ghost use Rattle.store_commands.specs.Asking.{told_by};
 ghost use Rattle.talk_commands.specs.Links.{wire};
 ghost use Rattle.talk_commands.specs.Stores.{IsTalked, TalksDesk};
 ghost use Rattle.turn_lock.specs.Passes.{first_pass};
 
-use desk::{Desk, DeskFault};
+use desk::Desk;
 use hl_base::{Disk, Link, MemClock, Memory, Steps};
 use hl_time::Day;
 use query::Maker;
@@ -15,22 +15,10 @@ use shared_desk::{Shared, serve_connection};
 use std::alloc::Global;
 use std::sync::Wait;
 use std::sync::ledger::Ledger;
-use store_making::{JournalRefusal, of_store, of_text};
-use store_text::unopened;
+use store_making::JournalRefusal;
 use turn_lock::{Pass, Turn};
 use web_desk::ConnEnd;
 use web_messages::page::Page;
-
-/// Why two disks make no machine, as the refusal of a journal.
-pub(crate) fn refusal_of(fault: DeskFault) -> JournalRefusal
-    ensures { result ≡ of_opening fault }
-{
-    match fault {
-        DeskFault::Store(fault) => of_store(unopened(fault)),
-        DeskFault::Load(fault) => of_text(fault),
-        DeskFault::Memory => JournalRefusal::Memory,
-    }
-}
 
 /// Answers the messages that come over a link, on a day, from the machine under a lock that was just made, with its first
 /// pass, and closes the lock and the machine: its disks, and the connection's end.

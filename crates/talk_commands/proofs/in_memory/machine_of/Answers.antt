@@ -10,7 +10,7 @@ pub returns-clause-cause : goal.returns-clause-cause
 returns-clause-cause g c =
     let first = c.in-Ok.ensures.first in
     let second = c.in-Ok.ensures.second in
-    subst (λ (e : JournalRefusal). IsOfText e (fault_of None c.args.text.now)) (sym c.refusal_of.ensures)
+    subst (λ (e : JournalRefusal). IsOfText e (fault_of None c.args.text.now)) (sym c.of_opening.ensures)
     (only_text (λ (disk : MemDisk) room is le. disk.unfailing room is le) (c.in-Ok.first, c.in-Ok.second) (c.in-Err.field-0-0, c.in-Err.field-0-1) c.args.text.now c.in-Err.fault
     (record {
       first = ap Some first.reads;

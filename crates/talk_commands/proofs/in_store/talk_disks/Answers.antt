@@ -18,7 +18,7 @@ returns-in-Ok-clause-untouched g c = c.talk_desk.ensures.untouched
 pub returns-in-Err-clause-talks : goal.returns-in-Err-clause-talks
 returns-in-Err-clause-talks g c =
     let o = c.in-Err.ensures in (
-      record { fault = c.in-Err.fault; is = c.refusal_of.ensures; cause = o.cause; stays = o.stays; any_moment = o.any_moment; keeps = o.keeps },
+      record { fault = c.in-Err.fault; is = c.of_opening.ensures; cause = o.cause; stays = o.stays; any_moment = o.any_moment; keeps = o.keeps },
       record { count = refl; told = refl },
       record { sent = refl; reads = refl; writes = refl },
     )
