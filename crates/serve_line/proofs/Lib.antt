@@ -1,5 +1,4 @@
 mod Clapping
-mod Digits
 mod Lending
 mod ReplyRuns
 mod ReportTasks

@@ -1,15 +1,14 @@
 -- What the words of `serve` ask for.
-use Rattle.std.specs.Prelude.{ℕ, Bool, false, true, ◌==◌, if◌then◌else◌, List, [], ◌∷◌, codes, map, Option, Some, None, Result, Ok, Err}
+use Rattle.std.specs.Prelude.{ℕ, Bool, false, true, List, [], ◌∷◌, codes, map, Option, Some, None, Result, Ok, Err}
 use Rattle.std.specs.Borrow.{Bor}
 use Rattle.std.specs.Str.{bytes_eq}
-use Rattle.hl_base.specs.Ascii.{digit_zero}
 use Rattle.clap.specs.Words.{App, Kinds, Row, Rule, fault_of, first_of, first_value, matches_of, new_app, new_rule, with_rule}
 use Rattle.clap.specs.declared.builder.action.ArgAction.TheVariants.{SetTrue}
 use Rattle.clap.specs.declared.error.kind.ErrorKind.{ErrorKind}
 use Rattle.clap.specs.declared.error.kind.ErrorKind.TheVariants as kind
 use Rattle.clap.specs.declared.parser.matches.Found.{Found}
 use Rattle.command_words.specs.Chores.{allow_named}
-use Rattle.command_words.specs.Limits.{digits_in}
+use Rattle.command_words.specs.Limits.{number_in}
 use Rattle.desk.specs.declared.request.Allow.{Allow}
 use Rattle.desk.specs.declared.request.Allow.TheVariants as allow
 use Rattle.desk_team.specs.declared.hosting.Address.{Address}
@@ -116,17 +115,9 @@ said_by words = said_or_usage (rows_by words)
 
 -- ---- what that means
 
-abbrev pub begins_with_zero : List ℕ → Bool
-begins_with_zero [] = false
-begins_with_zero (byte ∷ bytes) = byte == digit_zero
-
--- a number from 1 to a greatest one, in decimal digits of which the first isn't 0
-abbrev pub plain_number : ℕ → List ℕ → Option ℕ
-plain_number greatest text = if begins_with_zero text then None else digits_in greatest text
-
--- or the usual one where none is written
+-- a number from 1 to a greatest one that is written, or the usual one where none is
 abbrev pub number_or : ℕ → ℕ → Option (List ℕ) → Option ℕ
-number_or usual greatest (Some text) = plain_number greatest text
+number_or usual greatest (Some text) = number_in greatest text
 number_or usual greatest None = Some usual
 
 abbrev pub host_or : Option (List ℕ) → List ℕ

@@ -1,38 +1,13 @@
 //! What is written when a store was served, or wasn't.
 ghost use Rattle.std.specs.Prelude.{◌≡◌, true, false, length};
-ghost use Rattle.command_line.specs.Answers.{Says, line_of, status_of};
+ghost use Rattle.command_line.specs.Answers.{Says};
 ghost use Rattle.serve_line.specs.Runs.{EndsServe, EndsSoundly, IsWritten, door_fault_line, end_status, sinks, sinks_of};
 
-use command_line::{Outside, Status, say};
+use command_line::{Outside, Status, refuse, say};
 use hl_base::{Shelf, Sink, Source, write_all};
 use query::Maker;
 use refusals::Refusal;
 use serve_commands::Ended;
-
-/// The exit status of a refusal, and the line that says why.
-fn status_and_line(refusal: &Refusal) -> (u8, &[u8])
-    ensures status { result.0 ≡ status_of refusal.now }
-    ensures line { result.1.now ≡ line_of refusal.now }
-{
-    match refusal {
-        Refusal::Line { status, line } => (*status, line.as_slice()),
-        Refusal::Pattern { line, .. } => (1, line.as_slice()),
-        Refusal::ReadFault => (3, b"error: read fault\n"),
-        Refusal::DiskFault => (5, b"error: disk fault\n"),
-        Refusal::Memory => (6, b"error: memory\n"),
-    }
-}
-
-/// Writes the line that says why nothing was served.
-fn refuse<E: Sink>(err: &mut E, refusal: &Refusal) -> Status
-    ensures told { Says result.0 (status_of refusal.now) (line_of refusal.now)
-        (E.written err.old) (E.written err.new) (E.faults err.old) (E.faults err.new) }
-    ensures sound { E.HasRoom err.old (length (line_of refusal.now))
-        → result.0 ≡ status_of refusal.now }
-{
-    let (status, line) = status_and_line(refusal);
-    say(err, status, line)
-}
 
 /// Says that a call of a door failed, where one did.
 fn say_end<E: Sink>(err: &mut E, failed: bool) -> Status

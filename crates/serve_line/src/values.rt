@@ -1,13 +1,12 @@
 //! What the values of the options of `serve` mean.
 ghost use Rattle.std.specs.Prelude.{◌≡◌, IfOk};
-ghost use Rattle.std.specs.Str.{bytes_eq};
 ghost use Rattle.hl_base.specs.Gives.{Gives};
-ghost use Rattle.command_words.specs.Chores as chores;
 ghost use Rattle.serve_line.specs.Words as spec;
 
 use crate::matched::Said;
 use crate::numbers::number_or;
 use crate::words::NoReading;
+use command_words::allow_named;
 use desk::Allow;
 use desk_team::{Address, Crew};
 use hl_base::{Memory, Text};
@@ -23,28 +22,6 @@ const MOST_PORT: u64 = 65_535;
 
 /// The most links of a worker.
 const MOST_LINKS: u64 = 4_294_967_295;
-
-fn is_same(a: &[u8], b: &[u8]) -> bool
-    ensures { result ≡ bytes_eq a.now b.now }
-{
-    a == b
-}
-
-/// What requests may do, as a word says it.
-#[tactic(auto, unfolding(command_words::specs::Chores::allow_named))]
-fn allow_named(word: &[u8]) -> Option<Allow>
-    ensures { result ≡ chores.allow_named word.now }
-{
-    if is_same(word, b"view") {
-        Some(Allow::View)
-    } else if is_same(word, b"add") {
-        Some(Allow::Add)
-    } else if is_same(word, b"edit") {
-        Some(Allow::Edit)
-    } else {
-        None
-    }
-}
 
 /// What requests may do: add, where nothing is written.
 fn allow_or(written: Option<Text>) -> Option<Allow>
