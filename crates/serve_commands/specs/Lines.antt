@@ -2,11 +2,12 @@
 use Rattle.std.specs.Prelude.{◌≡◌, ◌⊎◌, ℕ, List, ◌++◌, codes, Result, Ok, Err}
 use Rattle.std.specs.Fmt.{decimal}
 use Rattle.book.specs.FaultLine.{ended}
+use Rattle.error_lines.specs.Lines as lines
 use Rattle.refusals.specs.declared.refusal.Refusal.{Refusal}
 use Rattle.refusals.specs.declared.refusal.Refusal.TheVariants as refusal
 use Rattle.desk_team.specs.declared.hosting.HouseFault.{HouseFault}
 use Rattle.desk_team.specs.declared.hosting.HouseFault.TheVariants as house_fault
-use Rattle.store_making.specs.Lines.{line_of as journal_line, memory_line, status_of as journal_status}
+use Rattle.store_making.specs.Lines.{line_of as journal_line, status_of as journal_status}
 use Rattle.serve_commands.specs.declared.answer.Ended.{Ended}
 use Rattle.serve_commands.specs.declared.outcome.Tally.{Tally}
 use Rattle.serve_commands.specs.declared.outcome.Unserved.{Unserved}
@@ -22,8 +23,8 @@ abbrev pub most_of_a_tally : ℕ
 most_of_a_tally = 91
 
 abbrev pub house_line : HouseFault → List ℕ
-house_line house_fault.Failed = ended (codes "error: door fault")
-house_line house_fault.Memory = memory_line
+house_line house_fault.Failed = lines.door_fault
+house_line house_fault.Memory = lines.memory
 
 -- why a store of this name wasn't served
 abbrev pub line_of : List ℕ → Unserved → List ℕ

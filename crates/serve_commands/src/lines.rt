@@ -6,6 +6,7 @@ ghost use Rattle.serve_commands.specs.Lines as spec;
 
 use crate::outcome::{Tally, Unserved};
 use desk_team::HouseFault;
+use error_lines::{door_fault, memory};
 use hl_base::{Bytes, Memory, Text};
 use std::alloc::Global;
 use std::string::ToString;
@@ -40,8 +41,8 @@ fn house_line(alloc: Global, fault: HouseFault) -> Result<Bytes, Memory>
     ensures { IfOk result (λ line. line ≡ spec.house_line fault) }
 {
     match fault {
-        HouseFault::Failed => Ok(Bytes::copied(alloc, b"error: door fault\n")?),
-        HouseFault::Memory => Ok(Bytes::copied(alloc, b"error: memory\n")?),
+        HouseFault::Failed => door_fault(alloc),
+        HouseFault::Memory => memory(alloc),
     }
 }
 

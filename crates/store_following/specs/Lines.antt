@@ -1,9 +1,11 @@
 -- What is said of a source that was followed, and why one wasn't.
 use Rattle.std.specs.Prelude.{ℕ, List, [], ◌++◌, codes}
 use Rattle.std.specs.Fmt.{decimal}
+use Rattle.error_lines.specs.Lines as lines
+use Rattle.error_lines.specs.Lines.{ended}
 use Rattle.follower.specs.declared.fault.FrameFault.{FrameFault}
 use Rattle.follower.specs.declared.fault.FrameFault.TheVariants.{ReadFault, Cut, BadFrame, TooLong, Memory}
-use Rattle.store_text.specs.Refusals.{ended, line_of, status_of}
+use Rattle.store_text.specs.Refusals.{line_of, status_of}
 use Rattle.store_following.specs.declared.refusal.FollowRefusal.{FollowRefusal}
 use Rattle.store_following.specs.declared.refusal.FollowRefusal.TheVariants as refusal
 use Rattle.store_following.specs.declared.refusal.Followed.{Followed}
@@ -18,18 +20,12 @@ followed_line followed =
     ended (with_count (with_count (with_count (with_count [] (codes "revision ") followed.revision) (codes ", taken ") followed.tally.taken)
     (codes ", old ") followed.tally.old) (codes ", gaps ") followed.tally.gaps)
 
-abbrev pub kind_line : ℕ → List ℕ
-kind_line kind = ended (with_count [] (codes "error: frame: kind ") kind)
-
-abbrev pub limit_line : ℕ → ℕ → List ℕ
-limit_line said limit = ended (with_count (with_count [] (codes "error: limit: ") said) (codes " of ") limit)
-
 abbrev pub unread_line : FrameFault → List ℕ
-unread_line ReadFault = ended (codes "error: read fault")
-unread_line (Cut had) = ended (codes "error: frame: cut")
-unread_line (BadFrame kind) = kind_line kind
-unread_line (TooLong said limit) = limit_line said limit
-unread_line Memory = ended (codes "error: memory")
+unread_line ReadFault = lines.read_fault
+unread_line (Cut had) = lines.frame (codes "cut")
+unread_line (BadFrame kind) = lines.frame_kind kind
+unread_line (TooLong said limit) = lines.past_limit said limit
+unread_line Memory = lines.memory
 
 abbrev pub unread_status : FrameFault → ℕ
 unread_status ReadFault = 3
@@ -42,8 +38,8 @@ unread_status Memory = 6
 abbrev pub refusal_line : List ℕ → FollowRefusal → List ℕ
 refusal_line name (refusal.Store r) = line_of name r
 refusal_line name (refusal.Unread fault) = unread_line fault
-refusal_line name refusal.NoSnapshot = ended (codes "error: frame: no snapshot")
-refusal_line name refusal.Payload = ended (codes "error: frame: payload")
+refusal_line name refusal.NoSnapshot = lines.frame (codes "no snapshot")
+refusal_line name refusal.Payload = lines.frame (codes "payload")
 
 -- and its exit status
 abbrev pub refusal_status : FollowRefusal → ℕ

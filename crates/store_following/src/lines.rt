@@ -2,10 +2,11 @@
 ghost use Rattle.std.specs.Prelude.{◌≡◌, ◌++◌, ◌∷◌, [], IfOk};
 ghost use Rattle.std.specs.Fmt.{decimal};
 ghost use Rattle.std.specs.String.{string_bytes};
-ghost use Rattle.store_text.specs.Refusals.{ended as ended_line};
+ghost use Rattle.error_lines.specs.Lines.{ended as ended_line};
 ghost use Rattle.store_following.specs.Lines as spec;
 
 use crate::refusal::{FollowRefusal, Followed};
+use error_lines::{frame, frame_kind, memory, past_limit, read_fault};
 use follower::FrameFault;
 use hl_base::{Bytes, Memory, Text};
 use std::alloc::Global;
@@ -18,13 +19,6 @@ fn ended(mut line: String) -> Result<Bytes, Memory>
 {
     line.push_str("\n")?;
     Ok(Bytes::from_vec(line.into_bytes()))
-}
-
-/// A line.
-fn line_of(alloc: Global, text: &str) -> Result<Bytes, Memory>
-    ensures { IfOk result (λ line. line ≡ ended_line text.now) }
-{
-    ended(String::from_str(alloc, text)?)
 }
 
 /// A text with another one and a number behind it.
@@ -49,32 +43,16 @@ pub fn followed_line(alloc: Global, followed: &Followed) -> Result<Bytes, Memory
     ended(with_count(alloc, old, ", gaps ", tally.gaps)?)
 }
 
-/// A kind of frame that no record has.
-fn kind_line(alloc: Global, kind: u8) -> Result<Bytes, Memory>
-    ensures { IfOk result (λ line. line ≡ spec.kind_line kind) }
-{
-    let number = u64::from(kind);
-    ended(with_count(alloc, String::new(alloc), "error: frame: kind ", number)?)
-}
-
-/// A length past its limit.
-fn limit_line(alloc: Global, said: u64, limit: u64) -> Result<Bytes, Memory>
-    ensures { IfOk result (λ line. line ≡ spec.limit_line said limit) }
-{
-    let line = with_count(alloc, String::new(alloc), "error: limit: ", said)?;
-    ended(with_count(alloc, line, " of ", limit)?)
-}
-
 /// Why no frame is read.
 fn unread_line(alloc: Global, fault: FrameFault) -> Result<Bytes, Memory>
     ensures { IfOk result (λ line. line ≡ spec.unread_line fault) }
 {
     match fault {
-        FrameFault::ReadFault => line_of(alloc, "error: read fault"),
-        FrameFault::Cut { .. } => line_of(alloc, "error: frame: cut"),
-        FrameFault::BadFrame { kind } => kind_line(alloc, kind),
-        FrameFault::TooLong { said, limit } => limit_line(alloc, said, limit),
-        FrameFault::Memory => line_of(alloc, "error: memory"),
+        FrameFault::ReadFault => read_fault(alloc),
+        FrameFault::Cut { .. } => frame(alloc, "cut"),
+        FrameFault::BadFrame { kind } => frame_kind(alloc, u64::from(kind)),
+        FrameFault::TooLong { said, limit } => past_limit(alloc, said, limit),
+        FrameFault::Memory => memory(alloc),
     }
 }
 
@@ -85,8 +63,8 @@ pub fn follow_line(alloc: Global, name: &Text, refusal: FollowRefusal) -> Result
     match refusal {
         FollowRefusal::Store(refusal) => refusal_line(alloc, name, refusal),
         FollowRefusal::Unread(fault) => unread_line(alloc, fault),
-        FollowRefusal::NoSnapshot => line_of(alloc, "error: frame: no snapshot"),
-        FollowRefusal::Payload => line_of(alloc, "error: frame: payload"),
+        FollowRefusal::NoSnapshot => frame(alloc, "no snapshot"),
+        FollowRefusal::Payload => frame(alloc, "payload"),
     }
 }
 

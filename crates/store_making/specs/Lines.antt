@@ -1,18 +1,11 @@
 -- How it is said why a store of a journal isn't made or opened.
-use Rattle.std.specs.Prelude.{ℕ, List, ◌++◌, codes}
-use Rattle.std.specs.Fmt.{decimal}
-use Rattle.book.specs.FaultLine.{ended, fault_line}
+use Rattle.std.specs.Prelude.{ℕ, List}
+use Rattle.book.specs.FaultLine.{fault_line}
+use Rattle.error_lines.specs.Lines as lines
 use Rattle.refusals.specs.Errors.{fault_status}
 use Rattle.store_text.specs.Refusals.{line_of as store_line, status_of as store_status}
 use Rattle.store_making.specs.declared.refusal.JournalRefusal.{JournalRefusal}
 use Rattle.store_making.specs.declared.refusal.JournalRefusal.TheVariants as making
-
--- a count past its limit
-abbrev pub limit_line : ℕ → ℕ → List ℕ
-limit_line count limit = ended (codes "error: limit: " ++ decimal count ++ codes " of " ++ decimal limit)
-
-abbrev pub memory_line : List ℕ
-memory_line = ended (codes "error: memory")
 
 abbrev pub status_of : JournalRefusal → ℕ
 status_of (making.Store r) = store_status r
@@ -24,5 +17,5 @@ status_of making.Memory = 6
 abbrev pub line_of : List ℕ → JournalRefusal → List ℕ
 line_of name (making.Store r) = store_line name r
 line_of name (making.Load fault) = fault_line fault
-line_of name (making.TooLarge limit size) = limit_line size limit
-line_of name making.Memory = memory_line
+line_of name (making.TooLarge limit size) = lines.past_limit size limit
+line_of name making.Memory = lines.memory

@@ -4,29 +4,11 @@ ghost use Rattle.store_making.specs.Lines as spec;
 
 use crate::refusal::JournalRefusal;
 use book::print_fault;
+use error_lines::{memory, past_limit};
 use hl_base::{Bytes, Memory, Text};
 use refusals::status_for;
 use std::alloc::Global;
-use std::string::ToString;
 use store_text::{refusal_line, refusal_status};
-
-/// A count past its limit.
-fn limit_line(alloc: Global, count: u64, limit: u64) -> Result<Bytes, Memory>
-    ensures { IfOk result (λ line. line ≡ spec.limit_line count limit) }
-{
-    let mut line = String::from_str(alloc, "error: limit: ")?;
-    line.push_str(count.to_string(alloc)?.as_str())?;
-    line.push_str(" of ")?;
-    line.push_str(limit.to_string(alloc)?.as_str())?;
-    line.push_str("\n")?;
-    Ok(Bytes::from_vec(line.into_bytes()))
-}
-
-fn memory_line(alloc: Global) -> Result<Bytes, Memory>
-    ensures { IfOk result (λ line. line ≡ spec.memory_line) }
-{
-    Ok(Bytes::copied(alloc, b"error: memory\n")?)
-}
 
 /// The line that says why a store of this name isn't made or opened.
 pub fn journal_line(alloc: Global, name: &Text, refusal: &JournalRefusal) -> Result<Bytes, Memory>
@@ -35,8 +17,8 @@ pub fn journal_line(alloc: Global, name: &Text, refusal: &JournalRefusal) -> Res
     match refusal {
         JournalRefusal::Store(refusal) => refusal_line(alloc, name, *refusal),
         JournalRefusal::Load(fault) => print_fault(alloc, fault),
-        JournalRefusal::TooLarge { limit, size } => limit_line(alloc, *size, *limit),
-        JournalRefusal::Memory => memory_line(alloc),
+        JournalRefusal::TooLarge { limit, size } => past_limit(alloc, *size, *limit),
+        JournalRefusal::Memory => memory(alloc),
     }
 }
 

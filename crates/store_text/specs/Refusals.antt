@@ -1,7 +1,6 @@
 -- Why a store isn't read, opened or made, and how that is said.
-use Rattle.std.specs.Prelude.{ℕ, List, [], ◌∷◌, ◌++◌, codes, Option, Some, None, Result, Ok, Err}
-use Rattle.std.specs.Fmt.{decimal}
-use Rattle.hl_base.specs.Ascii.{line_feed}
+use Rattle.std.specs.Prelude.{ℕ, List, Option, Some, None, Result, Ok, Err}
+use Rattle.error_lines.specs.Lines as lines
 use Rattle.hl_base.specs.declared.shelf.ShelfFault.{ShelfFault}
 use Rattle.hl_base.specs.declared.shelf.ShelfFault.TheVariants as shelf
 use Rattle.text_store.specs.declared.fault.StoreFault.{StoreFault}
@@ -81,20 +80,13 @@ status_of refusal.Memory = 6
 status_of (refusal.Full size limit) = 7
 status_of _ = 8
 
--- a line with its end
-abbrev pub ended : List ℕ → List ℕ
-ended line = line ++ (line_feed ∷ [])
-
-abbrev pub full_line : ℕ → ℕ → List ℕ
-full_line size limit = ended (codes "error: full: " ++ decimal size ++ codes " of " ++ decimal limit)
-
 -- the line, of a store of this name
 abbrev pub line_of : List ℕ → StoreRefusal → List ℕ
-line_of name refusal.Absent = ended (codes "error: absent: " ++ name)
-line_of name (refusal.NotAStore at) = ended (codes "error: not a store: " ++ decimal at)
-line_of name (refusal.Newer version) = ended (codes "error: newer: " ++ decimal version)
-line_of name (refusal.Exists len) = ended (codes "error: exists: " ++ decimal len)
-line_of name (refusal.Full size limit) = full_line size limit
-line_of name refusal.ReadFault = ended (codes "error: read fault")
-line_of name refusal.DiskFault = ended (codes "error: disk fault")
-line_of name refusal.Memory = ended (codes "error: memory")
+line_of name refusal.Absent = lines.absent name
+line_of name (refusal.NotAStore at) = lines.not_a_store at
+line_of name (refusal.Newer version) = lines.newer version
+line_of name (refusal.Exists len) = lines.exists len
+line_of name (refusal.Full size limit) = lines.full size limit
+line_of name refusal.ReadFault = lines.read_fault
+line_of name refusal.DiskFault = lines.disk_fault
+line_of name refusal.Memory = lines.memory
