@@ -107,13 +107,6 @@ pub fn read_fault(alloc: Global) -> Result<Bytes, Memory>
     line(alloc, "error: read fault")
 }
 
-/// A write that failed.
-pub fn write_fault(alloc: Global) -> Result<Bytes, Memory>
-    ensures { IfOk result (λ line. line ≡ spec.write_fault) }
-{
-    line(alloc, "error: write fault")
-}
-
 /// A call of a disk that failed.
 pub fn disk_fault(alloc: Global) -> Result<Bytes, Memory>
     ensures { IfOk result (λ line. line ≡ spec.disk_fault) }
@@ -133,13 +126,6 @@ pub fn memory(alloc: Global) -> Result<Bytes, Memory>
     ensures { IfOk result (λ line. line ≡ spec.memory) }
 {
     line(alloc, "error: memory")
-}
-
-/// A connection that ended badly.
-pub fn connection(alloc: Global) -> Result<Bytes, Memory>
-    ensures { IfOk result (λ line. line ≡ spec.connection) }
-{
-    line(alloc, "error: connection")
 }
 
 /// An edit that needs more than is allowed, as the words of `--allow` say both.
