@@ -1,6 +1,7 @@
 pub mod Building
 pub mod Columns
 pub mod Drafts
+pub mod FaultLine
 pub mod Formats
 pub mod Forms
 pub mod Importing

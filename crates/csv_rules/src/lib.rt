@@ -4,6 +4,7 @@
 mod building;
 mod columns;
 mod drafts;
+mod fault_line;
 mod faults;
 mod formats;
 mod forms;
@@ -14,6 +15,7 @@ mod reading;
 mod references;
 pub mod words;
 
+pub use fault_line::rules_line;
 pub use faults::RulesFault;
 pub use importing::{import_laws, new_ones};
 pub use kinds::{
