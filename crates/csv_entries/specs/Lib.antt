@@ -2,6 +2,7 @@ pub mod Amounts
 pub mod Blocks
 pub mod Conversion
 pub mod Dates
+pub mod FaultLine
 pub mod Judging
 pub mod Numbered
 pub mod Ordering

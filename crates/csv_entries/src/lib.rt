@@ -5,6 +5,7 @@ pub mod amounts;
 pub mod blocks;
 mod conversion;
 mod dates;
+mod fault_line;
 mod faults;
 pub mod fields;
 pub mod judging;
@@ -15,4 +16,5 @@ mod spaces;
 mod values;
 
 pub use conversion::convert;
+pub use fault_line::convert_line;
 pub use faults::ConvertFault;
