@@ -1,9 +1,9 @@
 -- The lines that are written to the error output.
-use Rattle.std.specs.Prelude.{ℕ, List, ◌++◌, codes}
-use Rattle.std.specs.Fmt.{decimal}
+use Rattle.std.specs.Prelude.{ℕ, List, [], ◌++◌, codes}
 use Rattle.book.specs.declared.fault.Cause.{Cause}
 use Rattle.book.specs.declared.fault.Cause.TheVariants.{TooLong}
-use Rattle.book.specs.FaultLine.{ended, fault_line}
+use Rattle.book.specs.FaultLine.{fault_line}
+use Rattle.error_lines.specs.Lines as lines
 use Rattle.generated.specs.declared.fault.GenFault.{GenFault}
 use Rattle.generated.specs.declared.fault.GenFault.TheVariants as gen_fault
 use Rattle.plan_commands.specs.declared.fault.PlanFault.{PlanFault}
@@ -17,63 +17,43 @@ use Rattle.refusals.specs.declared.refusal.PatternOf.TheVariants as pattern_of
 
 -- no command
 abbrev pub usage_line : List ℕ
-usage_line = ended (codes "error: usage")
-
--- a line that ends with what is wrong
-abbrev pub line_with : List ℕ → List ℕ → List ℕ
-line_with front word = ended (front ++ word)
-
--- a line that ends with a number
-abbrev pub numbered : List ℕ → ℕ → List ℕ
-numbered front number = ended (front ++ decimal number)
+usage_line = lines.usage []
 
 -- a word that has no place
 abbrev pub usage_word_line : List ℕ → List ℕ
-usage_word_line word = line_with (codes "error: usage: ") word
-
--- two words that exclude each other
-abbrev pub conflict_line : List ℕ → List ℕ → List ℕ
-conflict_line a b = ended (codes "error: usage: " ++ a ++ codes " with " ++ b)
+usage_word_line word = lines.ended (codes "error: usage: " ++ word)
 
 -- a word that is no term of a query
 abbrev pub term_line : List ℕ → List ℕ
-term_line word = line_with (codes "error: term: ") word
-
--- the line of an automated rule of which a word is no term
-abbrev pub rule_line : ℕ → List ℕ
-rule_line line = numbered (codes "error: rule line ") line
+term_line word = lines.bad_term word
 
 -- a pattern that isn't built: one of a word, or one of the automated rule at a line
 abbrev pub pattern_line : PatternOf → List ℕ
-pattern_line (pattern_of.Word word) = line_with (codes "error: pattern: ") word
-pattern_line (pattern_of.Rule line) = numbered (codes "error: rule pattern line ") line
-
--- a symbol whose amounts are out of range
-abbrev pub range_line : List ℕ → List ℕ
-range_line symbol = line_with (codes "error: range: ") symbol
+pattern_line (pattern_of.Word word) = lines.refused_pattern word
+pattern_line (pattern_of.Rule line) = lines.refused_rule_pattern line
 
 -- a count past its limit
 abbrev pub limit_line : ℕ → ℕ → List ℕ
-limit_line count limit = ended (codes "error: limit: " ++ decimal count ++ codes " of " ++ decimal limit)
+limit_line count limit = lines.past_limit count limit
 
 -- a name under which there is no file
 abbrev pub absent_line : List ℕ → List ℕ
-absent_line name = line_with (codes "error: absent: ") name
+absent_line name = lines.absent name
 
 abbrev pub read_fault_line : List ℕ
-read_fault_line = ended (codes "error: read fault")
+read_fault_line = lines.read_fault
 
 abbrev pub disk_fault_line : List ℕ
-disk_fault_line = ended (codes "error: disk fault")
+disk_fault_line = lines.disk_fault
 
 abbrev pub write_fault_line : List ℕ
-write_fault_line = ended (codes "error: write fault")
+write_fault_line = lines.write_fault
 
 abbrev pub connection_line : List ℕ
-connection_line = ended (codes "error: connection")
+connection_line = lines.connection
 
 abbrev pub memory_line : List ℕ
-memory_line = ended (codes "error: memory")
+memory_line = lines.memory
 
 -- the exit status of a text with a fault: 7 where an entry is too long, else 1
 abbrev pub fault_status : Cause → ℕ
@@ -82,14 +62,14 @@ fault_status _ = 1
 
 -- why a report can't be made
 abbrev pub report_line : ReportFault → List ℕ
-report_line (report_fault.Range symbol) = range_line symbol
+report_line (report_fault.Range symbol) = lines.out_of_range symbol
 report_line (report_fault.TooWide columns limit) = limit_line columns limit
 report_line report_fault.Memory = memory_line
 
 abbrev pub words_line : WordsFault → List ℕ
 words_line (words_fault.NoCommand word) = usage_word_line word
 words_line (words_fault.BadOption word) = usage_word_line word
-words_line (words_fault.Conflict a b) = conflict_line a b
+words_line (words_fault.Conflict a b) = lines.conflict a b
 words_line (words_fault.BadTerm word) = term_line word
 words_line (words_fault.PatternRefused word) = pattern_line (pattern_of.Word word)
 words_line (words_fault.Report fault) = report_line fault
@@ -107,7 +87,7 @@ words_status _ = 1
 -- why rules make no book
 abbrev pub rules_line : GenFault → List ℕ
 rules_line (gen_fault.Journal fault) = fault_line fault
-rules_line (gen_fault.BadTerm line) = rule_line line
+rules_line (gen_fault.BadTerm line) = lines.bad_rule line
 rules_line (gen_fault.PatternRefused line) = pattern_line (pattern_of.Rule line)
 rules_line (gen_fault.TooMany count limit) = limit_line count limit
 rules_line gen_fault.Memory = memory_line
