@@ -9,6 +9,7 @@ pub mod Openings
 pub mod Permissions
 pub mod Previews
 pub mod Reading
+pub mod ReplyLines
 pub mod Reports
 pub mod Stands
 pub mod States

@@ -1,9 +1,17 @@
 //! What the machine replies.
+ghost use Rattle.std.specs.Prelude.{◌≡◌, IfOk};
+ghost use Rattle.desk.specs.ReplyLines.{IsEditReply, line_of};
+
 use crate::csv_fault::CsvFault;
 use crate::request::Allow;
-use book::Fault;
-use hl_base::Bytes;
+use book::{Fault, print_fault};
+use error_lines::{
+    bad_base, disk_fault, forbidden, full, memory, no_item, not_transactions, past_limit, stale,
+    with_number,
+};
+use hl_base::{Bytes, Memory};
 use plan_commands::PlanFault;
+use std::alloc::Global;
 
 /// What the machine replies.
 #[derive(Debug, Drop)]
@@ -40,4 +48,29 @@ pub enum Reply {
     Full { size: u64, limit: u64 },
     /// Memory ran out.
     Memory,
+}
+
+impl Reply {
+    /// The line that says what came of an edit, or why it was refused. Fails only for want of memory.
+    pub fn line(&self, alloc: Global) -> Result<Bytes, Memory>
+        requires { IsEditReply self.now }
+        ensures { IfOk result (λ line. line ≡ line_of self.now) }
+    {
+        match self {
+            Reply::Done { revision } => with_number(alloc, "revision ", *revision),
+            Reply::Same { revision } => with_number(alloc, "unchanged, revision ", *revision),
+            Reply::Text { .. } | Reply::Words(_) => unreachable!(),
+            Reply::Forbidden { need, have } => forbidden(alloc, need.word(), have.word()),
+            Reply::Stale { base, current } => stale(alloc, *base, *current),
+            Reply::BadBase { base, current } => bad_base(alloc, *base, *current),
+            Reply::NoSuchItem { n, count } => no_item(alloc, *n, *count),
+            Reply::NotTransactions { line } => not_transactions(alloc, *line),
+            Reply::Load(fault) => print_fault(alloc, fault),
+            Reply::TooLarge { limit, size } => past_limit(alloc, *size, *limit),
+            Reply::DiskFault { .. } => disk_fault(alloc),
+            Reply::Csv(fault) => fault.line(alloc),
+            Reply::Full { size, limit } => full(alloc, *size, *limit),
+            Reply::Memory => memory(alloc),
+        }
+    }
 }
