@@ -24,7 +24,8 @@ use Rattle.report_commands.specs.declared.fault.WordsFault.TheVariants as words
 use Rattle.web_messages.specs.declared.refusal.Refusal.{Refusal}
 use Rattle.web_messages.specs.declared.refusal.Refusal.TheVariants as refusal
 use Rattle.desk.specs.Entries.{Entry}
-use Rattle.web_desk.specs.Lines.{ended, body_of}
+use Rattle.error_lines.specs.Lines.{ended}
+use Rattle.web_desk.specs.Lines.{body_of}
 use Rattle.web_desk.specs.declared.own_reply.OwnReply.{OwnReply}
 use Rattle.web_desk.specs.declared.own_reply.OwnReply.TheVariants as own
 

@@ -3,9 +3,8 @@ ghost use Rattle.std.specs.Prelude.{◌≡◌, ◌++◌, IfOk, None, []};
 ghost use Rattle.std.specs.String.{string_bytes};
 ghost use Rattle.web_desk.specs.Answers.{message, phrase_of, status_line, opening_text, head_text, revision_field, closing_field, policy_field, page_opening, page_head, page_message, own_message, refusal_status, refusal_line, allow_field, refusal_message, report_status, words_status, gen_status, plan_status, rules_status, convert_status, csv_status, status_of, said_revision, reply_message};
 
-use crate::lines::{line_of, plan_fault_line};
+use crate::lines::plan_line;
 use crate::own_reply::OwnReply;
-use book::print_fault;
 use csv_entries::ConvertFault;
 use csv_rules::RulesFault;
 use desk::{CsvFault, Reply};
@@ -358,17 +357,13 @@ pub fn desk_reply(
         Reply::Text { bytes, .. } => {
             reply_bytes(alloc, status, said, "", closing, bytes.as_slice())
         }
-        Reply::Load(fault) => {
-            let line = print_fault(alloc, fault)?;
-            reply_bytes(alloc, status, said, "", closing, line.as_slice())
-        }
         Reply::Words(fault) => {
-            let line = plan_fault_line(alloc, fault)?;
+            let line = plan_line(alloc, fault)?;
             reply_bytes(alloc, status, said, "", closing, line.as_slice())
         }
         _ => {
-            let line = line_of(alloc, reply)?;
-            reply_bytes(alloc, status, said, "", closing, line.as_bytes())
+            let line = reply.line(alloc)?;
+            reply_bytes(alloc, status, said, "", closing, line.as_slice())
         }
     }
 }
