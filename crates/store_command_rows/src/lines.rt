@@ -3,14 +3,14 @@ use desk::Reply;
 use hl_base::Text;
 use std::alloc::Global;
 use std::test::Fail;
-use store_commands::{reply_line, reply_status};
+use store_commands::reply_status;
 use store_making::{journal_line, journal_status, of_store};
 use store_text::StoreRefusal;
 
 /// A revision that was made is said so.
 fn is_said(alloc: Global, revision: u64, wanted: &[u8]) -> Result<(), Fail> {
     let reply = Reply::Done { revision };
-    let line = reply_line(alloc, &reply)?;
+    let line = reply.line(alloc)?;
     if reply_status(&reply) == 0 && line.as_slice() == wanted {
         Ok(())
     } else {

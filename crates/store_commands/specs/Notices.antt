@@ -2,11 +2,11 @@
 use Rattle.std.specs.Prelude.{ℕ, List, [], ◌++◌, codes}
 use Rattle.std.specs.Fmt.{decimal}
 use Rattle.std.specs.List.{flat_map}
+use Rattle.error_lines.specs.Lines.{ended}
 use Rattle.csv_rules.specs.References.{unknown_columns}
 use Rattle.csv_rules.specs.declared.references.Reference.{Reference}
 use Rattle.desk.specs.declared.request.Request.{Request}
 use Rattle.desk.specs.declared.request.Request.TheVariants as request
-use Rattle.store_commands.specs.Replies.{ended}
 
 -- a line of rules refers to a column that there isn't
 abbrev pub notice_line : Reference → List ℕ

@@ -9,6 +9,6 @@ mod preview;
 
 pub use asking::of_opening;
 pub use edit::{Replacement, StoreEdit, edit_store, replace_store};
-pub use lines::{reply_line, reply_status};
+pub use lines::reply_status;
 pub use notices::import_notices;
 pub use preview::{Preview, preview_edit};
