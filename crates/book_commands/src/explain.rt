@@ -14,11 +14,12 @@ ghost use Rattle.book_commands.specs.TextFaults as spec;
 
 use balancing::{CheckFault, check};
 use book::{Book, Fault, Items};
+use error_lines::past_limit;
 use explanations::explain;
 use hl_base::{Bytes, ITEM_LIMIT, Piece, Steps, cut_items};
 use journal_reader::ReadFault;
 use parallel_reading::read_items;
-use refusals::{Refusal, past_limit, status_for};
+use refusals::{Refusal, status_for};
 use std::alloc::Global;
 use std::sync::ledger::Ledger;
 use std::thread::Threads;

@@ -8,36 +8,25 @@ ghost use Rattle.refusals.specs.Refusing.{IsJudgedStatus, IsOfText, Refuses};
 ghost use Rattle.book_commands.specs.FaultLines as spec;
 
 use book_care::{CloseFault, StrictFault};
+use error_lines::{in_log, memory, past_limit, with_text};
 use hl_base::{Bytes, Memory};
 use hl_time::{DAY_END, Day, print_day};
-use refusals::{Refusal, line_with, memory_line, past_limit};
+use refusals::Refusal;
 use std::alloc::Global;
 use std::string::ToString;
 use time_logs::LogFault;
-
-/// What is wrong in a line of a log.
-fn in_log(alloc: Global, line: u64, cause: &str) -> Result<Bytes, Memory>
-    ensures { IfOk result (λ text. text ≡ spec.in_log line cause.now) }
-{
-    let mut text = String::from_str(alloc, "error: log line ")?;
-    text.push_str(line.to_string(alloc)?.as_str())?;
-    text.push_str(": ")?;
-    text.push_str(cause)?;
-    text.push_str("\n")?;
-    Ok(Bytes::from_vec(text.into_bytes()))
-}
 
 /// Why a log isn't read.
 fn log_line(alloc: Global, fault: LogFault) -> Result<Bytes, Memory>
     ensures { IfOk result (λ line. line ≡ spec.log_line fault) }
 {
     match fault {
-        LogFault::BadLine { line } => in_log(alloc, line, "bad line"),
-        LogFault::Order { line } => in_log(alloc, line, "order"),
-        LogFault::Backwards { line } => in_log(alloc, line, "backwards"),
-        LogFault::Open { line } => in_log(alloc, line, "open"),
+        LogFault::BadLine { line } => in_log(alloc, line, ": bad line"),
+        LogFault::Order { line } => in_log(alloc, line, ": order"),
+        LogFault::Backwards { line } => in_log(alloc, line, ": backwards"),
+        LogFault::Open { line } => in_log(alloc, line, ": open"),
         LogFault::TooMany { count, limit } => past_limit(alloc, count, limit),
-        LogFault::Memory => memory_line(alloc),
+        LogFault::Memory => memory(alloc),
     }
 }
 
@@ -134,7 +123,7 @@ fn strict_line(alloc: Global, fault: &StrictFault) -> Result<Bytes, Memory>
             said_of(alloc, *line, b"undeclared tag ", name.as_bytes())
         }
         StrictFault::Dates { line, before, day } => dates_line(alloc, *line, *before, *day),
-        StrictFault::Memory => memory_line(alloc),
+        StrictFault::Memory => memory(alloc),
     }
 }
 
@@ -167,10 +156,14 @@ fn close_line(alloc: Global, fault: &CloseFault) -> Result<Bytes, Memory>
 {
     match fault {
         CloseFault::Later { line, day } => later_line(alloc, *line, *day),
-        CloseFault::Renamed { account } => line_with(alloc, "error: account: ", account),
-        CloseFault::Bare { account } => line_with(alloc, "error: no symbol: ", account),
-        CloseFault::Fine { account: _, symbol } => line_with(alloc, "error: decimals: ", symbol),
-        CloseFault::Memory => memory_line(alloc),
+        CloseFault::Renamed { account } => with_text(alloc, "error: account: ", account.as_str()),
+        CloseFault::Bare { account } => with_text(alloc, "error: no symbol: ", account.as_str()),
+        CloseFault::Fine { account: _, symbol } => with_text(
+            alloc,
+            "error: decimals: ",
+            symbol.as_str(),
+        ),
+        CloseFault::Memory => memory(alloc),
     }
 }
 

@@ -14,12 +14,13 @@ ghost use Rattle.book_commands.specs.Texts.{Making, judged_text, made_loaded, ma
 use balancing::{CheckFault, check};
 use book::{Book, Items, Styles};
 use book_care::Declarations;
+use error_lines::past_limit;
 use hl_base::{ITEM_LIMIT, Piece, Steps, cut_items};
 use journal_reader::ReadFault;
 use parallel_reading::read_items;
 use prices::Prices;
 use query::Types;
-use refusals::{Refusal, past_limit, refuse_fault};
+use refusals::{Refusal, refuse_fault};
 use std::alloc::Global;
 use std::sync::ledger::Ledger;
 use std::thread::Threads;
