@@ -14,14 +14,14 @@ use hl_base::{Bytes, Memory, Shelf, Sink, Source, Text};
 use query::Maker;
 use refusals::Refusal;
 use std::alloc::Global;
-use store_commands::{reply_line, reply_status};
+use store_commands::reply_status;
 
 /// The line of a reply, with lines below it.
 fn line_above(alloc: Global, reply: &Reply, lines: &Bytes) -> Result<Bytes, Memory>
     requires { IsEditReply reply.now }
     ensures { IfOk result (λ text. text ≡ line_of reply.now ++ lines.now) }
 {
-    let line = reply_line(alloc, reply)?;
+    let line = reply.line(alloc)?;
     let mut text = line.into_vec();
     text.extend_from_slice(lines.as_slice())?;
     Ok(Bytes::from_vec(text))

@@ -6,8 +6,9 @@ ghost use Rattle.command_line.specs.Answers.{FindsText, IsOfFile};
 ghost use Rattle.command_line.specs.Files.{LoadsFile};
 ghost use Rattle.command_line.specs.Sources.{file_within};
 
+use error_lines::{absent, past_limit};
 use hl_base::{Bytes, Shelf, ShelfFault, Text};
-use refusals::{Refusal, absent, past_limit};
+use refusals::Refusal;
 use std::alloc::Global;
 
 /// The refusal of a file with more bytes than it may have.
@@ -30,7 +31,7 @@ fn no_file(alloc: Global, name: &Text) -> Refusal
     ensures kind { IsOfFile result }
     ensures read { result ≢ Refusal.ReadFault }
 {
-    match absent(alloc, name) {
+    match absent(alloc, name.as_str()) {
         Ok(line) => Refusal::Line { status: 8, line },
         Err(_) => Refusal::Memory,
     }

@@ -12,9 +12,10 @@ use crate::files::load_file;
 use crate::outside::Outside;
 use crate::stored::load_store;
 use command_words::Origin;
+use error_lines::past_limit;
 use hl_base::{Bytes, ReadAllFault, Shelf, Sink, Source, TEXT_LIMIT, read_all};
 use query::Maker;
-use refusals::{Refusal, past_limit};
+use refusals::Refusal;
 use std::alloc::Global;
 
 /// The refusal of a text with more bytes than it may have.

@@ -22,7 +22,7 @@ use query::Maker;
 use refusals::Refusal;
 use std::alloc::Global;
 use std::sync::ledger::Ledger;
-use store_commands::{Replacement, StoreEdit, edit_store, replace_store, reply_line, reply_status};
+use store_commands::{Replacement, StoreEdit, edit_store, replace_store, reply_status};
 use store_making::{JournalRefusal, init_store, journal_line, journal_status};
 
 /// The most bytes of a file that is imported, and of its rules.
@@ -92,7 +92,7 @@ pub(crate) fn answer_reply(alloc: Global, reply: &Reply) -> Result<Bytes, Refusa
     ensures kind { IfErr result spec.IsOfStored }
 {
     let status = reply_status(reply);
-    match reply_line(alloc, reply) {
+    match reply.line(alloc) {
         Ok(line) => told_line(status, line),
         Err(Memory) => Err(Refusal::Memory),
     }

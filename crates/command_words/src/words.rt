@@ -22,7 +22,7 @@ use book_commands::Work;
 use hl_base::{Bytes, Memory, Text};
 use hl_time::Day;
 use plan_commands::read_program_report;
-use refusals::{Refusal, no_command, words_line};
+use refusals::{Refusal, words_line};
 use report_commands::{Asked, WordsFault};
 use report_options::Given;
 use std::alloc::Global;
@@ -141,7 +141,7 @@ fn fault_line(alloc: Global, fault: &UsageFault) -> Result<Bytes, Memory>
 {
     match fault {
         UsageFault::Words(fault) => words_line(alloc, fault),
-        UsageFault::Missing => no_command(alloc),
+        UsageFault::Missing => error_lines::usage(alloc, ""),
     }
 }
 
@@ -150,7 +150,7 @@ fn usage(alloc: Global, words: &[Text], fault: &UsageFault) -> Result<Bytes, Mem
     ensures { IfOk result (λ line. line ≡ spec.usage_of words.now fault.now) }
 {
     match words {
-        [] => no_command(alloc),
+        [] => error_lines::usage(alloc, ""),
         [_, ..] => fault_line(alloc, fault),
     }
 }

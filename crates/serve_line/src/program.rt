@@ -14,10 +14,11 @@ use crate::laws::histories_are_answered;
 use crate::words::{NoReading, read_serve};
 use command_line::{Outside, Status, run_waiting};
 use desk_team::House;
+use error_lines::usage;
 use hl_base::{Memory, Shelf, Sink, Source, Steps, Text};
 use hl_time::Day;
 use query::Maker;
-use refusals::{Refusal, no_command};
+use refusals::Refusal;
 use serve_commands::{Ended, serve};
 use std::alloc::Global;
 use std::sync::Wait;
@@ -54,7 +55,7 @@ fn asks_serve(words: &[Text]) -> bool
 fn refuse_usage(alloc: Global) -> Refusal
     ensures { Refuses result 2 usage_line }
 {
-    match no_command(alloc) {
+    match usage(alloc, "") {
         Ok(line) => Refusal::Line { status: 2, line },
         Err(Memory) => Refusal::Memory,
     }
