@@ -1,6 +1,7 @@
 -- Facts on the lines of a text.
-use Rattle.std.proofs.Common.{◌≡◌, ℕ, ◌+◌, ◌<◌, Bool, true, false, not, eqb, List, [], ◌∷◌, length, take, drop, min, refl, ap, ◌∙◌, arith, length-drop, drop-drop}
+use Rattle.std.proofs.Common.{◌≡◌, ℕ, ◌+◌, ◌<◌, ◌≤◌, Bool, true, false, not, eqb, List, [], ◌∷◌, length, take, drop, min, refl, ap, ◌∙◌, arith, length-drop, drop-drop}
 use Rattle.std.specs.List.{take_while}
+use Rattle.std.proofs.lemmas.List.{drop_all}
 use Rattle.std.proofs.lemmas.List.Sums.{take_while-cons}
 use Rattle.hl_base.specs.Lines.{onto, lines_of, first_line}
 
@@ -46,3 +47,15 @@ pub lines_at : (text : List ℕ) (at : ℕ) → at < length text → lines_of (d
 lines_at text at h =
     lines_split (drop at text) (omega (arith, length-drop at text))
     ∙ ap (λ rest. first_line (drop at text) ∷ lines_of rest) (drop-drop (length (first_line (drop at text))) at text)
+
+-- one more line
+pub line_more : (text : List ℕ) (at next lines whole : ℕ) → at < length text → next ≡ at + length (first_line (drop at text)) → lines + length (lines_of (drop at text)) ≡ whole → lines + 1 + length (lines_of (drop next text)) ≡ whole
+line_more text at next lines whole lt e h =
+    let cut = ap length (lines_at text at lt) in
+    let there : length (lines_of (drop next text)) ≡ length (lines_of (drop (at + length (first_line (drop at text))) text)) = ap (λ (n : ℕ). length (lines_of (drop n text))) e in
+    omega (arith, cut, there, h)
+
+pub all_counted : (text : List ℕ) (at lines whole : ℕ) → length text ≤ at → lines + length (lines_of (drop at text)) ≡ whole → lines ≡ whole
+all_counted text at lines whole le h =
+    let none : length (lines_of (drop at text)) ≡ 0 = ap (λ (t : List ℕ). length (lines_of t)) (drop_all at text le) in
+    omega (arith, none, h)

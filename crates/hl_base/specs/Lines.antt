@@ -1,5 +1,5 @@
 -- The lines of a text.
-use Rattle.std.specs.Prelude.{ℕ, ◌-◌, ◌&&◌, not, List, [], ◌∷◌, ◌==◌, nat_lt, if◌then◌else◌, length, take_while, slice_index}
+use Rattle.std.specs.Prelude.{ℕ, ◌-◌, Bool, ◌&&◌, not, List, [], ◌∷◌, ◌==◌, nat_lt, if◌then◌else◌, length, take_while, slice_index}
 use Rattle.hl_base.specs.Ascii.{line_feed, carriage_return}
 
 -- a byte before the first of some lines
@@ -22,3 +22,7 @@ abbrev pub content_length : List ℕ → ℕ
 content_length text =
     let before = length (take_while (λ b. not (b == line_feed)) text) in
     if nat_lt 0 before && (slice_index text (before - 1) == carriage_return) then before - 1 else before
+
+-- the text ends with LF
+abbrev pub ends_line : List ℕ → Bool
+ends_line text = slice_index text (length text - 1) == line_feed

@@ -1,6 +1,6 @@
 //! One line of a text, as the cut into items sees it.
 ghost use Rattle.std.specs.Prelude.{◌≡◌, ◌<◌, ◌≤◌, ◌+◌, length, drop, codes, take_while, find, not, ◌==◌};
-ghost use Rattle.hl_base.specs.Lines.{first_line, content_length};
+ghost use Rattle.hl_base.specs.Lines.{first_line, content_length, ends_line, lines_of};
 ghost use Rattle.hl_base.specs.Items.{is_white, is_blank, is_remark, is_indented, is_word, begins_entry, closes_block, opens_block, kind_of};
 
 use crate::ascii::{is_digit, is_white};
@@ -37,6 +37,31 @@ pub fn line_at(text: &[u8], at: usize) -> (&[u8], usize)
     let (_, rest) = text.split_at(at);
     let (line, _) = rest.split_at(next - at);
     (line, next)
+}
+
+/// How many lines a text has.
+pub fn count_lines(text: &[u8]) -> u64
+    ensures count { result ≡ length (lines_of text.now) }
+    ensures few { result ≤ length text.now }
+{
+    let mut at = 0;
+    let mut lines = 0;
+    while at < text.len() {
+        let (_, next) = line_at(text, at);
+        at = next;
+        lines += 1;
+    }
+    lines
+}
+
+/// Whether a text ends with LF.
+pub fn ends_line(text: &[u8]) -> bool
+    ensures { result ≡ ends_line text.now }
+{
+    match text {
+        [] => false,
+        [.., last] => *last == b'\n',
+    }
 }
 
 /// How many bytes stand before the first LF, or before the end.
