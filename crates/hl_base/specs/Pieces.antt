@@ -12,6 +12,18 @@ pub record IsWithin (size : ℕ) (piece : Piece) : Type 0 where
   pub bytes : piece.at + piece.len ≤ size
   pub lines : piece.line + piece.len ≤ size + 1
 
+-- the piece is an entry
+abbrev pub is_entry : Kind → Bool
+is_entry Entry = true
+is_entry Gap = false
+is_entry Block = false
+is_entry Head = false
+is_entry Stray = false
+
+-- a piece of what is put behind so many bytes and lines
+abbrev pub shifted : ℕ → ℕ → Piece → Piece
+shifted at lines p = record { at = at + p.at; len = p.len; line = lines + p.line; kind = p.kind }
+
 -- the bytes of some pieces
 abbrev pub bytes_in : List Piece → ℕ
 bytes_in pieces = sum_by (λ p. p.len) pieces

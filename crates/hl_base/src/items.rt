@@ -1,8 +1,8 @@
 //! A text's items: how a journal's text is cut into pieces, by its lines.
-ghost use Rattle.std.specs.Prelude.{◌≡◌, ◌≤◌, ◌+◌, IfOk, length};
+ghost use Rattle.std.specs.Prelude.{◌≡◌, ◌<◌, ◌≤◌, ◌+◌, ◌^◌, IfOk, length};
 ghost use Rattle.std.specs.List.{AllByRecursion};
 ghost use Rattle.hl_base.specs.Items.{items_of};
-ghost use Rattle.hl_base.specs.Pieces.{IsWithin, bytes_in, goes_on, closes, lines_left, bytes_left};
+ghost use Rattle.hl_base.specs.Pieces.{IsWithin, bytes_in, goes_on, closes, lines_left, bytes_left, is_entry, shifted};
 
 use crate::fault::Memory;
 use crate::line::{closes_block, is_indented, is_remark, kind_of, line_at};
@@ -24,6 +24,18 @@ pub enum Kind {
     Stray,
 }
 
+impl Kind {
+    /// Whether a piece of the kind is an entry.
+    pub fn is_entry(self) -> bool
+        ensures { result ≡ is_entry self }
+    {
+        match self {
+            Kind::Entry => true,
+            Kind::Gap | Kind::Block | Kind::Head | Kind::Stray => false,
+        }
+    }
+}
+
 /// One piece of a text: where it begins, in bytes, how many bytes it has, the number of its first line,
 /// counted from 1, and what it is.
 #[derive(Clone, Copy, Debug, PartialEq, Eq)]
@@ -32,6 +44,22 @@ pub struct Piece {
     pub len: u64,
     pub line: u64,
     pub kind: Kind,
+}
+
+impl Piece {
+    /// The piece, where it stands in what is put behind so many bytes and lines.
+    pub fn shifted(&self, at: u64, lines: u64) -> Piece
+        requires at { at + self.now.at < 2 ^ 64 }
+        requires lines { lines + self.now.line < 2 ^ 64 }
+        ensures { result ≡ shifted at lines self.now }
+    {
+        Piece {
+            at: at + self.at,
+            len: self.len,
+            line: lines + self.line,
+            kind: self.kind,
+        }
+    }
 }
 
 /// Cuts a text into its items: from the front, the next piece is the first kind that fits.
