@@ -1,5 +1,5 @@
 //! Owned bytes, which contracts see as a list.
-ghost use Rattle.std.specs.Prelude.{◌≡◌, IfOk, List, ℕ, [], length};
+ghost use Rattle.std.specs.Prelude.{◌≡◌, ◌++◌, IfOk, List, ℕ, [], length};
 
 use crate::fault::Memory;
 use std::alloc::Global;
@@ -55,4 +55,14 @@ impl Bytes {
     {
         self.items.as_slice()
     }
+}
+
+/// Two texts, one behind the other.
+pub fn joined(alloc: Global, front: &[u8], back: &[u8]) -> Result<Vec<u8>, Memory>
+    ensures { IfOk result (λ both. both.items ≡ front.now ++ back.now) }
+{
+    let mut both = Vec::new(alloc);
+    both.extend_from_slice(front)?;
+    both.extend_from_slice(back)?;
+    Ok(both)
 }

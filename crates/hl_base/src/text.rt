@@ -1,5 +1,5 @@
 //! An owned text in UTF-8, which contracts see as its bytes.
-ghost use Rattle.std.specs.Prelude.{◌≡◌, IfOk, []};
+ghost use Rattle.std.specs.Prelude.{◌≡◌, ◌++◌, IfOk, []};
 ghost use Rattle.std.specs.String.{string_bytes};
 
 use crate::fault::Memory;
@@ -54,6 +54,15 @@ impl Text {
         Ok(Text {
             inner: Kept::Apart(String::from_str(alloc, text)?),
         })
+    }
+
+    /// Two texts, one behind the other.
+    pub fn joined(alloc: Global, front: &str, back: &str) -> Result<Text, Memory>
+        ensures { IfOk result (λ text. text ≡ front.now ++ back.now) }
+    {
+        let mut text = String::from_str(alloc, front)?;
+        text.push_str(back)?;
+        Ok(Text::from_string(text))
     }
 
     /// The string of the text: the one that holds it, without a copy, or a new one where the bytes stand in the text.
