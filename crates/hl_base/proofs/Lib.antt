@@ -10,3 +10,4 @@ pub mod Replays
 pub mod ShelfLaws
 pub mod Stops
 mod Transfers
+mod WhiteEnds

@@ -1,5 +1,6 @@
 -- The bytes that the grammars of a journal name, and the classes of bytes that they speak of.
-use Rattle.std.specs.Prelude.{ℕ, Bool, ◌&&◌, ◌||◌, ◌==◌, nat_le}
+use Rattle.std.specs.Prelude.{ℕ, ◌-◌, Bool, false, ◌&&◌, ◌||◌, ◌==◌, nat_le, List, [], ◌∷◌, length, take, drop}
+use Rattle.std.specs.List.{prefix_len, suffix_len}
 
 -- b'\t'
 abbrev pub tab : ℕ
@@ -138,3 +139,24 @@ abbrev pub is_punctuation : ℕ → Bool
 is_punctuation b =
     (nat_le exclamation b && nat_le b slash) || (nat_le colon b && nat_le b at_sign)
     || (nat_le open_square b && nat_le b grave) || (nat_le open_curly b && nat_le b tilde)
+
+-- the text begins with a byte that passes
+abbrev pub first_is : (ℕ → Bool) → List ℕ → Bool
+first_is p [] = false
+first_is p (b ∷ bs) = p b
+
+-- it begins with this byte
+abbrev pub begins : List ℕ → ℕ → Bool
+begins text byte = first_is (λ b. b == byte) text
+
+-- the text without the white space at its front
+abbrev pub after_white : List ℕ → List ℕ
+after_white text = drop (prefix_len is_white text) text
+
+-- the text without the white space at its end
+abbrev pub before_white : List ℕ → List ℕ
+before_white text = take (length text - suffix_len is_white text) text
+
+-- the text without white space at both ends
+abbrev pub trimmed : List ℕ → List ℕ
+trimmed text = before_white (after_white text)

@@ -1,5 +1,5 @@
 //! Bytes by their kind.
-ghost use Rattle.std.specs.Prelude.{◌≡◌};
+ghost use Rattle.std.specs.Prelude.{◌≡◌, ◌+◌, drop};
 ghost use Rattle.std.specs.List.{list_all};
 ghost use Rattle.hl_base.specs.Ascii as spec;
 
@@ -29,4 +29,38 @@ pub fn is_punctuation(byte: u8) -> bool
     ensures { result ≡ spec.is_punctuation byte }
 {
     matches!(byte, 33..=47 | 58..=64 | 91..=96 | 123..=126)
+}
+
+/// Whether the text begins with this byte.
+pub fn begins(text: &[u8], byte: u8) -> bool
+    ensures { result ≡ spec.begins text.now byte }
+{
+    match text {
+        [] => false,
+        [first, ..] => *first == byte,
+    }
+}
+
+/// The text after so many bytes, or nothing.
+#[tactic(auto, using(std::proofs::lemmas::List::drop_all))]
+pub fn past(text: &[u8], count: usize) -> &[u8]
+    ensures { result.now ≡ drop count text.now }
+{
+    if count <= text.len() {
+        &text[count..]
+    } else {
+        &[]
+    }
+}
+
+/// What follows the byte at a place, or nothing.
+#[tactic(auto, using(std::proofs::lemmas::List::drop_all))]
+pub fn behind(text: &[u8], at: usize) -> &[u8]
+    ensures { result.now ≡ drop (at + 1) text.now }
+{
+    if at < text.len() {
+        &text[at + 1..]
+    } else {
+        &[]
+    }
 }

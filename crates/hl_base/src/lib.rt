@@ -27,6 +27,7 @@ pub mod steps;
 mod surface;
 pub mod text;
 pub mod transfer;
+pub mod white;
 
 pub use ascii::{are_digits, is_digit, is_punctuation, is_white};
 pub use bytes::Bytes;
