@@ -1,9 +1,9 @@
 -- Facts on integers, powers of ten and units.
-use Rattle.std.proofs.Common.{ℕ, ℤ, pos, negsuc, ◌≡◌, ◌+◌, ◌-◌, ◌*◌, ◌^◌, ◌<◌, ◌≤◌, ◌+ℤ◌, ◌*ℤ◌, neg_ℤ, refl, sym, ap, ◌∙◌, arith, lit<, unsigned_abs, zero, suc, zero-mul, Bool, true, ◌&&◌, nat_lt}
+use Rattle.std.proofs.Common.{ℕ, ℤ, pos, negsuc, ◌≡◌, ◌+◌, ◌-◌, ◌*◌, ◌/◌, ◌^◌, ◌<◌, ◌≤◌, ◌+ℤ◌, ◌*ℤ◌, neg_ℤ, refl, sym, ap, ◌∙◌, arith, lit<, unsigned_abs, zero, suc, zero-mul, Bool, true, ◌&&◌, nat_lt}
 use Rattle.std.proofs.lemmas.Int.{unsigned_abs-mul}
 use Rattle.std.proofs.lemmas.Bool.Decides.{nat_tests}
 use Rattle.std.proofs.lemmas.Nat.{pow-add}
-use Rattle.std.proofs.Math.Nat.{pow-le-pow_right, mul_assoc, mul-le-mul_left}
+use Rattle.std.proofs.Math.Nat.{pow-le-pow_right, mul_assoc, mul-div_cancel, mul-le-mul_left}
 use borrow.Author.Differences.{up, down, product_is, sum_is_lem, same_in}
 use Rattle.hl_num.specs.Decimal.{Decimal, units_of, mantissa_at, sum_fits_at}
 
@@ -12,6 +12,16 @@ up-mul a n = omega (arith, (product_is a (pos n)).0)
 
 pub down-mul : (a : ℤ) (n : ℕ) → down (a *ℤ pos n) ≡ down a * n
 down-mul a n = omega (arith, (product_is a (pos n)).1)
+
+same_times : (a b n : ℕ) → 0 < n → a * n ≡ b * n → a ≡ b
+same_times a b n h e = sym (mul-div_cancel a h) ∙ ap (λ x. x / n) e ∙ mul-div_cancel b h
+
+-- a factor that isn't zero cancels
+pub cancel : (x y : ℤ) (n : ℕ) → 0 < n → x *ℤ pos n ≡ y *ℤ pos n → x ≡ y
+cancel x y n h e =
+    let above = same_times (up x) (up y) n h (sym (up-mul x n) ∙ ap up e ∙ up-mul y n) in
+    let below = same_times (down x) (down y) n h (sym (down-mul x n) ∙ ap down e ∙ down-mul y n) in
+    same_in _ _ (omega (arith, above, below))
 
 -- a product distributes over a sum
 pub mul-add : (a b : ℤ) (n : ℕ) → (a +ℤ b) *ℤ pos n ≡ a *ℤ pos n +ℤ b *ℤ pos n

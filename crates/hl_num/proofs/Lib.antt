@@ -1,6 +1,7 @@
 pub mod CompareLemmas
 pub mod DecimalLaws
 pub mod DecimalLemmas
+pub mod Digits
 pub mod NearestLaws
 pub mod PlainLemmas
 pub mod PrintingLemmas
@@ -8,3 +9,4 @@ pub mod ReadBackLaws
 pub mod ReadingLemmas
 pub mod RoundingLemmas
 pub mod TrimLemmas
+pub mod Trimmed

@@ -4,3 +4,4 @@ pub mod Printing
 pub mod ReadBack
 pub mod Reading
 pub mod Rounding
+pub mod Shortest

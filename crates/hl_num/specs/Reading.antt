@@ -1,8 +1,8 @@
 -- The numbers that people write: digits, and the marks `.` and `,` between them.
-use Rattle.std.specs.Prelude.{ℕ, pos, ◌+◌, ◌*◌, ◌-◌, ◌^◌, min, Bool, true, not, ◌&&◌, ◌||◌, nat_lt, nat_le, ◌==◌, if◌then◌else◌, List, [], ◌∷◌, length, take, drop, reverse, Option, Some, None, Result, Ok, Err}
+use Rattle.std.specs.Prelude.{ℕ, pos, ◌+◌, ◌*◌, ◌-◌, ◌^◌, min, Bool, true, false, not, ◌&&◌, ◌||◌, nat_lt, nat_le, ◌==◌, if◌then◌else◌, List, [], ◌∷◌, length, take, drop, reverse, Option, Some, None, Result, Ok, Err}
 use Rattle.std.specs.List.{list_all, list_any, filter, find, count_by, prefix_len}
 use Rattle.std.specs.Str.Parse.{digits_value}
-use Rattle.hl_base.specs.Ascii.{comma, dot}
+use Rattle.hl_base.specs.Ascii.{comma, digit_zero, dot}
 pub use Rattle.hl_base.specs.Ascii.{is_digit}
 use Rattle.hl_num.specs.declared.reading.Number.{Number}
 use Rattle.hl_num.specs.declared.reading.BadNumber.{BadNumber}
@@ -110,3 +110,12 @@ number_end text = prefix_len is_number_byte text
 -- what reading a text answers
 abbrev pub reading : List ℕ → Option ℕ → Result Number BadNumber
 reading text decided = elim (number_of text decided) [ Some number ↦ Ok number | None ↦ Err (record { at = number_end text }) ]
+
+-- the greatest number that is told
+abbrev pub most : ℕ
+most = 2 ^ 64 - 1
+
+-- a number from 1 doesn't begin with a zero
+abbrev pub begins_number : List ℕ → Bool
+begins_number [] = false
+begins_number (b ∷ bs) = not (b == digit_zero)

@@ -4,6 +4,7 @@ ghost use Rattle.std.specs.Int.{int_div_euclid, int_rem_euclid};
 ghost use Rattle.std.specs.Ordering.{int_cmp};
 ghost use Rattle.hl_num.specs.Decimal.{Decimal, units_of, mul_fits, IsTrimmed};
 ghost use Rattle.hl_num.specs.Rounding.{half_even, with_sign, signed_half_even, rounded, IsNearest};
+ghost use Rattle.hl_num.specs.Shortest.{trimmed};
 
 use crate::decimal::{Dec, Range, power_of_ten};
 use crate::rounding;
@@ -76,8 +77,18 @@ impl Dec {
         }
     }
 
-    /// The same value without zeros at the end of its decimals.
+    /// The same value without zeros at the end of its decimals: no number of that value has fewer.
     pub fn trimmed(self) -> Dec
+        ensures value { units_of result ≡ units_of self }
+        ensures places { result.places ≤ self.places }
+        ensures trimmed { IsTrimmed result }
+        ensures shortest { result ≡ trimmed (units_of self) 36 }
+    {
+        let _places = self.decimals();
+        self.without_zeros()
+    }
+
+    fn without_zeros(self) -> Dec
         ensures value { units_of result ≡ units_of self }
         ensures places { result.places ≤ self.places }
         ensures trimmed { IsTrimmed result }
@@ -106,7 +117,7 @@ impl Dec {
         let places = self.places + other.places;
         match self.mantissa.checked_mul(other.mantissa) {
             Some(mantissa) if mantissa != i128::MIN && places <= 36 => {
-                Ok(Dec { mantissa, places }.trimmed())
+                Ok(Dec { mantissa, places }.without_zeros())
             }
             _ => Err(Range { a: self, b: other }),
         }

@@ -10,4 +10,4 @@ mod rounding;
 pub use arithmetic::{DivRange, div_round};
 pub use decimal::{Dec, Range};
 pub use printing::{Shape, print_number};
-pub use reading::{BadNumber, Number, read_number};
+pub use reading::{BadNumber, Number, begins_number, digits_number, read_number};

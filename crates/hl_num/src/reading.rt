@@ -1,8 +1,9 @@
 //! The numbers that people write.
-ghost use Rattle.std.specs.Prelude.{◌≡◌, ◌+◌, ◌*◌, ◌^◌, ◌<◌, ◌≤◌, ◌==◌, IsTrue, length, take, drop, reverse, nat_lt, if◌then◌else◌, not, IfSome, IfNone, ◌||◌, ◌&&◌, Some, unwrap_or};
+ghost use Rattle.std.specs.Prelude.{◌≡◌, ◌+◌, ◌*◌, ◌^◌, ◌<◌, ◌≤◌, ◌==◌, IsTrue, length, take, drop, reverse, min, nat_lt, if◌then◌else◌, not, true, IfSome, IfNone, ◌||◌, ◌&&◌, Some, unwrap_or};
 ghost use Rattle.std.specs.List.{list_all, list_any, count_by, find, prefix_len};
+ghost use Rattle.std.specs.Str.Parse.{digits_value};
 ghost use Rattle.hl_num.specs.Groups.{IsSummary};
-ghost use Rattle.hl_num.specs.Reading.{is_digit, is_mark, other_mark, decimal_mark, undecided_mark, kept_mark, is_number_byte, whole_len, group_sizes, are_groups, first_size, rest_size, mantissa_of, value_with, is_written, number_of, number_with, number_end, reading};
+ghost use Rattle.hl_num.specs.Reading.{is_digit, is_mark, other_mark, decimal_mark, undecided_mark, kept_mark, is_number_byte, whole_len, group_sizes, are_groups, first_size, rest_size, mantissa_of, value_with, is_written, number_of, number_with, number_end, reading, most, begins_number};
 
 use crate::decimal::Dec;
 use hl_base::{are_digits, is_digit};
@@ -422,4 +423,28 @@ fn with_digit(value: u64, byte: u8) -> Option<u64>
         return None;
     }
     Some(value * 10 + u64::from(byte - b'0'))
+}
+
+/// The number of some digits, or the greatest that is told.
+pub fn digits_number(text: &[u8]) -> u64
+    requires { list_all is_digit text.now ≡ true }
+    ensures { result ≡ min (digits_value 10 text.now) most }
+{
+    let mut value: u64 = 0;
+    for byte in text {
+        value = value
+            .saturating_mul(10)
+            .saturating_add(u64::from(*byte - b'0'));
+    }
+    value
+}
+
+/// Whether a number from 1 may begin so: not with a zero.
+pub fn begins_number(text: &[u8]) -> bool
+    ensures { result ≡ begins_number text.now }
+{
+    match text.first() {
+        Some(byte) => *byte != b'0',
+        None => false,
+    }
 }

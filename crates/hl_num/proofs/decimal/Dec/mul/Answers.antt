@@ -11,7 +11,7 @@ returns-in-Some-clause-value c =
     let a = ap (λ (d : Decimal). d.places) c.self.view_is in
     let b = ap (λ (d : Decimal). d.places) c.other.view_is in
     let product : c.in-Some.mantissa ≡ c.args.self.mantissa *ℤ c.args.other.mantissa = search rules in
-    let made = rw (to_z-of_z w128 c.in-Some.mantissa fits, product) at c.trimmed.ensures.value in
+    let made = rw (to_z-of_z w128 c.in-Some.mantissa fits, product) at c.without_zeros.ensures.value in
     let few : c.args.self.places + c.args.other.places ≤ 36 = omega arith in
     ap (λ (x : ℤ). x *ℤ pos (10 ^ 36)) made
     ∙ ap (λ (s : ℕ). c.args.self.mantissa *ℤ c.args.other.mantissa *ℤ pos (10 ^ (36 - (s + c.other.inside.places))) *ℤ pos (10 ^ 36)) a

@@ -1,13 +1,8 @@
-use Rattle.std.proofs.Common.{ap, ◌∙◌, arith}
-use Rattle.hl_num.specs.Decimal.{Decimal}
-use Rattle.hl_num.proofs.TrimLemmas.{drop_zero}
+use Rattle.std.proofs.Common.{◌≤◌, arith}
+use Rattle.hl_num.proofs.Trimmed.{shortened_is}
 use Rattle.hl_num.proofs.decimal.Dec.trimmed.Goals as goal
 
-pub loop-places-preserved : goal.loop-places-preserved
-loop-places-preserved c =
-    let own = ap (λ (d : Decimal). d.places) c.self.view_is in
-    record {
-      exact = drop_zero c.loop-places.magnitude c.loop-places.places (omega arith) (omega arith) c.if-magnitude-eq0.true ∙ c.loop-places.invariant.exact;
-      small = omega arith;
-      fewer = omega arith;
-    }
+pub returns-clause-shortest : goal.returns-clause-shortest
+returns-clause-shortest c =
+    let few : c.without_zeros.result.places ≤ 36 = omega (arith, c.without_zeros.ensures.places, c.decimals-places.ensures.bound, c.decimals-places.ensures.value) in
+    shortened_is c.args.self c.without_zeros.result few c.without_zeros.ensures.trimmed c.without_zeros.ensures.value

@@ -1,5 +1,5 @@
 use Rattle.std.proofs.Common.{◌≡◌, ◌-◌, ◌*◌, ◌^◌, ◌<◌, ◌≤◌, unsigned_abs}
-use Rattle.hl_num.proofs.decimal.Dec.trimmed.Given as goal
+use Rattle.hl_num.proofs.decimal.Dec.without_zeros.Given as goal
 
 abbrev pub invariant-loop-places : goal.invariant-loop-places
 invariant-loop-places l = record {
