@@ -27,11 +27,11 @@ behind_more items item (Ok more) = ap (λ l. Ok l) (sym (append_assoc items (ite
 behind_more items item (Err fault) = refl
 
 -- the words from here on are a piece and what is left behind it
-pieces_taken : (word next : List ℕ) (rest : List (List ℕ)) (taken : Bool) → takes_next word ≡ taken → is_end word ≡ false → pieces (word ∷ next ∷ rest) ≡ piece_of word (next_of word (next ∷ rest)) ∷ pieces (left_of word (next ∷ rest))
+pieces_taken : (word next : List ℕ) (rest : List (List ℕ)) (taken : Bool) → takes_next word ≡ taken → is_end word ≡ false → pieces (word ∷ next ∷ rest) ≡ piece_of word (next_of word (next ∷ rest)) ∷ pieces (left_of (takes_next word) (next ∷ rest))
 pieces_taken word next rest true e goes = rw (goes, e) refl
 pieces_taken word next rest false e goes = rw (goes, e) refl
 
-pieces_step : (word : List ℕ) (rest : List (List ℕ)) → is_end word ≡ false → pieces (word ∷ rest) ≡ piece_of word (next_of word rest) ∷ pieces (left_of word rest)
+pieces_step : (word : List ℕ) (rest : List (List ℕ)) → is_end word ≡ false → pieces (word ∷ rest) ≡ piece_of word (next_of word rest) ∷ pieces (left_of (takes_next word) rest)
 pieces_step word [] goes = rw goes refl
 pieces_step word (next ∷ rest) goes = pieces_taken word next rest (takes_next word) refl goes
 
@@ -39,7 +39,7 @@ pieces_end : (word : List ℕ) (rest : List (List ℕ)) → is_end word ≡ true
 pieces_end word [] end = rw end refl
 pieces_end word (next ∷ rest) end = rw end refl
 
-pub items_step : (place : Place) (command : Command) (day : ℕ) (word : List ℕ) (rest : List (List ℕ)) → is_end word ≡ false → items_in place command day (word ∷ rest) ≡ put_first (item_of place command day (piece_of word (next_of word rest))) (items_in place command day (left_of word rest))
+pub items_step : (place : Place) (command : Command) (day : ℕ) (word : List ℕ) (rest : List (List ℕ)) → is_end word ≡ false → items_in place command day (word ∷ rest) ≡ put_first (item_of place command day (piece_of word (next_of word rest))) (items_in place command day (left_of (takes_next word) rest))
 unfolding items_in
 items_step place command day word rest goes = ap (λ ps. all_read (map (item_of place command day) ps)) (pieces_step word rest goes)
 
@@ -57,9 +57,9 @@ module _ (place : Place) (command : Command) (day : ℕ) (whole : Result (List I
   pub read_end : (word : List ℕ) (rest : List (List ℕ)) → left ≡ word ∷ rest → is_end word ≡ true → whole ≡ Ok (items ++ map query_word rest)
   read_end word rest here end = rw (so_far, here, items_end place command day word rest end) refl
 
-  pub read_more : (word : List ℕ) (rest : List (List ℕ)) (item : Item) → left ≡ word ∷ rest → is_end word ≡ false → item_of place command day (piece_of word (next_of word rest)) ≡ Ok item → whole ≡ behind (items ++ item ∷ []) (items_in place command day (left_of word rest))
+  pub read_more : (word : List ℕ) (rest : List (List ℕ)) (item : Item) → left ≡ word ∷ rest → is_end word ≡ false → item_of place command day (piece_of word (next_of word rest)) ≡ Ok item → whole ≡ behind (items ++ item ∷ []) (items_in place command day (left_of (takes_next word) rest))
   read_more word rest item here goes read =
-      rw (so_far, here, items_step place command day word rest goes, read) (behind_more items item (items_in place command day (left_of word rest)))
+      rw (so_far, here, items_step place command day word rest goes, read) (behind_more items item (items_in place command day (left_of (takes_next word) rest)))
 
   pub read_bad : (word : List ℕ) (rest : List (List ℕ)) (fault : OptionFault) → left ≡ word ∷ rest → is_end word ≡ false → item_of place command day (piece_of word (next_of word rest)) ≡ Err fault → whole ≡ Err fault
   read_bad word rest fault here goes read = rw (so_far, here, items_step place command day word rest goes, read) refl
@@ -74,15 +74,15 @@ module _ (place : Place) (command : Command) (day : ℕ) (whole : Result (List I
   read_all here = rw (so_far, here) (ap (λ l. Ok l) (append_none items))
 
 -- what is left behind a word and its value is no longer
-left_by : (word next : List ℕ) (rest : List (List ℕ)) (taken : Bool) → takes_next word ≡ taken → length (left_of word (next ∷ rest)) ≤ length (next ∷ rest)
+left_by : (word next : List ℕ) (rest : List (List ℕ)) (taken : Bool) → takes_next word ≡ taken → length (left_of (takes_next word) (next ∷ rest)) ≤ length (next ∷ rest)
 left_by word next rest true e = rw e (omega arith)
 left_by word next rest false e = rw e (omega arith)
 
-left_length : (word : List ℕ) (rest : List (List ℕ)) → length (left_of word rest) ≤ length rest
+left_length : (word : List ℕ) (rest : List (List ℕ)) → length (left_of (takes_next word) rest) ≤ length rest
 left_length word [] = omega arith
 left_length word (next ∷ rest) = left_by word next rest (takes_next word) refl
 
-pub left_shorter : (word : List ℕ) (left rest : List (List ℕ)) → left ≡ word ∷ rest → length (left_of word rest) < length left
+pub left_shorter : (word : List ℕ) (left rest : List (List ℕ)) → left ≡ word ∷ rest → length (left_of (takes_next word) rest) < length left
 left_shorter word left rest here = rw here (omega (arith, left_length word rest))
 
 -- the value of an option by where it stands

@@ -132,9 +132,9 @@ abbrev pub next_of : List ℕ → List (List ℕ) → Option (List ℕ)
 next_of word [] = None
 next_of word (next ∷ rest) = if takes_next word then Some next else None
 
-abbrev pub left_of : List ℕ → List (List ℕ) → List (List ℕ)
-left_of word [] = []
-left_of word (next ∷ rest) = if takes_next word then rest else next ∷ rest
+abbrev pub left_of : Bool → List (List ℕ) → List (List ℕ)
+left_of takes [] = []
+left_of takes (next ∷ rest) = if takes then rest else next ∷ rest
 
 -- an option whose value is the next word, if there is one
 abbrev pub next_valued : ℕ → List ℕ → Name → List (List ℕ) → Result Item OptionFault

@@ -24,21 +24,21 @@ pub(crate) struct Item {
 }
 
 /// Whether a word ends the options.
-fn is_end(word: &Text) -> bool
+pub fn is_end(word: &Text) -> bool
     ensures { result ≡ spec.is_end word.now }
 {
     word.as_bytes() == b"--".as_slice()
 }
 
 /// Whether a word is read as an option: it begins with `-`.
-fn is_option(word: &Text) -> bool
+pub fn is_option(word: &Text) -> bool
     ensures { result ≡ spec.is_option word.now }
 {
     word.as_bytes().starts_with(b"-")
 }
 
 /// Whether a word is of the long form.
-fn is_long(word: &str) -> bool
+pub fn is_long(word: &str) -> bool
     ensures { result ≡ spec.is_long word.now }
 {
     word.as_bytes().starts_with(b"--")
@@ -51,14 +51,14 @@ fn has_equals(word: &str) -> bool
 }
 
 /// Whether a word holds a value, behind `=`.
-fn has_value(word: &str) -> bool
+pub fn has_value(word: &str) -> bool
     ensures { result ≡ spec.has_value word.now }
 {
     is_long(word) && has_equals(word)
 }
 
 /// What stands before the first `=`.
-fn before_equals(word: &str) -> &str
+pub fn before_equals(word: &str) -> &str
     ensures { result.now ≡ spec.before_equals word.now }
 {
     match word.split_once('=') {
@@ -68,7 +68,7 @@ fn before_equals(word: &str) -> &str
 }
 
 /// What stands after the first `=`, or nothing.
-fn after_equals(word: &str) -> &str
+pub fn after_equals(word: &str) -> &str
     ensures { result.now ≡ spec.after_equals word.now }
 {
     match word.split_once('=') {
@@ -205,11 +205,11 @@ fn item_of(
     }
 }
 
-/// What is left behind a word and its value.
-fn left_of<'a>(word: &Text, rest: &'a [Text]) -> &'a [Text]
-    ensures { result.now ≡ spec.left_of word.now rest.now }
+/// What is left behind a word: the words after it, without the first where it takes that as its value.
+pub fn left_of(takes: bool, rest: &[Text]) -> &[Text]
+    ensures { result.now ≡ spec.left_of takes rest.now }
 {
-    if takes_next(word.as_str()) {
+    if takes {
         match rest {
             [] => rest,
             [_, later @ ..] => later,
@@ -217,6 +217,13 @@ fn left_of<'a>(word: &Text, rest: &'a [Text]) -> &'a [Text]
     } else {
         rest
     }
+}
+
+/// What is left behind a word and its value.
+fn left_behind<'a>(word: &Text, rest: &'a [Text]) -> &'a [Text]
+    ensures { result.now ≡ spec.left_of (spec.takes_next word.now) rest.now }
+{
+    left_of(takes_next(word.as_str()), rest)
 }
 
 fn push_item(items: &mut Vec<Item>, item: Item) -> Result<(), Memory>
@@ -267,7 +274,7 @@ fn cut(
         }
         let item = item_of(alloc, place, command, word, rest, day)?;
         push_item(&mut items, item)?;
-        left = left_of(word, rest);
+        left = left_behind(word, rest);
     }
     Ok(items)
 }

@@ -15,6 +15,8 @@ mod values;
 
 pub use command::{Command, command_named};
 pub use fault::OptionFault;
+pub use items::{after_equals, before_equals, has_value, is_end, is_long, is_option, left_of};
+pub use names::is_balance;
 pub use options::{Options, Start, Valuation, When};
 pub use program::{Given, read_program_options};
 pub use reading::read_options;

@@ -301,7 +301,7 @@ fn has_sums(command: Command) -> bool
     }
 }
 
-fn is_balance(command: Command) -> bool
+pub fn is_balance(command: Command) -> bool
     ensures { result ≡ spec.is_balance command }
 {
     match command {

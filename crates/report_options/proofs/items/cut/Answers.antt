@@ -1,9 +1,15 @@
-use Rattle.std.proofs.Common.{◌≡◌, false, sym, ◌∙◌}
+use Rattle.std.proofs.Common.{◌≡◌, ◌<◌, false, length, sym, ap, ◌∙◌, arith}
 use Rattle.std.proofs.lemmas.List.{nil_from_length}
 use Rattle.std.proofs.lemmas.Result.{err_from_is_err_and}
 use Rattle.report_options.specs.Items.{fault_cause, is_end, items_in}
-use Rattle.report_options.proofs.Cutting.{bad_told, read_all}
+use Rattle.report_options.proofs.Cutting.{bad_told, left_shorter, read_all}
 use Rattle.report_options.proofs.items.cut.Goals as goal
+
+pub loop-word-smaller : goal.loop-word-smaller
+loop-word-smaller c =
+    let shown = ap length c.left_behind-left.ensures in
+    let shorter = left_shorter c.in-Some.word.now c.loop-word.left.now c.in-Some.rest.now c.in-Some.ensures.cases.0 in
+    omega (arith, shown, shorter)
 
 pub returns-in_err-item-clause-answer : goal.returns-in_err-item-clause-answer
 returns-in_err-item-clause-answer c =
