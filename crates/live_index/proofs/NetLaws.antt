@@ -1,5 +1,5 @@
 -- Why the rows that stand keep the bound on turnovers where some rows with the same net counts do.
-use Rattle.std.proofs.Common.{◌≡◌, ℕ, ℤ, pos, suc, ◌+◌, ◌-◌, ◌^◌, ◌≤◌, ◌+ℤ◌, ◌-ℤ◌, neg_ℤ, ◌==◌, max, unsigned_abs, Bool, true, false, cond, filter, ◌&&◌, List, [], ◌∷◌, ◌++◌, map, refl, sym, ap, ◌∙◌, lit<, arith}
+use Rattle.std.proofs.Common.{◌≡◌, ℕ, ℤ, pos, suc, ◌+◌, ◌-◌, ◌^◌, ◌≤◌, ◌+ℤ◌, ◌-ℤ◌, neg_ℤ, ◌==◌, max, unsigned_abs, Bool, true, false, cond, filter, ◌&&◌, List, [], ◌∷◌, ◌++◌, map, refl, sym, ap, subst, ◌∙◌, lit<, arith}
 use Rattle.std.specs.Str.{bytes_eq}
 use Rattle.std.proofs.lemmas.Int.{ints}
 use Rattle.std.proofs.lemmas.Bool.{false≢true}
@@ -276,6 +276,10 @@ fits-by rows put same fits = λ symbol.
     let w = within (standing put) rows (net-all [] put tt) (λ q. net-standing q put ∙ sym (same q)) symbol in
     let powers : 10 ^ (36 - places_of symbol rows) ≤ 10 ^ (36 - places_of symbol (standing put)) = pow-le-pow_right {n = 10} (lit< tt) (omega (arith, w.places_are)) in
     omega (arith, w.turnover_is, mul-le-mul_left (2 ^ 127) powers, fits symbol)
+
+-- some rows put into an index that has none keep it
+pub fits-into_none : (old rows : List Row) → old ≡ [] → TurnoverFits (standing rows) → TurnoverFits (standing (old ++ rows))
+fits-into_none old rows none fits = subst (λ (o : List Row). TurnoverFits (standing (o ++ rows))) (sym none) fits
 
 -- ---- old rows that are taken off, and new ones
 

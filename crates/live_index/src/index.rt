@@ -78,6 +78,17 @@ impl Index {
         })
     }
 
+    /// An index of some rows.
+    pub fn of(alloc: Global, rows: &[Row]) -> Result<Index, Memory>
+        requires { TurnoverFits (standing rows.now) }
+        ensures { IfOk result (λ index. index ≡ rows.now) }
+    {
+        let mut index = Index::new(alloc)?;
+        let prepared = index.prepare(rows)?;
+        index.put(prepared);
+        Ok(index)
+    }
+
     /// An index of the same rows. Both share what they have, so it takes the same memory however many rows there are, and
     /// what is put into one of them stays out of the other.
     pub fn copy(&self) -> Result<Index, Memory>
