@@ -1,5 +1,5 @@
 -- What the directives before an item say.
-use Rattle.std.specs.Prelude.{ℕ, ◌-◌, Bool, true, ◌&&◌, List, [], ◌∷◌, ◌++◌, ◌==◌, nat_eq, if◌then◌else◌, length, take, drop, reverse, Option, Some, None}
+use Rattle.std.specs.Prelude.{ℕ, ◌-◌, Bool, true, ◌&&◌, List, [], ◌∷◌, ◌++◌, ◌==◌, nat_eq, if◌then◌else◌, length, take, drop, map, reverse, Option, Some, None}
 use Rattle.std.specs.List.{fold, find, flat_map, starts_with}
 use Rattle.std.specs.Str.{bytes_eq}
 use Rattle.hl_base.specs.Ascii.{colon}
@@ -8,6 +8,7 @@ use Rattle.book.specs.declared.directive.Directive.{Directive}
 use Rattle.book.specs.declared.directive.Directive.TheVariants as directive
 use Rattle.book.specs.declared.item.Item.{Item}
 use Rattle.book.specs.declared.item.Item.TheVariants as item
+use Rattle.book.specs.declared.item.Placed.{Placed}
 
 -- The year of dates without one; the decimal mark of numbers; the symbol of amounts without one and the decimal mark of
 -- its directive; the names before accounts, outermost first; the aliases in force, an old name and a new one; and the
@@ -81,6 +82,10 @@ context_from year ds = record {
 -- the context after some items
 abbrev pub context_of : Option ℕ → List Item → Context
 context_of year items = context_from year (directives_in items)
+
+-- items without their places
+abbrev pub items_at : List Placed → List Item
+items_at placed = map (λ p. p.item) placed
 
 -- the symbol that an amount without one takes
 abbrev pub usual_symbol : Option (List ℕ × Option ℕ) → List ℕ

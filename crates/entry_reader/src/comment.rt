@@ -24,7 +24,7 @@ pub fn is_comment(content: &[u8]) -> bool
 }
 
 /// What follows the `;` of a comment line.
-fn comment_text(content: &[u8]) -> &[u8]
+pub fn comment_text(content: &[u8]) -> &[u8]
     requires { spec.is_comment content.now ≡ true }
     ensures value { result.now ≡ spec.comment_text content.now }
     ensures utf8 { is_utf8 content.now ≡ true → is_utf8 result.now ≡ true }

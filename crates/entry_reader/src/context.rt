@@ -8,7 +8,7 @@ ghost use Rattle.entry_reader.specs.Contexts as spec;
 
 use crate::naming::{behind_applied, renamed_by_each};
 use crate::scan::text_of;
-use book::{Amount, Directive, Item};
+use book::{Amount, Directive, Item, Placed};
 use hl_base::{Memory, Text};
 use std::alloc::Global;
 use std::marker::Model;
@@ -263,4 +263,15 @@ impl Context {
     {
         self.applied.len()
     }
+}
+
+/// The context behind some items of a text that begins in a year.
+pub fn context_behind(alloc: Global, year: Option<u16>, items: &[Placed]) -> Result<Context, Memory>
+    ensures { IfOk result (λ context. context ≡ spec.context_of year (spec.items_at items.now)) }
+{
+    let mut context = Context::start(alloc, year)?;
+    for placed in items {
+        context.after(alloc, &placed.item)?;
+    }
+    Ok(context)
 }

@@ -34,7 +34,7 @@ fn ends_word(text: &[u8]) -> bool
 
 /// The day that a text begins with, and what follows it and white space.
 #[tactic(auto, unfolding(crate::specs::Heads::day_at))]
-fn read_day(text: &[u8], year: Option<u16>, line: u64) -> Result<(Day, &[u8]), ReadFault>
+pub fn read_day(text: &[u8], year: Option<u16>, line: u64) -> Result<(Day, &[u8]), ReadFault>
     ensures value { Gives (λ x. (x.0.0, x.1.now)) cause_in result (spec.day_at year line text.now) }
     ensures day { IfOk result (λ x. IsDay x.0.0) }
     ensures utf8 { is_utf8 text.now ≡ true → IfOk result (λ x. is_utf8 x.1.now ≡ true) }

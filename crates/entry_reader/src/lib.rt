@@ -18,5 +18,5 @@ pub mod tag;
 
 pub use account::read_account;
 pub use amount::read_amount;
-pub use context::Context;
+pub use context::{Context, context_behind};
 pub use fault::ReadFault;
