@@ -1,3 +1,4 @@
+pub mod Built
 pub mod Depths
 pub mod Folds
 pub mod Nots

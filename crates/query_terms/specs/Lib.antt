@@ -1,3 +1,4 @@
+pub mod Building
 pub mod Finders
 pub mod Making
 pub mod Patterns

@@ -302,7 +302,7 @@ fn real_of(text: &[u8]) -> Option<bool>
 }
 
 /// What a `status:` term says.
-fn status_of(text: &[u8]) -> Option<Mark>
+pub fn status_of(text: &[u8]) -> Option<Mark>
     ensures { result ≡ spec.status_of text.now }
 {
     if is_same(text, b"*") {
