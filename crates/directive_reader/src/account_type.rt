@@ -11,9 +11,9 @@ ghost use Rattle.directive_reader.specs.AccountTypes as spec;
 
 use book::{Cause, Tag};
 use entry_reader::ReadFault;
-use entry_reader::comment::is_comment;
+use entry_reader::comment::{comment_text, is_comment};
 use entry_reader::fault::fault_at;
-use entry_reader::scan::{after_white, begins, cut_line, past_first, trimmed};
+use entry_reader::scan::cut_line;
 use entry_reader::tag::push_tags;
 use hl_base::Memory;
 use std::alloc::Global;
@@ -91,20 +91,6 @@ fn known(letter: Option<u8>, line: u64) -> Result<Option<u8>, ReadFault>
     match letter {
         Some(letter) => Ok(Some(letter)),
         None => Err(fault_at(line, Cause::Directive)),
-    }
-}
-
-/// What follows the `;` of a comment line.
-fn comment_text(content: &[u8]) -> &[u8]
-    requires { comments.is_comment content.now ≡ true }
-    ensures value { result.now ≡ comments.comment_text content.now }
-    ensures utf8 { is_utf8 content.now ≡ true → is_utf8 result.now ≡ true }
-{
-    let text = after_white(content);
-    if begins(text, b';') {
-        trimmed(past_first(text))
-    } else {
-        unreachable!()
     }
 }
 

@@ -4,44 +4,21 @@ ghost use Rattle.std.specs.List.{prefix_len};
 ghost use Rattle.std.specs.Str.{is_utf8};
 ghost use Rattle.hl_base.specs.Gives.{Gives};
 ghost use Rattle.entry_reader.specs.Causes.{cause_in};
-ghost use Rattle.entry_reader.specs.Heads as heads;
 ghost use Rattle.entry_reader.specs.Lines.{contents_of};
 ghost use Rattle.hl_num.specs.Reading.{is_digit};
 ghost use Rattle.directive_reader.specs.Prices as spec;
 
 use crate::commodity::is_symbol;
 use crate::ending::{check_closing, ends_line};
-use crate::keyword::ends_word;
 use book::{Cause, Price};
 use entry_reader::amount::amount_at;
 use entry_reader::fault::fault_at;
-use entry_reader::scan::{after, after_white, before, cut_date, has, is_white, text_of};
+use entry_reader::head::read_day;
+use entry_reader::scan::{after, after_white, before, has, is_white, text_of};
 use entry_reader::symbol::cut_name;
 use entry_reader::{Context, ReadFault};
 use hl_base::is_digit;
-use hl_time::{Day, read_date};
 use std::alloc::Global;
-
-/// The day that a text begins with, and what follows it and white space.
-#[tactic(auto, unfolding(entry_reader::specs::Heads::day_at))]
-fn read_day(text: &[u8], year: Option<u16>, line: u64) -> Result<(Day, &[u8]), ReadFault>
-    requires { is_utf8 text.now ≡ true }
-    ensures value { Gives (λ x. (x.0.0, x.1.now)) cause_in result
-        (heads.day_at year line text.now) }
-    ensures utf8 { IfOk result (λ x. is_utf8 x.1.now ≡ true) }
-{
-    let (date, rest) = cut_date(text);
-    match read_date(date, year) {
-        Err(_) => Err(fault_at(line, Cause::Date)),
-        Ok(day) => {
-            if ends_word(rest) {
-                Ok((day, after_white(rest)))
-            } else {
-                Err(fault_at(line, Cause::Form))
-            }
-        }
-    }
-}
 
 /// Whether a text is one or two digits of a number that isn't above the last one.
 fn is_part(text: &[u8], last: u8) -> bool
