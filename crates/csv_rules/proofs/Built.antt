@@ -1,36 +1,33 @@
 -- Regexes that are built one by one.
-use Rattle.std.proofs.Common.{◌≡◌, ℕ, List, [], ◌∷◌, ◌++◌, map, Option, Result, Ok, Err, OnOk, refl, sym, ap, ◌∙◌, subst}
-use Rattle.std.proofs.lemmas.List.{append-nil}
-use Rattle.std.proofs.lemmas.List.Elements.{All-nil, All-push}
-use Rattle.regex.specs.Strings.{regex_source}
-use Rattle.regex.specs.declared.string.regex.Regex.{Regex}
-use Rattle.csv_rules.specs.Building.{IsCaseless, AreBuilt, Grows, IsRefusalOf}
-use Rattle.query_terms.specs.Making.{IsMadeOf, IsRefusal}
-use Rattle.query_terms.specs.declared.faults.MakeFault.{MakeFault}
+use Rattle.std.proofs.Common.{◌≡◌, ◌∷◌, [], List, ℕ, Option, Some, None, refl, ap, inl, inr}
+use Rattle.std.proofs.lemmas.List.Elements.{All-nil}
+use Rattle.query_terms.specs.Reading.{source_of}
+use Rattle.query_terms.specs.declared.kinds.Pattern.{Pattern}
+use Rattle.query_terms.specs.declared.kinds.Pattern.TheVariants as pattern
+use Rattle.csv_rules.specs.Building.{AreBuilt, IsCaseless, IsOneOf, first_sources, form_sources}
+use Rattle.csv_rules.specs.declared.forms.Form.{Form}
+use Rattle.csv_rules.specs.declared.forms.Form.TheVariants as forms
+use Rattle.csv_rules.specs.declared.kinds.Condition.{Condition}
 
 pub built_start : AreBuilt [] []
 built_start = record { named = refl; caseless = All-nil IsCaseless }
 
--- a regex of a source behind others
-built_one : (sources : List (List ℕ)) (old : List Regex) (source : List ℕ) (regex : Regex) → IsMadeOf source regex → AreBuilt sources old → AreBuilt (sources ++ source ∷ []) (old ++ regex ∷ [])
-built_one sources old source regex made built = record {
-  named = map_push old regex ∙ (ap (λ l. l ++ regex_source regex ∷ []) built.named ∙ ap (λ s. sources ++ s ∷ []) made.source);
-  caseless = All-push IsCaseless old regex built.caseless (record { config = made.config; read = made.read });
-}
-  where
-    map_push : (rs : List Regex) (r : Regex) → map regex_source (rs ++ r ∷ []) ≡ map regex_source rs ++ regex_source r ∷ []
-    map_push [] r = refl
-    map_push (x ∷ rs) r = ap (λ l. regex_source x ∷ l) (map_push rs r)
+-- a line needs one regex at most
+only_of : (p : Pattern) (source : List ℕ) → IsOneOf source (source_of p) → source_of p ≡ source ∷ []
+only_of (pattern.Word word) source h = absurd h
+only_of (pattern.Special text) source (inl e) = ap (λ (s : List ℕ). s ∷ []) e
+only_of (pattern.Special text) source (inr h) = absurd h
 
-pub built_none : (sources : List (List ℕ)) (old : List Regex) → AreBuilt sources old → AreBuilt (sources ++ []) old
-built_none sources old built = subst (λ s. AreBuilt s old) (sym (append-nil sources)) built
+only_first : (condition : Option Condition) (source : List ℕ) → IsOneOf source (first_sources condition) → first_sources condition ≡ source ∷ []
+only_first None source h = absurd h
+only_first (Some c) source h = only_of c.pattern source h
 
-pub refused_one : (source : List ℕ) (before now : ℕ) (last : Option (List ℕ)) → IsRefusal before now last source → IsRefusalOf (source ∷ []) before now last
-refused_one source before now last r = record { source = source; only = refl; refusal = r }
-
-grows_one : (source : List ℕ) (old new : List Regex) (regex : Regex) → IsMadeOf source regex → new ≡ old ++ regex ∷ [] → Grows (source ∷ []) old new
-grows_one source old new regex made e = λ sources built. subst (λ rs. AreBuilt (sources ++ source ∷ []) rs) (sym e) (built_one sources old source regex made built)
-
-pub grows_pushed : {T : Type 0} (r : Result T MakeFault) (source : List ℕ) (old new : List Regex) (regex : Regex) → IsMadeOf source regex → OnOk r (new ≡ old ++ regex ∷ []) → OnOk r (Grows (source ∷ []) old new)
-grows_pushed (Ok x) source old new regex made e = grows_one source old new regex made e
-grows_pushed (Err f) source old new regex made e = e
+pub only_source : (form : Form) (source : List ℕ) → IsOneOf source (form_sources form) → form_sources form ≡ source ∷ []
+only_source forms.Remark source h = absurd h
+only_source (forms.Ask condition) source h = only_of condition.pattern source h
+only_source (forms.Act action) source h = absurd h
+only_source (forms.Set setting) source h = absurd h
+only_source (forms.Fields names) source h = absurd h
+only_source (forms.DateFormat parts) source h = absurd h
+only_source (forms.Assign a) source h = absurd h
+only_source (forms.If condition) source h = only_first condition source h

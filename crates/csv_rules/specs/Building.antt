@@ -1,12 +1,8 @@
--- How the regexes of a file of rules are built, and what is told where one is refused.
-use Rattle.std.specs.Prelude.{◌≡◌, ◌++◌, ℕ, List, [], ◌∷◌, map, Option, Some, None, Result, Ok, Err}
-use Rattle.std.specs.List.{All, flat_map}
-use Rattle.regex.specs.Strings.{regex_source, regex_config, IsReadFromSource}
-use Rattle.regex.specs.declared.string.regex.Regex.{Regex}
-use Rattle.query_terms.specs.Making.{caseless, Stays, IsRefusal}
+-- The sources for which a file of rules needs regexes.
+use Rattle.std.specs.Prelude.{◌++◌, ℕ, List, [], Option, Some, None}
+use Rattle.std.specs.List.{flat_map}
+pub use Rattle.query_terms.specs.Building.{AreBuilt, Grows, IsCaseless, IsOneOf, IsRefusalOf, TellsOf}
 use Rattle.query_terms.specs.Reading.{source_of}
-use Rattle.query_terms.specs.declared.faults.MakeFault.{MakeFault}
-use Rattle.query_terms.specs.declared.faults.MakeFault.TheVariants as make_fault
 use Rattle.csv_rules.specs.Drafts.{Progress}
 use Rattle.csv_rules.specs.declared.forms.Form.{Form}
 use Rattle.csv_rules.specs.declared.forms.Form.TheVariants as forms
@@ -38,29 +34,3 @@ abbrev pub form_sources : Form → List (List ℕ)
 form_sources (forms.If condition) = first_sources condition
 form_sources (forms.Ask condition) = source_of condition.pattern
 form_sources _ = []
-
--- it was read with case ignored
-pub record IsCaseless (regex : Regex) : Type 0 where
-  pub config : regex_config regex ≡ caseless
-  pub read : IsReadFromSource regex
-
--- the regexes are those of the sources, in order
-pub record AreBuilt (sources : List (List ℕ)) (regexes : List Regex) : Type 0 where
-  pub named : map regex_source regexes ≡ sources
-  pub caseless : All IsCaseless regexes
-
--- regexes of these sources came behind others
-abbrev pub Grows : List (List ℕ) → List Regex → List Regex → Type 0
-Grows more old new = (sources : List (List ℕ)) → AreBuilt sources old → AreBuilt (sources ++ more) new
-
--- the maker refused the one source: its count rose, and it tells that source
-pub record IsRefusalOf (sources : List (List ℕ)) (before now : ℕ) (last_now : Option (List ℕ)) : Type 0 where
-  pub source : List ℕ
-  pub only : sources ≡ source ∷ []
-  pub refusal : IsRefusal before now last_now source
-
--- what the maker tells after the regexes of some sources were asked of it
-abbrev pub TellsOf : {T : Type 0} → List (List ℕ) → ℕ → ℕ → Option (List ℕ) → Option (List ℕ) → Result T MakeFault → Type 0
-TellsOf sources before now last_before last_now (Ok x) = Stays before now last_before last_now
-TellsOf sources before now last_before last_now (Err make_fault.Memory) = Stays before now last_before last_now
-TellsOf sources before now last_before last_now (Err make_fault.Refused) = IsRefusalOf sources before now last_now
