@@ -1,16 +1,16 @@
 -- Terms that are read word by word, and regexes that are built one by one.
-use Rattle.std.proofs.Common.{◌≡◌, ℕ, zero, suc, ◌+◌, ◌<◌, ◌≤◌, List, [], ◌∷◌, ◌++◌, length, get_or, take, drop, map, Option, Some, None, Result, Ok, Err, OnOk, refl, sym, ap, ◌∙◌, subst, arith, append_assoc, inl, inr}
+use Rattle.std.proofs.Common.{◌≡◌, ℕ, zero, suc, ◌+◌, ◌<◌, ◌≤◌, List, [], ◌∷◌, ◌++◌, length, get_or, take, drop, Option, Some, None, Result, Ok, Err, OnOk, refl, sym, ap, ◌∙◌, subst, arith, append_assoc, inl, inr}
 use Rattle.std.proofs.lemmas.List.{drop_all}
 use Rattle.std.proofs.lemmas.List.Elements.{All-nil, All-push}
-use Rattle.regex.specs.Strings.{regex_source}
 use Rattle.regex.specs.declared.string.regex.Regex.{Regex}
-use Rattle.query.specs.Building.{IsCaseless, AreBuilt, AreDated, Grows, IsOneOf, IsRefusalOf, TellsWord, TellsWords}
-use Rattle.query_terms.specs.Making.{IsMadeOf, IsRefusal, Stays}
+use Rattle.query.specs.Building.{AreBuilt, AreDated, Grows, IsOneOf, IsRefusalOf, TellsWord, TellsWords}
+use Rattle.query_terms.specs.Making.{Stays}
 use Rattle.query_terms.specs.Reading.{HasDays, term_of, terms_of, and_then, kind_sources, sources_of}
 use Rattle.query_terms.specs.declared.faults.MakeFault.{MakeFault}
 use Rattle.query.specs.declared.faults.QueryFault.{QueryFault}
 use Rattle.query.specs.declared.faults.QueryFault.TheVariants as query_fault
 use Rattle.query_terms.specs.declared.kinds.Term.{Term}
+use Rattle.query_terms.proofs.Built.{built_none}
 use Rattle.query_terms.proofs.Walks.{left_here}
 
 -- terms before those that are read
@@ -95,24 +95,6 @@ dated_none = All-nil (λ (t : Term). HasDays t.kind)
 pub dated_more : (ts : List Term) (t : Term) → AreDated ts → HasDays t.kind → AreDated (ts ++ t ∷ [])
 dated_more ts t all one = All-push (λ (x : Term). HasDays x.kind) ts t all one
 
--- a regex of a source behind others
-pub built_one : (sources : List (List ℕ)) (old : List Regex) (source : List ℕ) (regex : Regex) → IsMadeOf source regex → AreBuilt sources old → AreBuilt (sources ++ source ∷ []) (old ++ regex ∷ [])
-built_one sources old source regex made built = record {
-  named = map_push old regex ∙ (ap (λ l. l ++ regex_source regex ∷ []) built.named ∙ ap (λ s. sources ++ s ∷ []) made.source);
-  caseless = All-push IsCaseless old regex built.caseless (record { config = made.config; read = made.read });
-}
-  where
-    map_push : (rs : List Regex) (r : Regex) → map regex_source (rs ++ r ∷ []) ≡ map regex_source rs ++ regex_source r ∷ []
-    map_push [] r = refl
-    map_push (x ∷ rs) r = ap (λ l. regex_source x ∷ l) (map_push rs r)
-
-append_nothing : (l : List (List ℕ)) → l ++ [] ≡ l
-append_nothing [] = refl
-append_nothing (x ∷ xs) = ap (λ l. x ∷ l) (append_nothing xs)
-
-pub built_none : (sources : List (List ℕ)) (old : List Regex) → AreBuilt sources old → AreBuilt (sources ++ []) old
-built_none sources old built = subst (λ s. AreBuilt s old) (sym (append_nothing sources)) built
-
 pub built_both : (sources more others : List (List ℕ)) (old : List Regex) → AreBuilt ((sources ++ more) ++ others) old → AreBuilt (sources ++ (more ++ others)) old
 built_both sources more others old built = subst (λ s. AreBuilt s old) (append_assoc sources more others) built
 
@@ -126,22 +108,12 @@ pub one_right : {X : Type 0} (x : X) (xs ys : List X) → IsOneOf x ys → IsOne
 one_right x [] ys h = h
 one_right x (y ∷ xs) ys h = inr (one_right x xs ys h)
 
-pub refused_one : (source : List ℕ) (before now : ℕ) (last : Option (List ℕ)) → IsRefusal before now last source → IsRefusalOf (source ∷ []) before now last
-refused_one source before now last r = record { later = r.later; rose = r.rose; source = source; among = inl refl; told = r.told }
-
 pub refused_left : (xs ys : List (List ℕ)) (before now : ℕ) (last : Option (List ℕ)) → IsRefusalOf xs before now last → IsRefusalOf (xs ++ ys) before now last
 refused_left xs ys before now last r = record { later = r.later; rose = r.rose; source = r.source; among = one_left r.source xs ys r.among; told = r.told }
 
 pub refused_right : (xs ys : List (List ℕ)) (first before now : ℕ) (last : Option (List ℕ)) → before ≡ first → IsRefusalOf ys before now last → IsRefusalOf (xs ++ ys) first now last
 refused_right xs ys first before now last e r =
     subst (λ (n : ℕ). IsRefusalOf (xs ++ ys) n now last) e (record { later = r.later; rose = r.rose; source = r.source; among = one_right r.source xs ys r.among; told = r.told })
-
-pub grows_one : (source : List ℕ) (old new : List Regex) (regex : Regex) → IsMadeOf source regex → new ≡ old ++ regex ∷ [] → Grows (source ∷ []) old new
-grows_one source old new regex made e = λ sources built. subst (λ rs. AreBuilt (sources ++ source ∷ []) rs) (sym e) (built_one sources old source regex made built)
-
-pub grows_pushed : {T : Type 0} (r : Result T MakeFault) (source : List ℕ) (old new : List Regex) (regex : Regex) → IsMadeOf source regex → OnOk r (new ≡ old ++ regex ∷ []) → OnOk r (Grows (source ∷ []) old new)
-grows_pushed (Ok x) source old new regex made e = grows_one source old new regex made e
-grows_pushed (Err f) source old new regex made e = e
 
 pub grows_none : (old : List Regex) → Grows [] old old
 grows_none old = λ sources built. built_none sources old built

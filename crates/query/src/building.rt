@@ -7,7 +7,7 @@ ghost use Rattle.query_terms.specs.Reading as reading;
 use crate::faults::QueryFault;
 use hl_base::{Memory, Text};
 use hl_time::Day;
-use query_terms::{Kind, MakeFault, Maker, Pattern, Term, read_term};
+use query_terms::{Kind, MakeFault, Maker, Pattern, Term, build_pattern, read_term};
 use regex::Regex;
 use std::alloc::Global;
 
@@ -16,16 +16,6 @@ fn push_term(terms: &mut Vec<Term>, term: Term) -> Result<(), Memory>
 {
     terms.push(term)?;
     Ok(())
-}
-
-fn push_regex(regexes: &mut Vec<Regex>, regex: Regex) -> Result<(), MakeFault>
-    ensures pushed { OnOk result (regexes.new.items ≡ regexes.old.items ++ regex ∷ []) }
-    ensures fault { IfErr result (λ e. e ≡ MakeFault.Memory) }
-{
-    match regexes.push(regex) {
-        Ok(()) => Ok(()),
-        Err(_) => Err(MakeFault::Memory),
-    }
 }
 
 /// The terms of some words, or the first word that is no term.
@@ -47,28 +37,6 @@ pub(crate) fn read_terms(alloc: Global, words: &[Text], day: Day) -> Result<Vec<
         }
     }
     Ok(terms)
-}
-
-/// Builds the regex of a pattern, where it needs one.
-#[tactic(auto, using(crate::proofs::Built::built_one, crate::proofs::Built::built_none, crate::proofs::Built::refused_one))]
-fn build_pattern<M: Maker>(
-    alloc: Global,
-    pattern: &Pattern,
-    regexes: &mut Vec<Regex>,
-    maker: &mut M,
-) -> Result<(), MakeFault>
-    ensures grows { OnOk result (Grows (reading.source_of pattern.now) regexes.old.items
-        regexes.new.items) }
-    ensures tells { TellsOf (reading.source_of pattern.now) (M.refusals maker.old)
-        (M.refusals maker.new) (M.last_refused maker.old) (M.last_refused maker.new) result }
-{
-    match pattern {
-        Pattern::Word(_) => Ok(()),
-        Pattern::Special(source) => match maker.make(alloc, source) {
-            Ok(regex) => push_regex(regexes, regex),
-            Err(fault) => Err(fault),
-        },
-    }
 }
 
 /// Builds the regex of a tag's value, where it needs one.
