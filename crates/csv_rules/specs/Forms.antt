@@ -105,6 +105,10 @@ column_at text = if names_column text then Some (column_name (drop 1 text)) else
 abbrev pub after_column : List ℕ → List ℕ
 after_column text = if names_column text then after_white (after_column_name (drop 1 text)) else text
 
+-- what stands behind `&`, `!` and the column
+abbrev pub pattern_text : List ℕ → List ℕ
+pattern_text text = after_column (after_mark exclamation (after_mark 38 text))
+
 abbrev pub condition : Bool → Bool → Option (List ℕ) → List ℕ → Condition
 condition joined negated column pattern =
     record { joined = joined; negated = negated; column = column; pattern = pattern_of pattern }

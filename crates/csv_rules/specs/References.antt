@@ -100,7 +100,8 @@ abbrev pub unknown_by : Result Sheet ℕ → List Reference → List Reference
 unknown_by (Ok sheet) references = unknown_at (Some sheet) references
 unknown_by (Err line) references = unknown_at None references
 
--- The columns that a file of rules refers to and doesn't name, each with the first line that does; none where the rules don't read.
+-- The columns that a file of rules refers to and doesn't name, each with the first line that does; none where a line isn't of its
+-- form or the last block has no assignment. Whether the patterns compile doesn't matter.
 abbrev pub unknown_columns : List ℕ → List Reference
 unknown_columns text = unknown_by (rules_of text) (references_of text)
 

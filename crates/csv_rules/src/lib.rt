@@ -21,5 +21,6 @@ pub use importing::{import_laws, new_ones};
 pub use kinds::{
     Action, Assignment, Block, Condition, DatePart, EntryField, Settings, Sheet, Value,
 };
+pub use lines::pattern_text;
 pub use reading::Rules;
 pub use references::{Reference, unknown_columns};

@@ -237,6 +237,14 @@ fn after_column(text: &[u8]) -> &[u8]
     }
 }
 
+/// The pattern of a line with a pattern, which may be empty: what stands behind the marks and the name of the column.
+pub fn pattern_text(text: &[u8]) -> &[u8]
+    requires { is_utf8 text.now ≡ true }
+    ensures { result.now ≡ spec.pattern_text text.now }
+{
+    after_column(after_mark(b'!', after_mark(b'&', text)))
+}
+
 /// The condition of a line with a pattern, from the column on.
 fn read_sought(
     alloc: Global,

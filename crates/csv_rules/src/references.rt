@@ -280,7 +280,7 @@ fn unknown_at(
 }
 
 /// The columns that a file of rules refers to by `%NAME` or `%N` and doesn't have: for each name the first line that refers to
-/// it. A file of rules that doesn't read has none.
+/// it. None where a line isn't of its form or the last block has no assignment; whether the patterns compile doesn't matter.
 #[tactic(auto, using(crate::proofs::Progresses::reached_start, crate::proofs::ReferenceLaws::started))]
 pub fn unknown_columns(alloc: Global, text: &[u8]) -> Result<List<Reference>, Memory>
     ensures { IfOk result (λ found. found ≡ spec.unknown_columns text.now) }
