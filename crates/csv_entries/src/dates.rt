@@ -265,7 +265,7 @@ fn at_end(parts: Parts, rest: &[u8]) -> Option<Parts>
 
 /// The parts of a date that are the whole of a text.
 #[tactic(auto, using(crate::proofs::DateParts::one_more, crate::proofs::DateParts::no_part, crate::proofs::DateParts::all_read))]
-fn read_parts(format: &[DatePart], text: &[u8]) -> Option<Parts>
+pub fn read_parts(format: &[DatePart], text: &[u8]) -> Option<Parts>
     ensures { result ≡ spec.parts_of format.now spec.no_parts text.now }
 {
     let mut parts = Parts {

@@ -4,7 +4,7 @@
 pub mod amounts;
 pub mod blocks;
 mod conversion;
-mod dates;
+pub mod dates;
 mod fault_line;
 mod faults;
 pub mod fields;
