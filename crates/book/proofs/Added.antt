@@ -7,31 +7,13 @@ use Rattle.std.specs.List.{insert, remove, AllByRecursion}
 use Rattle.std.specs.FinMap.{IsAntisymmetric, slice_cmp-IsAntisymmetric, nat_cmp-IsAntisymmetric}
 use Rattle.std.specs.FinMap.Entries.{by_order, put, is_sorted-put, is_sorted-where_key}
 use Rattle.std.proofs.lemmas.Bool.{false≢true, ne_eqb}
-use Rattle.std.proofs.Math.Nat.{mul-div_cancel}
-use borrow.Author.Differences.{up, down, product_is, same_in}
 use Rattle.hl_num.specs.Decimal.{Decimal, units_of}
 use Rattle.hl_num.proofs.RoundingLemmas.{pow_ten_positive}
-use Rattle.hl_num.proofs.DecimalLemmas.{units_of-sum}
+use Rattle.hl_num.proofs.DecimalLemmas.{cancel, units_of-sum}
 use Rattle.book.specs.Entries.{IsRising, AreSums, held}
 use Rattle.book.specs.Mixed.{plus, sum_with, is_zero, without, settled, added}
 use Rattle.book.specs.Places.{IsPlace, IsGap}
 use Rattle.book.proofs.Places.{find-at, put-at, where_key-at, find-gap, put-gap}
-
-up-mul : (a : ℤ) (n : ℕ) → up (a *ℤ pos n) ≡ up a * n
-up-mul a n = omega (arith, (product_is a (pos n)).0)
-
-down-mul : (a : ℤ) (n : ℕ) → down (a *ℤ pos n) ≡ down a * n
-down-mul a n = omega (arith, (product_is a (pos n)).1)
-
-same_times : (a b n : ℕ) → 0 < n → a * n ≡ b * n → a ≡ b
-same_times a b n h e = sym (mul-div_cancel a h) ∙ ap (λ x. x / n) e ∙ mul-div_cancel b h
-
--- a factor that isn't zero cancels
-pub cancel : (x y : ℤ) (n : ℕ) → 0 < n → x *ℤ pos n ≡ y *ℤ pos n → x ≡ y
-cancel x y n h e =
-    let above = same_times (up x) (up y) n h (sym (up-mul x n) ∙ ap up e ∙ up-mul y n) in
-    let below = same_times (down x) (down y) n h (sym (down-mul x n) ∙ ap down e ∙ down-mul y n) in
-    same_in _ _ (omega (arith, above, below))
 
 -- the value and the number of places determine a decimal
 pub plus_from : (a b sum : Decimal) → a.places ≤ 36 → b.places ≤ 36 → units_of sum ≡ units_of a +ℤ units_of b → sum.places ≡ max a.places b.places → sum ≡ plus a b

@@ -1,7 +1,10 @@
 pub mod Accounts
 pub mod Added
+pub mod ByDay
 pub mod Entries
+pub mod Items
 pub mod Kept
+pub mod Names
 pub mod Order
 pub mod Others
 pub mod Places

@@ -1,7 +1,9 @@
 pub mod Accounts
 pub mod Bounds
+pub mod ByDay
 pub mod Entries
 pub mod FaultLine
+pub mod Keys
 pub mod Mixed
 pub mod Order
 pub mod Places

@@ -35,6 +35,11 @@ abbrev pub txn_in : Item → List Txn
 txn_in (item.Txn t) = t ∷ []
 txn_in _ = []
 
+-- an item is a transaction
+abbrev pub IsTxn : Item → Type 0
+IsTxn (item.Txn t) = Unit {0}
+IsTxn _ = ⊥
+
 -- the transactions among some items, in order
 abbrev pub txns_of : List Placed → List Txn
 txns_of items = flat_map (λ placed. txn_in placed.item) items

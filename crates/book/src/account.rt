@@ -1,5 +1,8 @@
 //! The order of accounts.
-ghost use Rattle.std.specs.Prelude.{◌≡◌};
+ghost use Rattle.std.specs.Prelude.{◌≡◌, ◌++◌, ◌∷◌, []};
+ghost use Rattle.std.specs.Bool.{nat_eq};
+ghost use Rattle.std.specs.List.{starts_with};
+ghost use Rattle.hl_base.specs.Ascii.{colon};
 ghost use Rattle.book.specs.Accounts.{account_cmp, byte_order};
 
 use hl_base::Text;
@@ -37,4 +40,15 @@ pub fn byte_order(a: u8, b: u8) -> Ordering
     } else {
         a.cmp(&b)
     }
+}
+
+/// Whether a name goes on behind that of an account with a colon.
+pub fn lies_below(account: &[u8], name: &[u8]) -> bool
+    ensures { result ≡ starts_with nat_eq name.now (account.now ++ colon ∷ []) }
+{
+    if !name.starts_with(account) {
+        return false;
+    }
+    let (_, rest) = name.split_at(account.len());
+    rest.starts_with(b":")
 }

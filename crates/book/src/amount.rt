@@ -1,4 +1,7 @@
 //! Amounts as they are written, with their costs and assertions.
+ghost use Rattle.std.specs.Prelude.{◌≡◌};
+ghost use Rattle.book.specs.Style.{cost_amount};
+
 use hl_base::Text;
 use hl_num::Dec;
 
@@ -27,6 +30,18 @@ pub struct Amount {
 pub enum Cost {
     Unit(Amount),
     Total(Amount),
+}
+
+impl Cost {
+    /// The amount that a cost is written with.
+    pub fn amount(&self) -> &Amount
+        ensures { result.now ≡ cost_amount self.now }
+    {
+        match self {
+            Cost::Unit(amount) => amount,
+            Cost::Total(amount) => amount,
+        }
+    }
 }
 
 /// What a balance is claimed to be: of the amount's symbol, or with `only` of every symbol; of the account, or

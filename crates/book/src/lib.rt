@@ -5,6 +5,7 @@
 pub mod account;
 pub mod amount;
 pub mod boxed;
+pub mod by_day;
 pub mod copies;
 pub mod directive;
 pub mod fault;
@@ -21,9 +22,10 @@ pub mod sums;
 mod table;
 pub mod transaction;
 
-pub use account::compare_accounts;
+pub use account::{compare_accounts, lies_below};
 pub use amount::{Amount, Assertion, Cost, Written};
 pub use boxed::Boxed;
+pub use by_day::sort_by_day;
 pub use copies::{
     copied_amount, copied_amounts, copied_cost, copied_costs, copied_head, copied_posting,
     copied_postings, copied_tags, copied_txn, copied_txns,
@@ -31,7 +33,7 @@ pub use copies::{
 pub use directive::{Directive, Price};
 pub use fault::{Cause, Fault};
 pub use fault_line::print_fault;
-pub use item::{Book, Item, Items, Placed};
+pub use item::{Book, Item, Items, Placed, count_txns};
 pub use mixed::{Mixed, MixedFault};
 pub use printed::{print_amount, print_plain, with_symbol};
 pub use rules::{AutoRule, Factor, PeriodicRule, RulePosting};

@@ -4,7 +4,7 @@ ghost use Rattle.std.specs.Prelude.{◌≡◌, OnOk, map};
 ghost use Rattle.std.specs.List.{flat_map};
 ghost use Rattle.std.specs.Option.{option_to_list};
 ghost use Rattle.book.specs.Standing.{noted, noted_all, IsSameBut};
-ghost use Rattle.book.specs.Style.{written_as, cost_amount, cost_styles, wanted_styles, amount_style, further_styles, rule_styles};
+ghost use Rattle.book.specs.Style.{written_as, cost_styles, wanted_styles, amount_style, further_styles, rule_styles};
 
 use crate::amount::{Amount, Assertion, Cost};
 use crate::boxed::Boxed;
@@ -63,20 +63,10 @@ fn note_cost(
 {
     match cost {
         Some(cost) => {
-            let amount = amount_of(cost.get());
+            let amount = cost.get().amount();
             note_amount(table, alloc, number, &amount.symbol, amount)
         }
         None => Ok(()),
-    }
-}
-
-/// The amount of a cost.
-fn amount_of(cost: &Cost) -> &Amount
-    ensures { result.now ≡ cost_amount cost.now }
-{
-    match cost {
-        Cost::Unit(amount) => amount,
-        Cost::Total(amount) => amount,
     }
 }
 
