@@ -24,6 +24,10 @@ four_digits n = two_digits (n / 100) ++ two_digits (n % 100)
 unfoldable pub day_text : ℕ → List ℕ
 day_text day = four_digits (year_of day) ++ (minus ∷ two_digits (month_of day)) ++ (minus ∷ two_digits (day_of_month day))
 
+-- a day of the calendar as `Y-MM-DD`; a number before or past the calendar shows its first or its last day
+abbrev pub calendar_text : ℕ → List ℕ
+calendar_text day = day_text (max 1 (min day last_day))
+
 -- the days from one up to an end are exactly a unit
 unfoldable pub is_unit : declared.Unit → ℕ → ℕ → Bool
 is_unit unit from end =

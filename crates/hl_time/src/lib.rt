@@ -17,7 +17,7 @@ pub use day::{Civil, Day, civil_of, day_of};
 pub use fault::TimeFault;
 pub use occurrences::occurrence;
 pub use periods::read_period;
-pub use shown::{column_name, print_day};
+pub use shown::{column_name, print_day, push_calendar_day};
 pub use spans::{Interval, Period, Span, Unit};
 pub use units::{DAY_END, begins, start_within, unit_of};
 pub use written_date::read_date;

@@ -48,6 +48,15 @@ pub fn print_day(day: Day) -> [u8; 10]
     ]
 }
 
+/// Appends a day as `Y-MM-DD`, for a number that is no day of the calendar its first or its last one.
+pub fn push_calendar_day(out: &mut Vec<u8>, day: Day) -> Result<(), Memory>
+    ensures { OnOk result (out.new.items ≡ out.old.items ++ spec.calendar_text day.0) }
+{
+    let shown = print_day(Day(day.0.min(DAY_END - 1).max(1)));
+    out.extend_from_slice(&shown)?;
+    Ok(())
+}
+
 fn push_two(text: &mut String, number: u8) -> Result<(), Memory>
     requires { number < 100 }
     ensures { OnOk result (string_bytes text.new ≡ string_bytes text.old
