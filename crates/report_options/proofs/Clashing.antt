@@ -10,7 +10,7 @@ clash_append_by : (pair : Item × Item) (xs ys : List (Item × Item)) (b : Bool)
 clash_append_by pair xs ys true e h = rw e refl
 clash_append_by pair xs ys false e h = rw e h
 
-clash_append : (xs ys : List (Item × Item)) → clash_among (xs ++ ys) ≡ option_or (clash_among xs) (clash_among ys)
+pub clash_append : (xs ys : List (Item × Item)) → clash_among (xs ++ ys) ≡ option_or (clash_among xs) (clash_among ys)
 clash_append [] ys = refl
 clash_append (pair ∷ xs) ys = clash_append_by pair xs ys (is_clash pair.0.name pair.1.name) refl (clash_append xs ys)
 

@@ -3,6 +3,7 @@ pub mod Cuts
 pub mod Cutting
 pub mod Depths
 pub mod Fields
+pub mod FileWords
 pub mod OptionRows
 pub mod Pieces
 pub mod Refused

@@ -115,7 +115,7 @@ module _ (command : Command) (day : ℕ) where
   unfolding items_in
   same_items those none = ap (λ (read : List Read). all_read read) (same_pieces those none)
 
-  same_read : (those : List (List ℕ)) → AllByRecursion NamesNoJournal those
+  pub same_read : (those : List (List ℕ)) → AllByRecursion NamesNoJournal those
       → items_of places.Request command day those ≡ items_of places.Program command day those
   same_read those none = ap (λ (read : Result (List Item) OptionFault). with_sheet command read) (same_items those none)
 

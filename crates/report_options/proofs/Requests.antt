@@ -37,7 +37,7 @@ reached command reaches.Print h = h
 reached command reaches.Program h = refl
 
 -- and none of them names a journal
-record Unnaming (name : Name) : Type 0 where
+pub record Unnaming (name : Name) : Type 0 where
   pub file : is_among name (names.File ∷ []) ≡ false
   pub store : is_among name (names.Store ∷ []) ≡ false
 
@@ -118,7 +118,7 @@ module _ (command : Command) (day : ℕ) where
 
 -- ---- all of them
 
-abbrev Unnamings : List Item → Type 0
+abbrev pub Unnamings : List Item → Type 0
 Unnamings [] = Unit {0}
 Unnamings (item ∷ items) = Unnaming item.name × Unnamings items
 
@@ -163,7 +163,7 @@ one_more : (items : List Item) (item : Item) → Unnamings items → Unnaming it
 one_more [] item all one = (one, tt)
 one_more (x ∷ xs) item all one = (all.0, one_more xs item all.1 one)
 
-turned : (items : List Item) → Unnamings items → Unnamings (reverse items)
+pub turned : (items : List Item) → Unnamings items → Unnamings (reverse items)
 turned [] all = tt
 turned (x ∷ xs) all = subst (λ (l : List Item). Unnamings l) (sym (reverse-cons x xs)) (one_more (reverse xs) x (turned xs all.1) all.0)
 
@@ -172,7 +172,7 @@ with_last true items all = one_more items sheet_item all (record { file = refl; 
 with_last false items all = all
 
 module _ (command : Command) (day : ℕ) (those : List (List ℕ)) where
-  record WordsKept (items : List Item) : Type 0 where
+  pub record WordsKept (items : List Item) : Type 0 where
     pub read : items_of places.Program command day those ≡ Ok items
     pub unnamed : Unnamings items
 
@@ -186,17 +186,17 @@ module _ (command : Command) (day : ℕ) (those : List (List ℕ)) where
       }
   sheet_kept items (Err fault) is e = absurd (err_ok (List Item) fault items e)
 
-  words_kept : (items : List Item) → items_of places.Request command day those ≡ Ok items → WordsKept items
+  pub words_kept : (items : List Item) → items_of places.Request command day those ≡ Ok items → WordsKept items
   words_kept items e = sheet_kept items (items_in places.Request command day those) refl e
 
 -- ---- such items name no journal
 
-no_file : (items : List Item) → Unnamings items → find (λ (item : Item). is_among item.name (names.File ∷ [])) items ≡ None
+pub no_file : (items : List Item) → Unnamings items → find (λ (item : Item). is_among item.name (names.File ∷ [])) items ≡ None
 no_file [] all = refl
 no_file (x ∷ xs) all =
     ap (λ (b : Bool). cond b (Some x) (find (λ (item : Item). is_among item.name (names.File ∷ [])) xs)) (all.0.file) ∙ no_file xs all.1
 
-no_store : (items : List Item) → Unnamings items → find (λ (item : Item). is_among item.name (names.Store ∷ [])) items ≡ None
+pub no_store : (items : List Item) → Unnamings items → find (λ (item : Item). is_among item.name (names.Store ∷ [])) items ≡ None
 no_store [] all = refl
 no_store (x ∷ xs) all =
     ap (λ (b : Bool). cond b (Some x) (find (λ (item : Item). is_among item.name (names.Store ∷ [])) xs)) (all.0.store) ∙ no_store xs all.1
