@@ -23,3 +23,4 @@ pub use change::Change;
 pub use fault::StoreFault;
 pub use image::Image;
 pub use store::Store;
+pub use whole::size_of_parts;

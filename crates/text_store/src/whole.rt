@@ -1,5 +1,5 @@
 //! A half that holds an image and no further record, as it is written.
-ghost use Rattle.std.specs.Prelude.{◌≡◌, ◌<◌, ◌≤◌, ◌+◌, ◌-◌, ◌^◌, ◌++◌, ◌∷◌, [], length, min, IfOk, OnOk};
+ghost use Rattle.std.specs.Prelude.{◌≡◌, ℕ, ◌<◌, ◌≤◌, ◌+◌, ◌-◌, ◌^◌, ◌++◌, ◌∷◌, [], length, min, IfOk, OnOk};
 ghost use Rattle.std.specs.Int.{w32, to_le_bytes};
 ghost use Rattle.std.specs.List.{flat_map};
 ghost use Rattle.text_store.specs.Changes.{mark_payload, AreStates};
@@ -16,12 +16,14 @@ use std::alloc::Global;
 pub fn whole_len(image: &Image) -> u64
     ensures { result ≡ min (whole_size image.now) (2 ^ 64 - 1) }
 {
-    len_of(image.text.as_slice(), image.latest.as_slice())
+    size_of_parts(image.text.as_slice(), image.latest.as_slice())
 }
 
-fn len_of(text: &[u8], latest: &[Latest]) -> u64
-    ensures { result ≡ min (whole_size
-        (record { text = text.now; latest = latest.now; revision = 0 })) (2 ^ 64 - 1) }
+/// The length of a file that holds a text and the states of imports, whatever its revision, at most 2^64 - 1.
+pub fn size_of_parts(text: &[u8], latest: &[Latest]) -> u64
+    ensures { (revision : ℕ) → result ≡ min
+        (whole_size (record { text = text.now; latest = latest.now; revision = revision }))
+        (2 ^ 64 - 1) }
 {
     let mut size = (text.len() as u64).saturating_add(47);
     for state in latest {

@@ -1,7 +1,7 @@
 use Rattle.std.proofs.Common.{◌≡◌, ◌+◌, ◌-◌, ◌^◌, ◌<◌, min, length, drop}
 use Rattle.std.specs.List.{sum_by}
 use Rattle.text_store.specs.Edits.{whole_size}
-use Rattle.text_store.proofs.whole.len_of.Given as goal
+use Rattle.text_store.proofs.whole.size_of_parts.Given as goal
 
 abbrev pub invariant-loop-state : goal.invariant-loop-state
 invariant-loop-state l =
