@@ -1,5 +1,5 @@
 //! The file of a zone that the environment variable TZ names.
-ghost use Rattle.std.specs.Prelude.{◌≡◌, ◌++◌, IfOk, option_map};
+ghost use Rattle.std.specs.Prelude.{◌≡◌, IfOk, option_map};
 ghost use Rattle.local_day.specs.Naming as spec;
 
 use hl_base::{Memory, Text};
@@ -64,15 +64,6 @@ fn folder_of(name: &str) -> &'static str
     }
 }
 
-/// Two texts, one behind the other.
-fn joined(alloc: Global, front: &str, back: &str) -> Result<Text, Memory>
-    ensures { IfOk result (λ text. text ≡ front.now ++ back.now) }
-{
-    let mut text = String::from_str(alloc, front)?;
-    text.push_str(back)?;
-    Ok(Text::from_string(text))
-}
-
 /// The path of the file of a name, where it names one.
 fn path_of_name(alloc: Global, name: &str) -> Result<Option<Text>, Memory>
     ensures { IfOk result (λ path. path ≡ spec.path_of_name name.now) }
@@ -80,7 +71,7 @@ fn path_of_name(alloc: Global, name: &str) -> Result<Option<Text>, Memory>
     if has_no_file(name) {
         return Ok(None);
     }
-    Ok(Some(joined(alloc, folder_of(name), name)?))
+    Ok(Some(Text::joined(alloc, folder_of(name), name)?))
 }
 
 /// The path of the file that may describe the zone, where there is one: `/etc/localtime` where TZ isn't set, else that of
