@@ -29,7 +29,7 @@ use Rattle.query_terms.specs.declared.kinds.Pattern.{Pattern}
 use Rattle.query_terms.specs.declared.kinds.Term.{Term}
 use Rattle.query.specs.declared.matching.Group.{Group}
 use Rattle.query.specs.declared.matching.Group.TheVariants as groups
-use Rattle.query_terms.specs.Trimmed.{trimmed}
+use Rattle.hl_base.specs.Ascii.{trimmed}
 
 -- the letters that accounts have of their own
 abbrev pub Own : Type 0

@@ -1,14 +1,12 @@
 -- Texts cut at ASCII bytes.
 use Rattle.std.proofs.Common.{◌≡◌, ℕ, zero, suc, ◌+◌, ◌-◌, ◌<◌, ◌≤◌, Bool, true, false, ◌==◌, not, List, [], length, get_or, take, drop, refl, arith, inl, inr}
-use Rattle.std.specs.List.{prefix_len, suffix_len, take_while, before_first, after_first}
+use Rattle.std.specs.List.{prefix_len, take_while, before_first, after_first}
 use Rattle.std.specs.Str.{is_utf8, IsUtf8, IsCharBoundary}
-use Rattle.hl_base.specs.Items.{is_white}
-use Rattle.query_terms.specs.Trimmed.{after_white, before_white}
 use Rattle.std.proofs.lemmas.Bool.{cases_lt}
 use Rattle.std.proofs.lemmas.List.{drop_all}
 use Rattle.std.proofs.lemmas.Bool.Decides.{nat_tests}
 use Rattle.std.proofs.lemmas.List.Folds.{length-prefix_len}
-use Rattle.std.proofs.lemmas.List.Sums.{prefix_len-le-length, prefix_len_passes, prefix_len_stops, suffix_len_is}
+use Rattle.std.proofs.lemmas.List.Sums.{prefix_len-le-length, prefix_len_passes, prefix_len_stops}
 use Rattle.std.proofs.lemmas.Str.{IsUtf8-from_is_utf8, is_utf8-from_IsUtf8, IsUtf8-take, IsUtf8-drop, IsCharBoundary-after_ascii, IsCharBoundary-start, IsUtf8-nil}
 
 pub prefix_count : (p : ℕ → Bool) (text : List ℕ) → length (take_while p text) ≡ prefix_len p text
@@ -62,26 +60,3 @@ before_byte text byte lt e = front_utf8 text (prefix_len (λ b. not (b == byte))
 
 pub after_byte : (text : List ℕ) (byte : ℕ) → byte < 128 → is_utf8 text ≡ true → is_utf8 (after_first (λ b. b == byte) text) ≡ true
 after_byte text byte lt e = past_utf8 text (prefix_len (λ b. not (b == byte)) text) (stop_ascii (λ b. not (b == byte)) text (equal_ascii byte lt)) e
-
--- a text that ends where only white space follows
-pub white_below : (b : ℕ) → is_white b ≡ true → b < 128
-white_below b e = grind (arith, nat_tests)
-
-pub after_white_utf8 : (text : List ℕ) → is_utf8 text ≡ true → is_utf8 (after_white text) ≡ true
-after_white_utf8 text e = after_passing is_white text white_below e
-
--- the end of a text from which on all is white space
-pub end_utf8 : (text : List ℕ) (n : ℕ) → n ≤ length text → ((k : ℕ) → n ≤ k → k < length text → is_white (get_or text k 0) ≡ true) → is_utf8 text ≡ true → is_utf8 (take n text) ≡ true
-end_utf8 text n le white e = front_utf8 text n (cut_before text n le (λ lt. white_below (get_or text n 0) (white n (omega arith) lt))) e
-
-pub end_is : (text : List ℕ) (n : ℕ) → n ≤ length text → ((k : ℕ) → n ≤ k → k < length text → is_white (get_or text k 0) ≡ true) → (0 < n → is_white (get_or text (n - 1) 0) ≡ false) → take n text ≡ before_white text
-end_is text n le white solid =
-    let e = suffix_len_is is_white text n 0 le white solid in
-    let k : length text - suffix_len is_white text ≡ n = omega arith in
-    rw k refl
-
-pub no_end_is : (text : List ℕ) (n : ℕ) → n ≤ 0 → ((k : ℕ) → n ≤ k → k < length text → is_white (get_or text k 0) ≡ true) → [] ≡ before_white text
-no_end_is text n none white = end_is text 0 (omega arith) (λ k _ lt. white k (omega arith) lt) (λ h. absurd (omega arith))
-
-pub empty_utf8 : is_utf8 [] ≡ true
-empty_utf8 = is_utf8-from_IsUtf8 [] IsUtf8-nil

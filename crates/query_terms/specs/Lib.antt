@@ -4,5 +4,4 @@ pub mod Making
 pub mod Patterns
 pub mod Reading
 pub mod Sought
-pub mod Trimmed
 pub mod Readings

@@ -3,7 +3,7 @@ use Rattle.std.specs.Prelude.{ℕ, ◌+◌, ◌-◌, ◌^◌, min, Bool, true, f
 use Rattle.std.specs.List.{starts_with, list_any, list_all, flat_map, before_first, after_first}
 use Rattle.std.specs.Str.{bytes_eq}
 use Rattle.std.specs.Str.Parse.{digits_value}
-use Rattle.hl_base.specs.Ascii.{colon, digit_zero, equals, minus, plus}
+use Rattle.hl_base.specs.Ascii.{begins, colon, digit_zero, equals, minus, plus}
 use Rattle.hl_num.specs.Decimal.{Decimal, negated}
 use Rattle.hl_num.specs.Reading.{is_digit, number_of}
 use Rattle.hl_num.specs.declared.reading.Number.{Number}
@@ -71,11 +71,6 @@ head_named name =
 -- the kind that a word names before its first colon
 unfoldable pub head_of : List ℕ → Head
 head_of text = if has_byte colon text then head_named (before_byte colon text) else heads.Bare
-
--- the text begins with this byte
-abbrev pub begins : List ℕ → ℕ → Bool
-begins [] byte = false
-begins (b ∷ bs) byte = b == byte
 
 -- `<`, `<=`, `>`, `>=` or none of these
 abbrev pub order_of : List ℕ → Order

@@ -1,5 +1,5 @@
 //! Words read as terms.
-ghost use Rattle.std.specs.Prelude.{◌≡◌, ◌≤◌, true, IfOk, IfSome, length, drop, min};
+ghost use Rattle.std.specs.Prelude.{◌≡◌, ◌≤◌, true, IfOk, IfSome, length, min};
 ghost use Rattle.std.specs.List.{list_all};
 ghost use Rattle.std.specs.Str.{is_utf8, bytes_eq};
 ghost use Rattle.std.specs.Str.Parse.{digits_value};
@@ -15,6 +15,7 @@ use crate::cutting::{after, before, bytes_of, has, text_of};
 use crate::kinds::{AmountTest, Field, Kind, Order, Pattern, Term};
 use crate::patterns::{read_pattern, read_symbol};
 use book::Mark;
+use hl_base::ascii::{begins, past};
 use hl_base::{Memory, Text, are_digits};
 use hl_num::{Dec, Number, read_number};
 use hl_time::{Day, Period, read_period};
@@ -125,28 +126,6 @@ fn under_nots(word: &[u8]) -> (usize, &[u8])
         rest = past(rest, 4);
     }
     (nots, rest)
-}
-
-/// Whether the text begins with this byte.
-fn begins(text: &[u8], byte: u8) -> bool
-    ensures { result ≡ spec.begins text.now byte }
-{
-    match text {
-        [] => false,
-        [first, ..] => *first == byte,
-    }
-}
-
-/// The text after so many bytes.
-#[tactic(auto, using(std::proofs::lemmas::List::drop_all))]
-fn past(text: &[u8], count: usize) -> &[u8]
-    ensures { result.now ≡ drop count text.now }
-{
-    if count <= text.len() {
-        &text[count..]
-    } else {
-        &[]
-    }
 }
 
 /// `<`, `<=`, `>`, `>=` or none of these at the front of a text.

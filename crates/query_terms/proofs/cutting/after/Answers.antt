@@ -2,4 +2,4 @@ use Rattle.query_terms.proofs.Texts.{after_byte}
 use Rattle.query_terms.proofs.cutting.after.Goals as goal
 
 pub returns-clause-utf8 : goal.returns-clause-utf8
-returns-clause-utf8 c = λ lt e. rw (c.past.ensures, c.place_of.ensures.place) (after_byte c.args.text.now c.args.byte lt e)
+returns-clause-utf8 c = λ lt e. rw (c.behind.ensures, c.place_of.ensures.place) (after_byte c.args.text.now c.args.byte lt e)
