@@ -1,11 +1,11 @@
 -- Texts cut at ASCII bytes.
 use Rattle.std.proofs.Common.{◌≡◌, ℕ, zero, suc, ◌+◌, ◌-◌, ◌<◌, ◌≤◌, Bool, true, false, cond, ◌==◌, not, ltb, nat_eq, codes, List, [], ◌∷◌, length, get_or, take, drop, refl, arith, inl, inr}
-use Rattle.std.specs.List.{prefix_len, suffix_len, take_while, before_first, after_first, list_all, starts_with}
+use Rattle.std.specs.List.{prefix_len, take_while, before_first, after_first, list_all, starts_with}
 use Rattle.std.specs.Str.{is_utf8, IsUtf8, IsCharBoundary}
 use Rattle.hl_base.specs.Items.{is_white}
 use Rattle.hl_num.specs.Reading.{is_number_byte}
 use Rattle.entry_reader.specs.Heads.{is_date_byte}
-use Rattle.entry_reader.specs.Lines.{starts_ascii, after_white, before_white}
+use Rattle.entry_reader.specs.Lines.{begins, starts_ascii, after_white}
 use Rattle.entry_reader.specs.Symbols.{is_symbol_byte}
 use borrow.Author.Tests.{ltb-true}
 use Rattle.entry_reader.specs.Amounts.{total_mark, unit_mark}
@@ -15,7 +15,7 @@ use Rattle.std.proofs.lemmas.Bool.{cases_lt, eqb-true}
 use Rattle.std.proofs.lemmas.List.{drop_all}
 use Rattle.std.proofs.lemmas.Bool.Decides.{nat_tests}
 use Rattle.std.proofs.lemmas.List.Folds.{length-prefix_len}
-use Rattle.std.proofs.lemmas.List.Sums.{prefix_len-le-length, prefix_len_passes, prefix_len_stops, suffix_len_is}
+use Rattle.std.proofs.lemmas.List.Sums.{prefix_len-le-length, prefix_len_passes, prefix_len_stops}
 use Rattle.std.proofs.lemmas.Str.{IsUtf8-from_is_utf8, is_utf8-from_IsUtf8, IsUtf8-take, IsUtf8-drop, IsCharBoundary-after_ascii, IsCharBoundary-start, IsUtf8-nil}
 
 pub prefix_count : (p : ℕ → Bool) (text : List ℕ) → length (take_while p text) ≡ prefix_len p text
@@ -98,22 +98,14 @@ symbol_utf8 text e = front_utf8 text (prefix_len is_symbol_byte text) (stop_cut 
 pub after_symbol_utf8 : (text : List ℕ) → is_utf8 text ≡ true → is_utf8 (drop (prefix_len is_symbol_byte text) text) ≡ true
 after_symbol_utf8 text e = rest_utf8 text (prefix_len is_symbol_byte text) (stop_cut is_symbol_byte text symbol_below) e
 
--- the end of a text from which on all is white space
-pub end_utf8 : (text : List ℕ) (n : ℕ) → n ≤ length text → ((k : ℕ) → n ≤ k → k < length text → is_white (get_or text k 0) ≡ true) → is_utf8 text ≡ true → is_utf8 (take n text) ≡ true
-end_utf8 text n le white e = front_utf8 text n (cut_before text n le (λ lt. white_below (get_or text n 0) (white n (omega arith) lt))) e
-
-pub end_is : (text : List ℕ) (n : ℕ) → n ≤ length text → ((k : ℕ) → n ≤ k → k < length text → is_white (get_or text k 0) ≡ true) → (0 < n → is_white (get_or text (n - 1) 0) ≡ false) → take n text ≡ before_white text
-end_is text n le white solid =
-    let e = suffix_len_is is_white text n 0 le white solid in
-    let k : length text - suffix_len is_white text ≡ n = omega arith in
-    rw k refl
+-- a text that begins with a byte begins with an ASCII byte where that is one
+pub begins_ascii : (text : List ℕ) (byte : ℕ) → byte < 128 → begins text byte ≡ true → starts_ascii text ≡ true
+begins_ascii [] byte lt e = absurd cc
+begins_ascii (b ∷ bs) byte lt e = grind (arith, nat_tests)
 
 pub first_utf8 : (text : List ℕ) → starts_ascii text ≡ true → is_utf8 text ≡ true → is_utf8 (drop (0 + 1) text) ≡ true
 first_utf8 [] a e = absurd cc
 first_utf8 (b ∷ bs) a e = past_utf8 (b ∷ bs) 0 (λ lt. ltb-true b 128 a) e
-
-pub no_end_is : (text : List ℕ) (n : ℕ) → n ≤ 0 → ((k : ℕ) → n ≤ k → k < length text → is_white (get_or text k 0) ≡ true) → [] ≡ before_white text
-no_end_is text n none white = end_is text 0 (omega arith) (λ k _ lt. white k (omega arith) lt) (λ h. absurd (omega arith))
 
 pub empty_utf8 : is_utf8 [] ≡ true
 empty_utf8 = is_utf8-from_IsUtf8 [] IsUtf8-nil

@@ -1,5 +1,5 @@
 //! How accounts are named: behind the names that are applied, and renamed by aliases.
-ghost use Rattle.std.specs.Prelude.{◌≡◌, ◌++◌, ◌∷◌, true, false, IfOk, OnOk, MatchOption, drop, length};
+ghost use Rattle.std.specs.Prelude.{◌≡◌, ◌∷◌, true, false, IfOk, OnOk, MatchOption, drop, length};
 ghost use Rattle.std.specs.Str.{is_utf8};
 ghost use Rattle.std.specs.String.{string_bytes};
 ghost use Rattle.entry_reader.specs.Contexts as spec;
@@ -46,21 +46,12 @@ fn below<'a>(name: &'a str, old: &str) -> Option<&'a str>
     }
 }
 
-/// Two texts, one behind the other.
-fn joined(alloc: Global, front: &str, back: &str) -> Result<Text, Memory>
-    ensures { IfOk result (λ text. text ≡ front.now ++ back.now) }
-{
-    let mut text = String::from_str(alloc, front)?;
-    text.push_str(back)?;
-    Ok(Text::from_string(text))
-}
-
 /// A name after one alias, an old name and a new one.
 fn renamed_by(alloc: Global, alias: &(Text, Text), name: Text) -> Result<Text, Memory>
     ensures { IfOk result (λ account. account ≡ spec.renamed_by alias.now name) }
 {
     if let Some(rest) = below(name.as_str(), alias.0.as_str()) {
-        return joined(alloc, alias.1.as_str(), rest);
+        return Text::joined(alloc, alias.1.as_str(), rest);
     }
     Ok(name)
 }

@@ -8,7 +8,9 @@ ghost use Rattle.entry_reader.specs.Heads as heads;
 ghost use Rattle.entry_reader.specs.Lines as spec;
 ghost use Rattle.entry_reader.specs.Symbols as symbols;
 
+use hl_base::ascii::behind;
 pub use hl_base::is_white;
+pub use hl_base::white::{after_white, before_white, trimmed};
 use hl_base::{Memory, Text, is_digit, is_punctuation};
 use memchr::memchr;
 use std::alloc::Global;
@@ -53,14 +55,6 @@ fn is_symbol_byte(byte: u8) -> bool
 }
 
 #[tactic(auto, using(crate::proofs::Texts::prefix_count, crate::proofs::Texts::prefix_bound))]
-fn white_length(text: &[u8]) -> usize
-    ensures count { result ≡ prefix_len items.is_white text.now }
-    ensures bound { result ≤ length text.now }
-{
-    text.iter().take_while(|byte| is_white(**byte)).count()
-}
-
-#[tactic(auto, using(crate::proofs::Texts::prefix_count, crate::proofs::Texts::prefix_bound))]
 fn number_length(text: &[u8]) -> usize
     ensures count { result ≡ prefix_len numbers.is_number_byte text.now }
     ensures bound { result ≤ length text.now }
@@ -97,18 +91,6 @@ pub fn place_of(text: &[u8], byte: u8) -> usize
     memchr(byte, text).unwrap_or(text.len())
 }
 
-/// What follows the byte at a place.
-#[tactic(auto, using(std::proofs::lemmas::List::drop_all))]
-fn past(text: &[u8], at: usize) -> &[u8]
-    ensures { result.now ≡ drop (at + 1) text.now }
-{
-    if at < text.len() {
-        &text[at + 1..]
-    } else {
-        &[]
-    }
-}
-
 /// What stands before the first such byte, or all of the text.
 pub fn before(text: &[u8], byte: u8) -> &[u8]
     ensures value { result.now ≡ spec.before_byte byte text.now }
@@ -123,7 +105,7 @@ pub fn after(text: &[u8], byte: u8) -> &[u8]
     ensures value { result.now ≡ spec.after_byte byte text.now }
     ensures utf8 { byte < 128 → is_utf8 text.now ≡ true → is_utf8 result.now ≡ true }
 {
-    past(text, place_of(text, byte))
+    behind(text, place_of(text, byte))
 }
 
 /// What stands before the first such byte, or all of the text, and what stands after it, or nothing.
@@ -135,7 +117,7 @@ pub fn around(text: &[u8], byte: u8) -> (&[u8], &[u8])
 {
     let at = place_of(text, byte);
     let (front, _) = text.split_at(at);
-    (front, past(text, at))
+    (front, behind(text, at))
 }
 
 /// Whether such a byte stands in the text.
@@ -146,14 +128,12 @@ pub fn has(text: &[u8], byte: u8) -> bool
 }
 
 /// Whether the text begins with this byte.
+#[tactic(auto, using(crate::proofs::Texts::begins_ascii))]
 pub fn begins(text: &[u8], byte: u8) -> bool
     ensures value { result ≡ spec.begins text.now byte }
     ensures ascii { byte < 128 → result ≡ true → spec.starts_ascii text.now ≡ true }
 {
-    match text {
-        [] => false,
-        [first, ..] => *first == byte,
-    }
+    hl_base::ascii::begins(text, byte)
 }
 
 /// Whether the text begins with white space.
@@ -216,49 +196,7 @@ pub fn past_first(text: &[u8]) -> &[u8]
     ensures utf8 { spec.starts_ascii text.now ≡ true → is_utf8 text.now ≡ true
         → is_utf8 result.now ≡ true }
 {
-    past(text, 0)
-}
-
-/// The text without the white space at its front.
-#[tactic(auto, using(crate::proofs::Texts::after_white_utf8))]
-pub fn after_white(text: &[u8]) -> &[u8]
-    ensures value { result.now ≡ spec.after_white text.now }
-    ensures utf8 { is_utf8 text.now ≡ true → is_utf8 result.now ≡ true }
-{
-    let (_, rest) = text.split_at(white_length(text));
-    rest
-}
-
-/// The first bytes of a text.
-fn front(text: &[u8], end: usize) -> &[u8]
-    requires { end ≤ length text.now }
-    ensures { result.now ≡ take end text.now }
-{
-    let (front, _) = text.split_at(end);
-    front
-}
-
-/// The text without the white space at its end.
-pub fn before_white(text: &[u8]) -> &[u8]
-    ensures value { result.now ≡ spec.before_white text.now }
-    ensures utf8 { is_utf8 text.now ≡ true → is_utf8 result.now ≡ true }
-{
-    let mut end = text.len();
-    while 0 < end {
-        if !is_white(text[end - 1]) {
-            return front(text, end);
-        }
-        end -= 1;
-    }
-    front(text, 0)
-}
-
-/// The text without white space at both ends.
-pub fn trimmed(text: &[u8]) -> &[u8]
-    ensures value { result.now ≡ spec.trimmed text.now }
-    ensures utf8 { is_utf8 text.now ≡ true → is_utf8 result.now ≡ true }
-{
-    before_white(after_white(text))
+    behind(text, 0)
 }
 
 /// The digits and marks that a text begins with, and what follows them.
@@ -302,7 +240,7 @@ pub fn cut_line(text: &[u8]) -> (&[u8], &[u8])
 {
     let end = place_of(text, b'\n');
     let (line, _) = text.split_at(end);
-    (before_white(line), past(text, end))
+    (before_white(line), behind(text, end))
 }
 
 /// The text of bytes in UTF-8.
