@@ -5,10 +5,8 @@ ghost use Rattle.std.specs.Str.{is_utf8};
 ghost use Rattle.time_logs.specs.ClockLines as spec;
 
 use crate::moments::{Moment, moment_of};
-use crate::said::{
-    account_and_rest, begins_gap, begins_with, description_said, read_real_account, said,
-};
-use entry_reader::scan::{after, before, text_of};
+use crate::said::{account_and_rest, begins_gap, description_said, read_real_account, said};
+use entry_reader::scan::{after, before, begins, text_of};
 use hl_base::{Memory, Text};
 use std::alloc::Global;
 
@@ -111,7 +109,7 @@ pub fn clock_line(alloc: Global, content: &[u8]) -> Result<Option<ClockLine>, Me
     ensures { IfOk result (λ line. line ≡ spec.clock_line content.now) }
 {
     let words = said(content);
-    if words.is_empty() || begins_with(words, b'#') || begins_with(words, b'*') {
+    if words.is_empty() || begins(words, b'#') || begins(words, b'*') {
         return Ok(Some(ClockLine::Gap));
     }
     clock_words(alloc, words)

@@ -5,10 +5,8 @@ ghost use Rattle.time_logs.specs.DotLines as spec;
 
 use crate::moments::day_of;
 use crate::quantities::quantity_of;
-use crate::said::{
-    account_and_rest, begins_gap, begins_with, description_said, read_real_account, said,
-};
-use entry_reader::scan::{after, after_white, before, begins_white, text_of};
+use crate::said::{account_and_rest, begins_gap, description_said, read_real_account, said};
+use entry_reader::scan::{after, after_white, before, begins, begins_white, text_of};
 use hl_base::{Memory, Text};
 use hl_num::Dec;
 use hl_time::Day;
@@ -128,10 +126,10 @@ pub fn dot_line(alloc: Global, begun: bool, content: &[u8]) -> Result<Option<Dot
     ensures { IfOk result (λ line. line ≡ spec.dot_line begun content.now) }
 {
     let words = said(content);
-    if words.is_empty() || begins_with(words, b'#') {
+    if words.is_empty() || begins(words, b'#') {
         return Ok(Some(DotLine::Gap));
     }
-    if begins_with(words, b'*') {
+    if begins(words, b'*') {
         return starred_line(alloc, begun, words);
     }
     plain_line(alloc, begun, words)

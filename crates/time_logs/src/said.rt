@@ -6,7 +6,7 @@ ghost use Rattle.time_logs.specs.Said as spec;
 
 use book::Side;
 use entry_reader::account::cut_account;
-use entry_reader::scan::{before, before_white, trimmed};
+use entry_reader::scan::{before, before_white, begins, trimmed};
 use entry_reader::{ReadFault, read_account};
 use hl_base::{Memory, Text};
 use std::alloc::Global;
@@ -17,16 +17,6 @@ pub fn said(content: &[u8]) -> &[u8]
     ensures utf8 { is_utf8 content.now ≡ true → is_utf8 result.now ≡ true }
 {
     before_white(before(content, b';'))
-}
-
-/// Whether a line that begins so is a remark.
-pub fn begins_with(text: &[u8], byte: u8) -> bool
-    ensures { result ≡ spec.begins text.now byte }
-{
-    match text {
-        [] => false,
-        [first, ..] => *first == byte,
-    }
 }
 
 /// The account that a text is, as that of a real posting.
@@ -71,10 +61,7 @@ pub fn description_said(text: &[u8]) -> Option<&[u8]>
     ensures utf8 { IfSome result (λ description. is_utf8 description.now ≡ true) }
 {
     let description = trimmed(text);
-    if begins_with(description, b'(')
-        || begins_with(description, b'!')
-        || begins_with(description, b'*')
-    {
+    if begins(description, b'(') || begins(description, b'!') || begins(description, b'*') {
         None
     } else {
         Some(description)
