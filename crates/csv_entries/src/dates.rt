@@ -1,11 +1,12 @@
 //! The day of a record.
-ghost use Rattle.std.specs.Prelude.{◌≡◌, ◌<◌, true, [], drop, take, slice_index, option_map, Some, IfSome};
+ghost use Rattle.std.specs.Prelude.{◌≡◌, ◌<◌, true, [], take, slice_index, option_map, Some, IfSome};
 ghost use Rattle.hl_time.specs.Date as dates;
 ghost use Rattle.csv_entries.specs.Dates as spec;
 
 use csv_rules::DatePart;
 use csv_rules::words::is_same_word;
 use hl_base::List;
+use hl_base::ascii::past;
 use hl_time::{Day, day_of, read_date};
 
 /// A year, a month and a day, each where it has been read.
@@ -40,18 +41,6 @@ fn digit_at(text: &[u8], at: usize) -> u16
         u16::from(byte - b'0')
     } else {
         0
-    }
-}
-
-/// The text behind so many bytes.
-#[tactic(auto, using(std::proofs::lemmas::List::drop_all))]
-fn past(text: &[u8], count: usize) -> &[u8]
-    ensures { result.now ≡ drop count text.now }
-{
-    if count <= text.len() {
-        &text[count..]
-    } else {
-        &[]
     }
 }
 
