@@ -1,7 +1,6 @@
 mod Counting
 mod FileEnds
 mod Finding
-mod Lined
 mod Marks
 mod Opening
 mod Rows

@@ -9,11 +9,11 @@ use Rattle.csv_rules.specs.declared.reading.Rules.{Rules}
 use Rattle.csv_entries.specs.declared.faults.ConvertFault.{ConvertFault}
 use Rattle.csv_entries.specs.declared.faults.ConvertFault.TheVariants as faults
 use Rattle.bank_explanations.specs.Parts.{part_for}
-use Rattle.bank_explanations.specs.Places.{first_content, number_before, record_text}
+use Rattle.bank_explanations.specs.Places.{number_before, record_text}
 use Rattle.bank_explanations.specs.Sentences.{rules_sentence, sentence_of}
 use Rattle.bank_explanations.specs.declared.parts.Part.{Part}
 use Rattle.entry_reader.specs.Lines.{contents_of}
-use Rattle.explanations.specs.Explained.{numbered}
+use Rattle.explanations.specs.Explained.{first_content, numbered}
 pub use Rattle.book.specs.FaultLine.{ended}
 
 -- the name of a field in rules

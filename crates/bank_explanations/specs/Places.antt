@@ -4,7 +4,6 @@ use Rattle.std.specs.List.{concat, filter, starts_with}
 use Rattle.csv.specs.Reading.{records, strip_bom}
 use Rattle.csv_entries.specs.Records.{config_of, text_after}
 use Rattle.csv_rules.specs.declared.kinds.Settings.{Settings}
-use Rattle.entry_reader.specs.Lines.{contents_of}
 use Rattle.hl_base.specs.Ascii.{line_feed}
 use Rattle.hl_base.specs.Lines.{lines_of}
 
@@ -39,11 +38,3 @@ line_ends text = length (filter (λ b. b == line_feed) text)
 -- the number of the line with which the rest of a file begins
 abbrev pub number_before : List ℕ → List ℕ → ℕ
 number_before text rest = line_ends text - line_ends rest + 1
-
-abbrev pub first_of : List (List ℕ) → List ℕ
-first_of [] = []
-first_of (l ∷ ls) = l
-
--- what the first line of a text says
-abbrev pub first_content : List ℕ → List ℕ
-first_content text = first_of (contents_of text)

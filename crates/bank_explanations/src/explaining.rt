@@ -3,11 +3,11 @@ ghost use Rattle.std.specs.Prelude.{◌≡◌, ◌++◌, IfOk};
 ghost use Rattle.bank_explanations.specs.Explained as spec;
 
 use crate::parts::{Part, part_for};
-use crate::places::{first_content, number_before, record_text};
+use crate::places::{number_before, record_text};
 use crate::sentences::{rules_sentence, sentence_of};
 use csv_entries::ConvertFault;
 use csv_rules::{EntryField, Rules, RulesFault};
-use explanations::lines::line_numbered;
+use explanations::lines::{first_content, line_numbered};
 use hl_base::{Bytes, Memory};
 use std::alloc::Global;
 use std::string::ToString;

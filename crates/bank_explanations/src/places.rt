@@ -6,7 +6,6 @@ ghost use Rattle.bank_explanations.specs.Places as spec;
 use crate::spots::{Spot, past_line};
 use csv_entries::skipping::text_after;
 use csv_rules::Settings;
-use entry_reader::scan::cut_line;
 use explanations::lines::begins_with;
 use hl_base::line::line_at;
 
@@ -75,16 +74,4 @@ pub(crate) fn number_before(text: &[u8], rest: &[u8]) -> u64
     ensures { result ≡ spec.number_before text.now rest.now }
 {
     line_ends(text).saturating_sub(line_ends(rest)) as u64 + 1
-}
-
-/// What the first line of a text says.
-#[tactic(auto, using(crate::proofs::Lined::first_cut, crate::proofs::Lined::first_none))]
-pub(crate) fn first_content(text: &[u8]) -> &[u8]
-    ensures { result.now ≡ spec.first_content text.now }
-{
-    if text.is_empty() {
-        return text;
-    }
-    let (content, _) = cut_line(text);
-    content
 }

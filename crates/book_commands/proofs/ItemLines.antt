@@ -1,14 +1,13 @@
 -- The items of a text, line by line.
-use Rattle.std.proofs.Common.{◌≡◌, ℕ, ◌+◌, ◌<◌, ◌≤◌, List, [], ◌∷◌, ◌++◌, Ok, length, get_or, drop, min, inl, inr, refl, sym, ap, ◌∙◌, append_assoc, arith}
+use Rattle.std.proofs.Common.{◌≡◌, ℕ, ◌+◌, ◌<◌, ◌≤◌, List, ◌++◌, Ok, length, get_or, drop, min, inl, inr, refl, sym, ap, ◌∙◌, append_assoc, arith}
 use Rattle.std.proofs.lemmas.Bool.{cases_lt}
-use Rattle.std.proofs.lemmas.List.{append-nil, drop_all, nil_from_length}
+use Rattle.std.proofs.lemmas.List.{append-nil, drop_all}
 use Rattle.book.specs.declared.item.Book.{Book}
 use Rattle.book.specs.declared.item.Placed.{Placed}
-use Rattle.entry_reader.specs.Lines.{contents_of}
 use Rattle.query_terms.proofs.Walks.{left_here}
 use Rattle.refusals.specs.Outcomes.{Judged, written}
 use Rattle.book_commands.specs.Answers.{Finds}
-use Rattle.book_commands.specs.Listed.{first_or_none, item_line, items_made, lines_from}
+use Rattle.book_commands.specs.Listed.{item_line, items_made, lines_from}
 
 -- past the end of a text nothing is left
 pub drop_within : (at : ℕ) (text : List ℕ) → drop (min at (length text)) text ≡ drop at text
@@ -17,16 +16,6 @@ drop_within at text =
       | inl lt ↦ let k : min at (length text) ≡ at = omega arith in rw k refl
       | inr le ↦ drop_all (min at (length text)) text (omega arith) ∙ sym (drop_all at text le)
     ]
-
--- what the first line of a text says
-pub said_first : (text content after : List ℕ) → contents_of text ≡ content ∷ contents_of after → content ≡ first_or_none (contents_of text)
-said_first text content after cut = sym (ap first_or_none cut)
-
-none_in : (text : List ℕ) → text ≡ [] → first_or_none (contents_of text) ≡ text
-none_in text e = rw e refl
-
-pub none_said : (text : List ℕ) → length text ≤ 0 → text ≡ first_or_none (contents_of text)
-none_said text empty = sym (none_in text (nil_from_length text (omega arith)))
 
 pub lines_more : (text whole found : List ℕ) (items : List Placed) (i number : ℕ) (placed : Placed) (now : List ℕ) → whole ≡ found ++ lines_from text number (drop i items)
     → i < length items → placed ≡ get_or items i placed → now ≡ found ++ item_line text number placed

@@ -6,14 +6,9 @@ use Rattle.book.specs.declared.item.Book.{Book}
 use Rattle.book.specs.declared.item.Item.{Item}
 use Rattle.book.specs.declared.item.Item.TheVariants as item
 use Rattle.book.specs.declared.item.Placed.{Placed}
-use Rattle.entry_reader.specs.Lines.{contents_of}
+use Rattle.explanations.specs.Explained.{first_content}
 use Rattle.journal_printer.specs.Texts.{calendar_text}
 use Rattle.refusals.specs.Outcomes.{Outcome, written}
-
--- what the first of some lines says
-abbrev pub first_or_none : List (List ℕ) → List ℕ
-first_or_none [] = []
-first_or_none (l ∷ ls) = l
 
 -- the day of a transaction
 abbrev pub day_in : Item → List ℕ
@@ -30,7 +25,7 @@ said one first = day_in one ++ (tab ∷ []) ++ first ++ (line_feed ∷ [])
 
 abbrev pub item_line : List ℕ → ℕ → Placed → List ℕ
 item_line text number placed =
-    numbers number placed.piece.line ++ said placed.item (first_or_none (contents_of (drop placed.piece.at text)))
+    numbers number placed.piece.line ++ said placed.item (first_content (drop placed.piece.at text))
 
 -- the lines of items from a number on
 abbrev pub lines_from : List ℕ → ℕ → List Placed → List ℕ

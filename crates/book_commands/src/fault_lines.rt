@@ -9,6 +9,7 @@ ghost use Rattle.book_commands.specs.FaultLines as spec;
 
 use book_care::{CloseFault, StrictFault};
 use error_lines::{in_log, memory, past_limit, with_text};
+use hl_base::bytes::joined;
 use hl_base::{Bytes, Memory};
 use hl_time::{DAY_END, Day, print_day};
 use refusals::Refusal;
@@ -68,16 +69,6 @@ fn in_line(alloc: Global, line: u64, said: &[u8]) -> Result<Bytes, Memory>
     bytes.extend_from_slice(said)?;
     bytes.push(b'\n')?;
     Ok(Bytes::from_vec(bytes))
-}
-
-/// Two texts, one behind the other.
-pub(crate) fn joined(alloc: Global, front: &[u8], back: &[u8]) -> Result<Vec<u8>, Memory>
-    ensures { IfOk result (λ both. both.items ≡ front.now ++ back.now) }
-{
-    let mut both = Vec::new(alloc);
-    both.extend_from_slice(front)?;
-    both.extend_from_slice(back)?;
-    Ok(both)
 }
 
 /// What isn't declared in a line.

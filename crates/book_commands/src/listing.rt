@@ -1,16 +1,16 @@
 //! The items of a journal, a line each.
 ghost use Rattle.std.specs.Prelude.{◌≡◌, ◌≤◌, ◌++◌, Ok, IfOk, OnOk, drop, length};
 ghost use Rattle.hl_base.specs.Limits.{text_limit};
-ghost use Rattle.entry_reader.specs.Lines.{contents_of};
 ghost use Rattle.refusals.specs.Refusing.{IsOfReport};
 ghost use Rattle.book_commands.specs.Answers.{Finds, IsQuiet};
 ghost use Rattle.book_commands.specs.Listed as spec;
 ghost use Rattle.book_commands.specs.Texts.{judged_text};
 
-use crate::fault_lines::{day_text, joined};
+use crate::fault_lines::day_text;
 use crate::journal::{Kept, load_kept};
 use book::{Item, Placed};
-use entry_reader::scan::cut_line;
+use explanations::lines::first_content;
+use hl_base::bytes::joined;
 use hl_base::{Bytes, Memory, Steps};
 use refusals::Refusal;
 use std::alloc::Global;
@@ -25,18 +25,6 @@ fn from_place(text: &[u8], at: u64) -> &[u8]
 {
     let (_, rest) = text.split_at(at.min(text.len() as u64) as usize);
     rest
-}
-
-/// What the first line of a text says.
-#[tactic(auto, using(crate::proofs::ItemLines::said_first, crate::proofs::ItemLines::none_said))]
-fn first_said(text: &[u8]) -> &[u8]
-    ensures { result.now ≡ spec.first_or_none (contents_of text.now) }
-{
-    if text.is_empty() {
-        return text;
-    }
-    let (content, _) = cut_line(text);
-    content
 }
 
 /// The number of an item and that of its first line, each with a tab after it.
@@ -83,7 +71,7 @@ fn item_line(alloc: Global, text: &[u8], number: u64, placed: &Placed) -> Result
     let back = said(
         alloc,
         &placed.item,
-        first_said(from_place(text, placed.piece.at)),
+        first_content(from_place(text, placed.piece.at)),
     )?;
     joined(alloc, front.as_slice(), back.as_slice())
 }

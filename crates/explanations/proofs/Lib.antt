@@ -1,2 +1,3 @@
 mod Breaking
+mod Lined
 mod Numbering

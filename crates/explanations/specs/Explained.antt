@@ -16,6 +16,15 @@ abbrev pub numbered : ℕ → List (List ℕ) → List ℕ
 numbered n [] = []
 numbered n (l ∷ ls) = if nat_le n 1 then l else numbered (n - 1) ls
 
+-- the first of some lines; nothing where there is none
+abbrev pub first_of : List (List ℕ) → List ℕ
+first_of [] = []
+first_of (l ∷ ls) = l
+
+-- what the first line of a text says
+abbrev pub first_content : List ℕ → List ℕ
+first_content text = first_of (contents_of text)
+
 -- ---- what is in the line
 
 -- a no-break space, U+00A0

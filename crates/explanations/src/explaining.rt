@@ -1,5 +1,5 @@
 //! The lines that explain a fault.
-ghost use Rattle.std.specs.Prelude.{◌≡◌, ◌++◌, IfOk, codes};
+ghost use Rattle.std.specs.Prelude.{◌≡◌, IfOk, codes};
 ghost use Rattle.std.specs.String.{string_bytes};
 ghost use Rattle.book.specs.FaultLine.{ended};
 ghost use Rattle.explanations.specs.Explained as spec;
@@ -7,6 +7,7 @@ ghost use Rattle.explanations.specs.Explained as spec;
 use crate::lines::line_numbered;
 use crate::sentences::sentence_of;
 use book::{Fault, print_fault};
+use hl_base::bytes::joined;
 use hl_base::{Bytes, Memory};
 use std::alloc::Global;
 use std::string::ToString;
@@ -30,16 +31,6 @@ fn sentence_line(alloc: Global, sentence: &str) -> Result<Vec<u8>, Memory>
     let mut text = String::from_str(alloc, sentence)?;
     text.push_str("\n")?;
     Ok(text.into_bytes())
-}
-
-/// Two texts, one after the other.
-fn joined(alloc: Global, front: &[u8], back: &[u8]) -> Result<Vec<u8>, Memory>
-    ensures { IfOk result (λ both. both.items ≡ front.now ++ back.now) }
-{
-    let mut both = Vec::new(alloc);
-    both.extend_from_slice(front)?;
-    both.extend_from_slice(back)?;
-    Ok(both)
 }
 
 /// A line of a text with its number, and a sentence on it.

@@ -31,6 +31,18 @@ pub fn line_numbered(text: &[u8], number: u64) -> &[u8]
     rest
 }
 
+/// What the first line of a text says.
+#[tactic(auto, using(crate::proofs::Lined::first_cut, crate::proofs::Lined::first_none))]
+pub fn first_content(text: &[u8]) -> &[u8]
+    ensures { result.now ≡ spec.first_content text.now }
+{
+    if text.is_empty() {
+        return text;
+    }
+    let (content, _) = cut_line(text);
+    content
+}
+
 /// Whether a line begins with some bytes.
 pub fn begins_with(line: &[u8], front: &[u8]) -> bool
     ensures { result ≡ starts_with nat_eq line.now front.now }

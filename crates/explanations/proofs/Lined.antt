@@ -2,7 +2,7 @@
 use Rattle.std.proofs.Common.{◌≡◌, ℕ, ◌≤◌, List, [], ◌∷◌, length, refl, sym, ap, arith}
 use Rattle.std.proofs.lemmas.List.{nil_from_length}
 use Rattle.entry_reader.specs.Lines.{contents_of}
-use Rattle.bank_explanations.specs.Places.{first_content, first_of}
+use Rattle.explanations.specs.Explained.{first_content, first_of}
 
 pub first_cut : (text content after : List ℕ) → contents_of text ≡ content ∷ contents_of after → content ≡ first_content text
 first_cut text content after cut = sym (ap first_of cut)
