@@ -1,7 +1,7 @@
 -- The lines of a text one after another, and the context behind its items.
-use Rattle.std.proofs.Common.{◌≡◌, ℕ, ◌+◌, ◌<◌, ◌≤◌, Bool, ◌||◌, List, [], ◌∷◌, ◌++◌, length, take, drop, get_or, Option, sym, ap, ◌∙◌, arith}
+use Rattle.std.proofs.Common.{◌≡◌, ℕ, ◌+◌, ◌<◌, Bool, ◌||◌, List, [], ◌∷◌, ◌++◌, length, take, drop, get_or, Option, sym, ap, ◌∙◌}
 use Rattle.std.specs.List.{list_any}
-use Rattle.std.proofs.lemmas.List.{drop_all, map_more}
+use Rattle.std.proofs.lemmas.List.{map_more}
 use Rattle.hl_base.specs.Lines.{first_line, lines_of}
 use Rattle.hl_base.proofs.LineLemmas.{lines_at}
 use Rattle.book.specs.declared.item.Item.{Item}
@@ -12,18 +12,6 @@ use Rattle.text_ends.specs.Ends.{items_at}
 -- a line of a text from a place on is its first line there, or one after it
 pub any_line : (p : List ℕ → Bool) (text : List ℕ) (at : ℕ) → at < length text → list_any p (lines_of (drop at text)) ≡ (p (first_line (drop at text)) || list_any p (lines_of (drop (at + length (first_line (drop at text))) text)))
 any_line p text at h = ap (list_any p) (lines_at text at h)
-
--- one more line
-pub line_more : (text : List ℕ) (at next lines whole : ℕ) → at < length text → next ≡ at + length (first_line (drop at text)) → lines + length (lines_of (drop at text)) ≡ whole → lines + 1 + length (lines_of (drop next text)) ≡ whole
-line_more text at next lines whole lt e h =
-    let cut = ap length (lines_at text at lt) in
-    let there : length (lines_of (drop next text)) ≡ length (lines_of (drop (at + length (first_line (drop at text))) text)) = ap (λ (n : ℕ). length (lines_of (drop n text))) e in
-    omega (arith, cut, there, h)
-
-pub all_counted : (text : List ℕ) (at lines whole : ℕ) → length text ≤ at → lines + length (lines_of (drop at text)) ≡ whole → lines ≡ whole
-all_counted text at lines whole le h =
-    let none : length (lines_of (drop at text)) ≡ 0 = ap (λ (t : List ℕ). length (lines_of t)) (drop_all at text le) in
-    omega (arith, none, h)
 
 -- the context after one more item
 pub context_more : (year : Option ℕ) (items : List Placed) (i : ℕ) (placed : Placed) (context : Context) → i < length items → placed ≡ get_or items i placed

@@ -1,9 +1,9 @@
 -- What is kept of a text's end.
-use Rattle.std.specs.Prelude.{ℕ, ◌-◌, Bool, true, false, ◌&&◌, not, List, ◌==◌, map, Option, Some, None, length, take, drop, slice_index}
+use Rattle.std.specs.Prelude.{ℕ, ◌-◌, Bool, true, false, ◌&&◌, not, List, map, Option, Some, None, length, take, drop}
 use Rattle.std.specs.List.{list_any, slice_get}
-use Rattle.hl_base.specs.Ascii.{line_feed}
 use Rattle.hl_base.specs.Items.{closes_block, items_of}
 use Rattle.hl_base.specs.Lines.{lines_of}
+pub use Rattle.hl_base.specs.Lines.{ends_line}
 use Rattle.hl_base.specs.declared.items.Kind.{Kind}
 use Rattle.hl_base.specs.declared.items.Kind.TheVariants as kinds
 use Rattle.hl_base.specs.declared.items.Piece.{Piece}
@@ -22,10 +22,6 @@ last_of xs = slice_get xs (length xs - 1)
 -- all but the last
 abbrev pub front_of : {X : Type 0} → List X → List X
 front_of xs = take (length xs - 1) xs
-
--- it ends with LF
-abbrev pub ends_line : List ℕ → Bool
-ends_line text = slice_index text (length text - 1) == line_feed
 
 abbrev pub is_block : Kind → Bool
 is_block kinds.Block = true

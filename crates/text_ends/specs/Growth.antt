@@ -5,6 +5,7 @@ use Rattle.hl_base.specs.Ascii.{line_feed}
 use Rattle.hl_base.specs.Items.{items_of}
 use Rattle.hl_base.specs.Limits.{entry_limit, text_limit}
 use Rattle.hl_base.specs.Pieces.{bytes_left, lines_left}
+pub use Rattle.hl_base.specs.Pieces.{shifted}
 use Rattle.hl_base.specs.declared.items.Kind.{Kind}
 use Rattle.hl_base.specs.declared.items.Kind.TheVariants as kinds
 use Rattle.hl_base.specs.declared.items.Piece.{Piece}
@@ -100,10 +101,6 @@ abbrev pub growth_fault : KeptEnd → List ℕ → Option Fault
 growth_fault e bytes =
     let more = take (taken e bytes) bytes in
     if is_utf8 more then outgrown (taken e bytes) e.last else Some (fault_at (broken_line (line_behind e) more) cause.Encoding)
-
--- a piece of what is put behind so many bytes and lines
-abbrev pub shifted : ℕ → ℕ → Piece → Piece
-shifted at lines p = record { at = at + p.at; len = p.len; line = lines + p.line; kind = p.kind }
 
 -- what pieces of bytes say behind so many bytes and lines, each in the context of all items before it
 unfoldable pub read_on : Context → ℕ → ℕ → List ℕ → List Piece → Result (List Placed) Fault

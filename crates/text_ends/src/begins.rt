@@ -3,6 +3,7 @@ ghost use Rattle.std.specs.Prelude.{◌≡◌, ◌||◌, not, Some, drop};
 ghost use Rattle.text_ends.specs.Growth as spec;
 
 use crate::taking::lacked;
+use hl_base::ascii::past;
 use hl_base::{Kind, Piece};
 
 /// Whether the lines of a piece of the kind after its first one are indented.
@@ -22,18 +23,6 @@ fn begins_empty(bytes: &[u8]) -> bool
     match bytes {
         [] => false,
         [first, ..] => *first == b'\n',
-    }
-}
-
-/// The bytes behind so many.
-#[tactic(auto, using(std::proofs::lemmas::List::drop_all))]
-pub(crate) fn past(bytes: &[u8], count: usize) -> &[u8]
-    ensures { result.now ≡ drop count bytes.now }
-{
-    if count <= bytes.len() {
-        &bytes[count..]
-    } else {
-        &[]
     }
 }
 

@@ -4,9 +4,11 @@ ghost use Rattle.text_ends.specs.Ends as ends;
 ghost use Rattle.text_ends.specs.Going as going;
 ghost use Rattle.text_ends.specs.Whole as spec;
 
-use crate::begins::{past, past_end};
-use crate::kept::{KeptEnd, ends_line, has_block_end};
+use crate::begins::past_end;
+use crate::kept::{KeptEnd, has_block_end};
 use book::Placed;
+use hl_base::ascii::past;
+use hl_base::line::ends_line;
 use hl_base::{Kind, Piece};
 
 /// A piece with so many more bytes.

@@ -15,13 +15,14 @@ ghost use Rattle.text_ends.specs.Growth as growth;
 ghost use Rattle.text_ends.specs.Told as told;
 ghost use Rattle.text_ends.specs.Whole as whole;
 
-use crate::begins::{begins_apart, past};
+use crate::begins::begins_apart;
 use crate::growing::{ended_behind, last_behind, lines_behind, unclosed_behind};
 use crate::reading::{Grown, put_behind};
 use crate::taking::taken;
 use book::Placed;
 use entry_reader::{Context, ReadFault};
-use hl_base::line::{closes_block, line_at};
+use hl_base::ascii::past;
+use hl_base::line::{closes_block, count_lines, ends_line, line_at};
 use hl_base::{Kind, Memory, Piece, Steps, cut_items};
 use std::alloc::Global;
 use std::sync::ledger::Ledger;
@@ -144,16 +145,6 @@ fn last_of(pieces: &[Piece]) -> Option<Piece>
     }
 }
 
-/// Whether a text ends with LF.
-pub(crate) fn ends_line(text: &[u8]) -> bool
-    ensures { result ≡ spec.ends_line text.now }
-{
-    match text {
-        [] => false,
-        [.., last] => *last == b'\n',
-    }
-}
-
 /// Whether a line of the text ends a block of comments.
 pub(crate) fn has_block_end(text: &[u8]) -> bool
     ensures { result ≡ list_any cut.closes_block (lines_of text.now) }
@@ -198,19 +189,4 @@ fn context_behind(alloc: Global, year: Option<u16>, items: &[Placed]) -> Result<
         context.after(alloc, &placed.item)?;
     }
     Ok(context)
-}
-
-/// How many lines a text has.
-fn count_lines(text: &[u8]) -> u64
-    ensures count { result ≡ length (lines_of text.now) }
-    ensures few { result ≤ length text.now }
-{
-    let mut at = 0;
-    let mut lines = 0;
-    while at < text.len() {
-        let (_, next) = line_at(text, at);
-        at = next;
-        lines += 1;
-    }
-    lines
 }

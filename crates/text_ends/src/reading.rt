@@ -107,20 +107,6 @@ fn growth_fault(end: &KeptEnd, more: &[u8]) -> Option<Fault>
     }
 }
 
-/// A piece of what is put behind so many bytes and lines.
-fn shifted(at: u64, lines: u64, piece: &Piece) -> Piece
-    requires at { at + piece.now.at < 2 ^ 64 }
-    requires lines { lines + piece.now.line < 2 ^ 64 }
-    ensures { result ≡ spec.shifted at lines piece.now }
-{
-    Piece {
-        at: at + piece.at,
-        len: piece.len,
-        line: lines + piece.line,
-        kind: piece.kind,
-    }
-}
-
 /// The bytes of a piece.
 fn bytes_of<'a>(bytes: &'a [u8], piece: &Piece) -> &'a [u8]
     requires { piece.now.at + piece.now.len ≤ length bytes.now }
@@ -188,7 +174,7 @@ fn read_pieces<L: Ledger>(
             return Ok(None);
         }
         items.push(Placed {
-            piece: shifted(place.bytes as u64, place.lines, piece),
+            piece: piece.shifted(place.bytes as u64, place.lines),
             item,
         })?;
     }
