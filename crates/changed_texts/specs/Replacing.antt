@@ -2,6 +2,7 @@
 use Rattle.std.specs.Prelude.{◌≡◌, ℕ, zero, suc, ◌+◌, Bool, true, false, ◌&&◌, List, [], ◌∷◌, ◌++◌, ◌==◌, map, length, take, drop, slice_get, Option, Some, None, Result, Ok}
 use Rattle.hl_base.specs.Items.{items_of}
 use Rattle.hl_base.specs.Lines.{lines_of}
+pub use Rattle.hl_base.specs.Pieces.{is_entry as is_entry_kind}
 use Rattle.hl_base.specs.declared.items.Kind.{Kind}
 use Rattle.hl_base.specs.declared.items.Kind.TheVariants as kinds
 use Rattle.hl_base.specs.declared.items.Piece.{Piece}
@@ -41,13 +42,6 @@ entry_alone bytes = record { at = 0; len = length bytes; line = 1; kind = kinds.
 pub record IsEntry (bytes : List ℕ) : Type 0 where
   pub ends : ends_line bytes ≡ true
   pub one : items_of bytes ≡ entry_alone bytes ∷ []
-
-abbrev pub is_entry_kind : Kind → Bool
-is_entry_kind kinds.Entry = true
-is_entry_kind kinds.Gap = false
-is_entry_kind kinds.Block = false
-is_entry_kind kinds.Head = false
-is_entry_kind kinds.Stray = false
 
 abbrev pub is_entry_in : Option Piece → Bool
 is_entry_in None = false

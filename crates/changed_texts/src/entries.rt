@@ -11,7 +11,7 @@ ghost use Rattle.text_ends.specs.Growth as growth;
 ghost use Rattle.text_ends.specs.Ends.{items_at};
 ghost use Rattle.changed_texts.specs.Meeting.{said_behind};
 
-use crate::parts::{bytes_of, context_behind, shifted};
+use crate::parts::{bytes_of, context_behind};
 use book::{Items, Placed};
 use entry_reader::ReadFault;
 use hl_base::{List, Memory, Piece, Steps, cut_items};
@@ -26,7 +26,7 @@ fn lines_on(alloc: Global, pieces: &[Piece], lines: u64) -> Result<Vec<Piece>, M
 {
     let mut moved = Vec::with_capacity(alloc, pieces.len())?;
     for piece in pieces {
-        moved.push(shifted(0, lines, piece))?;
+        moved.push(piece.shifted(0, lines))?;
     }
     Ok(moved)
 }

@@ -1,41 +1,20 @@
 //! Whether bytes are one entry.
 ghost use Rattle.std.specs.Prelude.{◌≡◌, ◌==◌, ◌&&◌, true, false, count_by, slice_get, IfOk};
 ghost use Rattle.std.specs.List.{list_all};
-ghost use Rattle.text_ends.specs.Ends.{ends_line};
 ghost use Rattle.changed_texts.specs.Meeting as gaps;
 ghost use Rattle.changed_texts.specs.OneEntry.{HasOneEntry, is_entry_piece};
 ghost use Rattle.changed_texts.specs.Replacing as spec;
 
-use hl_base::line::{is_indented, line_at};
+use hl_base::line::{ends_line, is_indented, line_at};
 use hl_base::{Kind, Memory, Piece, cut_items};
 use std::alloc::Global;
-
-/// Whether a text ends with the end of a line.
-fn ends_line(text: &[u8]) -> bool
-    ensures { result ≡ ends_line text.now }
-{
-    match text {
-        [] => false,
-        [.., last] => *last == b'\n',
-    }
-}
-
-/// Whether a piece is an entry.
-fn is_entry_kind(kind: Kind) -> bool
-    ensures { result ≡ spec.is_entry_kind kind }
-{
-    match kind {
-        Kind::Entry => true,
-        Kind::Gap | Kind::Block | Kind::Head | Kind::Stray => false,
-    }
-}
 
 /// Whether there is a piece, and it is an entry.
 fn is_entry_in(piece: Option<Piece>) -> bool
     ensures { result ≡ spec.is_entry_in piece }
 {
     match piece {
-        Some(piece) => is_entry_kind(piece.kind),
+        Some(piece) => piece.kind.is_entry(),
         None => false,
     }
 }
@@ -123,7 +102,7 @@ pub fn are_entries(alloc: Global, bytes: &[u8]) -> Result<bool, Memory>
 fn is_entry_piece(piece: &Piece) -> bool
     ensures { result ≡ is_entry_piece piece.now }
 {
-    is_entry_kind(piece.kind)
+    piece.kind.is_entry()
 }
 
 /// Whether exactly one of some pieces is an entry.
