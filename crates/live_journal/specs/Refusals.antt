@@ -3,6 +3,7 @@ use Rattle.std.specs.Prelude.{◌≡◌, ℕ, Bool, true, false, ◌||◌, not, 
 use Rattle.std.specs.List.{list_any}
 use Rattle.std.specs.Str.{bytes_eq}
 use Rattle.hl_base.specs.Items.{items_of}
+pub use Rattle.hl_base.specs.Pieces.{is_entry}
 use Rattle.hl_base.specs.declared.items.Kind.{Kind}
 use Rattle.hl_base.specs.declared.items.Kind.TheVariants as kinds
 use Rattle.hl_base.specs.declared.items.Piece.{Piece}
@@ -40,13 +41,6 @@ no_such_item pieces (Add entry) = None
 no_such_item pieces (Change base item entry) =
     if is_some (numbered pieces item) then None else Some (refused.NoSuchItem item (length pieces))
 no_such_item pieces (Replace base text) = None
-
-abbrev pub is_entry : Kind → Bool
-is_entry kinds.Entry = true
-is_entry kinds.Gap = false
-is_entry kinds.Block = false
-is_entry kinds.Head = false
-is_entry kinds.Stray = false
 
 abbrev pub is_gap : Kind → Bool
 is_gap kinds.Gap = true

@@ -6,18 +6,9 @@ ghost use Rattle.loaded_texts.specs.Keeping.{pieces_at};
 
 use crate::edit::Edit;
 use book::Placed;
+use hl_base::line::ends_line;
 use hl_base::{Bytes, Memory, Piece, Splice};
 use std::alloc::Global;
-
-/// Whether the text ends with LF.
-fn ends_line(text: &[u8]) -> bool
-    ensures { result ≡ spec.ends_line text.now }
-{
-    match text {
-        [] => false,
-        [.., last] => *last == b'\n',
-    }
-}
 
 /// Puts the LF behind the bytes that a text lacks.
 fn push_line_end(bytes: &mut Vec<u8>, text: &[u8]) -> Result<(), Memory>

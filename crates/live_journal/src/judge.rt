@@ -86,21 +86,11 @@ fn judge_pieces(pieces: &[Piece]) -> Result<(), EditFault>
     }
 }
 
-/// Whether a piece is an entry.
-fn is_entry(kind: Kind) -> bool
-    ensures { result ≡ spec.is_entry kind }
-{
-    match kind {
-        Kind::Entry => true,
-        Kind::Gap | Kind::Block | Kind::Head | Kind::Stray => false,
-    }
-}
-
 /// Whether there is an entry.
 fn has_entry(pieces: &[Piece]) -> bool
     ensures { result ≡ list_any (λ p. spec.is_entry p.kind) pieces.now }
 {
-    pieces.iter().any(|piece| is_entry(piece.kind))
+    pieces.iter().any(|piece| piece.kind.is_entry())
 }
 
 /// Refuses an entry without a transaction.
@@ -121,7 +111,7 @@ fn judge_named(piece: Option<Piece>) -> Result<(), EditFault>
     match piece {
         None => Ok(()),
         Some(piece) => {
-            if is_entry(piece.kind) {
+            if piece.kind.is_entry() {
                 Ok(())
             } else {
                 Err(EditFault::NotTransactions { line: 0 })
