@@ -18,8 +18,8 @@ ghost use Rattle.kept_reports.specs.Served.{IsServed};
 use hl_base::{List, Memory, Steps};
 use hl_time::{DAY_END, Period, Span};
 use index_cells::{Kept, plain_cells};
-use report_cells::{Cells, Reach, ReportFault};
-use report_options::Start;
+use report_cells::{Cells, ReportFault};
+use report_sums::reach_of;
 use report_takings::{Scope, columns_of};
 use std::alloc::Global;
 use std::sync::ledger::Ledger;
@@ -130,14 +130,4 @@ fn cells_by<L: Ledger>(
 {
     let reach = reach_of(scope.options.start);
     plain_cells(alloc, scope, kept, columns, reach, steps)
-}
-
-/// Which days a column counts.
-fn reach_of(start: Start) -> Reach
-    ensures { result ≡ reach_of start }
-{
-    match start {
-        Start::Change => Reach::Within,
-        Start::Cumulative | Start::Historical => Reach::UpTo,
-    }
 }

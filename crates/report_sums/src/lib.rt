@@ -8,6 +8,6 @@ pub mod valuing;
 pub mod way;
 
 pub use job::Job;
-pub use summing::sums;
+pub use summing::{reach_of, sums};
 pub use valuing::valued_takings;
 pub use way::Way;

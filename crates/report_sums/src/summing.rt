@@ -24,7 +24,7 @@ use report_values::{Market, Plan, cells_on, cells_then, days_of};
 use std::alloc::Global;
 
 /// Which days a column counts.
-fn reach_of(start: Start) -> Reach
+pub fn reach_of(start: Start) -> Reach
     ensures { result ≡ spec.reach_of start }
 {
     match start {
