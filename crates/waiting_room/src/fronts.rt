@@ -1,6 +1,5 @@
 //! Whether a whole message has come, as the reader of messages decides it.
 ghost use Rattle.std.specs.Prelude.{◌≤◌, length};
-ghost use Rattle.web_messages.specs.Streams.{most_head};
 
 use hl_base::{Failed, Link};
 use std::alloc::Global;
@@ -8,10 +7,7 @@ use web_messages::Broken;
 use web_messages::head::{Judged, judge};
 use web_messages::incoming::Incoming;
 use web_messages::paths::Paths;
-use web_messages::receive::{Next, Stop, next_message};
-
-/// The bytes in which a head has to be whole.
-const MOST_HEAD: usize = 16_384;
+use web_messages::receive::{self, Next, Stop, next_message};
 
 /// What the bytes that were received begin with.
 #[derive(Clone, Copy, Debug, PartialEq, Eq)]
@@ -79,20 +75,9 @@ impl<'a> Link for Received<'a> {
     }
 }
 
-/// The bytes in which a head has to be whole.
-fn head_room(bytes: &[u8]) -> &[u8]
-    ensures { length result.now ≤ most_head }
-{
-    if bytes.len() <= MOST_HEAD {
-        return bytes;
-    }
-    let (front, _) = bytes.split_at(MOST_HEAD);
-    front
-}
-
 /// What is missing from bytes that begin no whole message yet.
 fn missing(alloc: Global, paths: &Paths, bytes: &[u8]) -> Front {
-    match judge(alloc, paths, head_room(bytes)) {
+    match judge(alloc, paths, receive::front_of(bytes)) {
         Ok(Judged::Whole(head)) => match head.said {
             Some(said) => Front::Body(head.length.saturating_add(said as usize)),
             None => Front::Head,

@@ -46,7 +46,7 @@ pub enum Next {
 }
 
 /// The bytes in which a head has to be whole.
-fn front_of(bytes: &[u8]) -> &[u8]
+pub fn front_of(bytes: &[u8]) -> &[u8]
     ensures value { result.now ≡ front bytes.now }
     ensures within { length result.now ≤ most_head }
 {
