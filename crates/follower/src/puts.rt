@@ -3,7 +3,7 @@ ghost use Rattle.std.specs.Prelude.{◌≡◌, ◌↔◌, ◌+◌, ◌^◌, ◌<
 ghost use Rattle.text_store.specs.Image.{same_name, with_mark};
 ghost use Rattle.follower.specs.Changing.{with_parts, IsNextOf};
 
-use hl_base::{Bytes, Latest, List, Memory, Splice, Text};
+use hl_base::{Bytes, Latest, List, Memory, Splice};
 use std::alloc::Global;
 use text_store::{Change, Image};
 
@@ -18,17 +18,6 @@ fn is_outside(text: &[u8], part: &Splice) -> bool
     ensures { IsTrue result ↔ (length text.now < part.now.at + part.now.removed) }
 {
     part.at.saturating_add(part.removed) > text.len() as u64
-}
-
-// A copy of an import's state.
-fn copy_state(alloc: Global, state: &Latest) -> Result<Latest, Memory>
-    ensures { IfOk result (λ copy. copy ≡ state.now) }
-{
-    Ok(Latest {
-        name: Text::copied(alloc, state.name.as_str())?,
-        day: state.day,
-        count: state.count,
-    })
 }
 
 // Whether an import's state has the name of another.
@@ -83,7 +72,7 @@ fn push_states(alloc: Global, made: &mut Vec<Latest>, states: &[Latest]) -> Resu
 fn push_state(alloc: Global, made: &mut Vec<Latest>, state: &Latest) -> Result<(), Memory>
     ensures { OnOk result (made.new.items ≡ made.old.items ++ state.now ∷ []) }
 {
-    made.push(copy_state(alloc, state)?)?;
+    made.push(state.copied(alloc)?)?;
     Ok(())
 }
 
