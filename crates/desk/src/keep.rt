@@ -8,11 +8,11 @@ ghost use Rattle.desk.specs.Keeping as spec;
 ghost use Rattle.desk.specs.Stands.{ShowsOne, Stands};
 ghost use Rattle.desk.specs.States.{record_size};
 
-use crate::sizes::{image_of, whole_size};
+use crate::sizes::image_of;
 use hl_base::{Disk, Latest, List};
 use live_journal::Live;
 use std::alloc::Global;
-use text_store::{Change, Store, StoreFault};
+use text_store::{Change, Store, StoreFault, size_of_parts};
 
 /// Why a change wasn't kept: a disk failed, or memory ran out.
 #[derive(Clone, Copy, Debug, PartialEq, Eq)]
@@ -185,7 +185,7 @@ pub(crate) fn is_due<D: Disk>(
         result ≡ spec.due_at (size_of store.now) (limit_of store.now) size whole }
 {
     let _size = store.size();
-    store.due(size, whole_size(live.text(), latest.as_slice()))
+    store.due(size, size_of_parts(live.text(), latest.as_slice()))
 }
 
 /// Keeps a change of a journal in its store: a due repair comes first, then a store that is written anew where that is due,

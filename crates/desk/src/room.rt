@@ -8,8 +8,9 @@ use crate::judging::{at_an_end, is_past};
 use crate::keep::is_due;
 use crate::putting::Ready;
 use crate::reply::Reply;
-use crate::sizes::{record_size, whole_size};
+use crate::sizes::record_size;
 use hl_base::{Disk, Latest, List};
+use text_store::size_of_parts;
 
 impl<D: Disk> Desk<D> {
     ghost use Rattle.std.specs.Prelude.{◌≡◌, ◌-◌, ◌^◌, ◌<◌, min};
@@ -46,7 +47,7 @@ impl<D: Disk> Desk<D> {
         if !is_due(&self.store, &self.live, &self.latest, size) {
             return None;
         }
-        let whole = whole_size(self.live.text(), self.latest.as_slice());
+        let whole = size_of_parts(self.live.text(), self.latest.as_slice());
         let limit = self.store.limit();
         if is_past(limit, whole, size) {
             let size = whole.saturating_add(size);

@@ -1,12 +1,11 @@
 //! The changes of the store that edits are, and the room that they need.
-ghost use Rattle.std.specs.Prelude.{◌≡◌, ◌+◌, ◌-◌, ◌^◌, ◌<◌, ◌≤◌, ℕ, List, IfOk, length, min, sum_by};
+ghost use Rattle.std.specs.Prelude.{◌≡◌, ◌-◌, ◌^◌, ℕ, List, IfOk, min};
 ghost use Rattle.text_store.specs.Changes.{payload_of};
-ghost use Rattle.text_store.specs.Edits as kept;
 ghost use Rattle.desk.specs.States as spec;
 ghost use Rattle.live_journal.specs.Edits.{splice_of};
 
 use crate::deed::Deed;
-use hl_base::{Bytes, Latest, List, Memory, Splice, Text};
+use hl_base::{Bytes, Latest, List, Memory, Splice};
 use live_journal::{Edit, Live};
 use std::alloc::Global;
 use text_store::{Change, Image};
@@ -41,7 +40,7 @@ fn plain_change(alloc: Global, edit: &Edit, splice: &Splice) -> Result<Change, M
 fn import_change(alloc: Global, mark: &Latest, splice: &Splice) -> Result<Change, Memory>
     ensures { IfOk result (λ change. change ≡ Change.Import mark.now splice.now) }
 {
-    let mark = copy_state(alloc, mark)?;
+    let mark = mark.copied(alloc)?;
     Ok(Change::Import(mark, copy_splice(alloc, splice)?))
 }
 
@@ -69,39 +68,13 @@ pub(crate) fn record_size(change: &Change) -> u64
     }
 }
 
-/// The length of a store's file that holds a text and the states of imports alone, at most 2^64 - 1.
-pub(crate) fn whole_size(text: &[u8], latest: &[Latest]) -> u64
-    ensures { (revision : ℕ) → result ≡ min
-        (kept.whole_size (record { text = text.now; latest = latest.now; revision = revision }))
-        (2 ^ 64 - 1) }
-{
-    let mut size = (text.len() as u64).saturating_add(47);
-    for state in latest {
-        size = size
-            .saturating_add(12)
-            .saturating_add(state.name.as_bytes().len() as u64);
-    }
-    size
-}
-
-/// A copy of the state of an import.
-pub(crate) fn copy_state(alloc: Global, state: &Latest) -> Result<Latest, Memory>
-    ensures { IfOk result (λ copy. copy ≡ state.now) }
-{
-    Ok(Latest {
-        name: Text::copied(alloc, state.name.as_str())?,
-        day: state.day,
-        count: state.count,
-    })
-}
-
 /// A copy of the states of imports.
 pub(crate) fn copy_states(alloc: Global, states: &[Latest]) -> Result<List<Latest>, Memory>
     ensures { IfOk result (λ copy. copy ≡ states.now) }
 {
     let mut copy = Vec::with_capacity(alloc, states.len())?;
     for state in states {
-        copy.push(copy_state(alloc, state)?)?;
+        copy.push(state.copied(alloc)?)?;
     }
     Ok(List::from_vec(copy))
 }

@@ -6,7 +6,7 @@ ghost use Rattle.text_store.specs.Image.{with_mark};
 ghost use Rattle.desk.specs.Imports as spec;
 ghost use Rattle.desk.specs.States.{states_with};
 
-use crate::sizes::{copy_state, copy_states};
+use crate::sizes::copy_states;
 use hl_base::{Latest, List, Memory, Text};
 use std::alloc::Global;
 
@@ -48,7 +48,7 @@ fn with_state(alloc: Global, states: &[Latest], mark: &Latest) -> Result<List<La
     ensures { IfOk result (λ made. made ≡ with_mark mark.now states.now) }
 {
     let mut made = copy_states(alloc, states)?.into_vec();
-    let mark = copy_state(alloc, mark)?;
+    let mark = mark.copied(alloc)?;
     put_state(&mut made, mark)?;
     Ok(List::from_vec(made))
 }

@@ -8,6 +8,6 @@ use Rattle.desk.proofs.keep.is_due.Goals as goal
 pub returns : goal.returns
 returns g c =
     let image : Image = record { text = c.args.live.now.text; latest = c.args.latest.now; revision = c.args.live.now.revision } in
-    let counted : c.whole_size.result ≡ min (whole_size image) (2 ^ 64 - 1) =
-    rw (← c.text.ensures.text, ← c.as_slice.ensures) (c.whole_size.ensures c.args.live.now.revision) in
-    due_same (size_of c.args.store.now) (limit_of c.args.store.now) c.args.size (whole_size image) c.whole_size.result c.due.result (omega arith) counted c.due.ensures.0 c.due.ensures.1
+    let counted : c.size_of_parts.result ≡ min (whole_size image) (2 ^ 64 - 1) =
+    rw (← c.text.ensures.text, ← c.as_slice.ensures) (c.size_of_parts.ensures c.args.live.now.revision) in
+    due_same (size_of c.args.store.now) (limit_of c.args.store.now) c.args.size (whole_size image) c.size_of_parts.result c.due.result (omega arith) counted c.due.ensures.0 c.due.ensures.1
