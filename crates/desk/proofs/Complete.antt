@@ -29,7 +29,7 @@ module _ (q : Request) (day before now : ℕ) (last_before last_now : Option (Li
 
   line_rose : (lines : List ℕ) (r : Reply) → IsOneOf r (map refused_line lines) → TellsReply q day before now last_before last_now r → Rose before now
   line_rose [] r among tells = absurd among
-  line_rose (line ∷ lines) r (inl is) tells = (subst (λ (x : Reply). TellsReply q day before now last_before last_now x) (sym is) tells).refusal.refusal.rose
+  line_rose (line ∷ lines) r (inl is) tells = (subst (λ (x : Reply). TellsReply q day before now last_before last_now x) (sym is) tells).refusal.rose
   line_rose (line ∷ lines) r (inr more) tells = line_rose lines r more tells
 
   import_rose : (s : State) (o : Option Reply) (lines : List ℕ) (answer : Answer) (r : Reply)

@@ -1,14 +1,11 @@
 -- What becomes of the file of an import.
 use Rattle.std.proofs.Common.{◌≡◌, inl, inr, ℕ, ◌+◌, List, [], ◌∷◌, ◌++◌, map, length, Option, Some, None, IfSome, Result, Ok, Err, refl, sym, ap, subst, ◌∙◌, arith}
-use Rattle.std.proofs.lemmas.List.Elements.{All-weaker}
 use Rattle.book.specs.declared.transaction.Txn.{Txn}
-use Rattle.regex.specs.declared.string.regex.Regex.{Regex}
-use Rattle.query.specs.Building as query_building
 use Rattle.query.specs.Building.{IsOneOf}
 use Rattle.query.proofs.Alike.{known_alike}
 use Rattle.query_terms.specs.Readings.{known_by}
 use Rattle.query_terms.specs.Sought.{known_of}
-use Rattle.csv_rules.specs.Building.{AreBuilt, IsCaseless, form_sources, sheet_sources}
+use Rattle.csv_rules.specs.Building.{form_sources, sheet_sources}
 use Rattle.csv_rules.specs.Drafts.{Progress, put, start}
 use Rattle.csv_rules.specs.Forms.{form_of}
 use Rattle.csv_rules.specs.Reading.{IsRefusedLine, IsRulesOf, Reads, or_line, read_from, rules_of}
@@ -17,6 +14,7 @@ use Rattle.csv_rules.specs.declared.faults.RulesFault.TheVariants as rules_fault
 use Rattle.csv_rules.specs.declared.forms.Form.{Form}
 use Rattle.csv_rules.specs.declared.kinds.Sheet.{Sheet}
 use Rattle.csv_rules.specs.declared.reading.Rules.{Rules}
+use Rattle.csv_rules.proofs.Built.{only_source}
 use Rattle.csv_entries.specs.Conversion.{cause_in, conversion_by}
 use Rattle.csv_entries.specs.declared.faults.ConvertFault.{ConvertFault}
 use Rattle.csv_entries.specs.declared.faults.ConvertFault.TheVariants as convert_fault
@@ -28,18 +26,11 @@ use Rattle.desk.specs.Imports.{as_csv, entries_of, line_with, lines_of_form, mad
 use Rattle.desk.specs.States.{refused_line}
 use Rattle.desk.proofs.SameFinds.{conversion_same}
 
--- regexes that were built for rules are built as those of a query are
-built_so : (sources : List (List ℕ)) (regexes : List Regex) → AreBuilt sources regexes → query_building.AreBuilt sources regexes
-built_so sources regexes built = record {
-  named = built.named;
-  caseless = All-weaker IsCaseless query_building.IsCaseless (λ r one. record { config = one.config; read = one.read }) regexes built.caseless;
-}
-
 -- the entries of a file are those that the rules convert it to
 pub entries_are : (text csv : List ℕ) (rules : Rules) → IsRulesOf text rules → entries_of text csv ≡ as_csv (conversion_by rules csv)
 unfolding entries_of
 entries_are text csv rules is =
-    let same = known_alike (sheet_sources rules.sheet) rules.regexes.items (built_so (sheet_sources rules.sheet) rules.regexes.items is.built) in
+    let same = known_alike (sheet_sources rules.sheet) rules.regexes.items is.built in
     ap (λ (r : Result Sheet ℕ). made_by r csv) is.read
     ∙ ap as_csv (sym (conversion_same (known_of rules.regexes.items) (known_by (sheet_sources rules.sheet)) same rules.sheet csv))
 
@@ -98,7 +89,7 @@ pub line_among : (text : List ℕ) (line before now : ℕ) (last_now : Option (L
 line_among text line before now last_now h =
     let P : List (List ℕ) → Type 0 = λ ls. IsOneOf (refused_line line) (map refused_line (pattern_lines_from start 1 ls)) in
     subst P (sym h.earlier.place)
-    (line_from start 1 line h.earlier.earlier h.later h.content h.progress h.form h.refusal.source h.earlier.read h.earlier.number h.said h.refusal.only)
+    (line_from start 1 line h.earlier.earlier h.later h.content h.progress h.form h.refusal.source h.earlier.read h.earlier.number h.said (only_source h.form h.refusal.source h.refusal.among))
 
 bad_line : (text csv : List ℕ) (line : ℕ) → rules_of text ≡ Err line → entries_of text csv ≡ Err (csv_fault.Rules (rules_fault.BadRule line))
 unfolding entries_of

@@ -67,7 +67,7 @@ told_rules : (rules : List ℕ) (before now : ℕ) (last_before last_now : Optio
     → TellsRules rules before now last_before last_now fault → Rises before now (one_where (refuses_rules fault))
 told_rules rules before now last_before last_now (rules_fault.BadRule line) s = stay before now last_before last_now s
 told_rules rules before now last_before last_now (rules_fault.PatternRefused line) s =
-    rose_one before now s.refusal.refusal.later s.refusal.refusal.rose
+    rose_one before now s.refusal.later s.refusal.rose
 told_rules rules before now last_before last_now rules_fault.Memory s = stay before now last_before last_now s
 
 told_file : (rules : List ℕ) (before now : ℕ) (last_before last_now : Option (List ℕ)) (fault : CsvFault)
