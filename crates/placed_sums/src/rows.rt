@@ -3,8 +3,6 @@ ghost use Rattle.std.specs.Prelude.{◌≡◌, ◌∷◌, ◌++◌, [], IfOk, On
 ghost use Rattle.book.specs.Bounds.{TurnoverFits};
 ghost use Rattle.book.specs.Postings.{postings_of};
 ghost use Rattle.live_index.specs.Net.{negated_row};
-ghost use Rattle.live_index.specs.Rows as kept;
-ghost use Rattle.live_index.specs.Standing.{standing};
 ghost use Rattle.placed_sums.specs.Replaced.{rows_replacing};
 ghost use Rattle.placed_sums.specs.Rows as spec;
 ghost use Rattle.placed_sums.specs.Taken.{taken_of_posting, taken_of_txn};
@@ -22,18 +20,7 @@ pub fn index_of(alloc: Global, book: &[Txn]) -> Result<Index, Memory>
     ensures stand { IfOk result (λ index. spec.Stand index book.now) }
 {
     let rows = rows_of(alloc, book)?;
-    let index = index_with(alloc, &rows)?;
-    Ok(index)
-}
-
-/// An index of some rows.
-fn index_with(alloc: Global, rows: &[Row]) -> Result<Index, Memory>
-    requires { kept.TurnoverFits (standing rows.now) }
-    ensures { IfOk result (λ index. index ≡ rows.now) }
-{
-    let mut index = Index::new(alloc)?;
-    let prepared = index.prepare(rows)?;
-    index.put(prepared);
+    let index = Index::of(alloc, &rows)?;
     Ok(index)
 }
 

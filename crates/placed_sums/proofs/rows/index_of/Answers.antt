@@ -6,8 +6,8 @@ use Rattle.placed_sums.proofs.Fitting.{standing_fit}
 use Rattle.placed_sums.proofs.Indexing.{stand_own}
 use Rattle.placed_sums.proofs.rows.index_of.Goals as goal
 
-pub index_with-requires : goal.index_with-requires
-index_with-requires c =
+pub of-requires : goal.of-requires
+of-requires c =
     subst (λ (rows : List Row). TurnoverFits (standing rows)) (sym (c.deref.ensures.value ∙ c.in_ok-rows.ensures)) (standing_fit c.args.book.now c.requires)
 
 pub returns-clause-stand : goal.returns-clause-stand
