@@ -1,5 +1,5 @@
 -- What is kept of a text's end.
-use Rattle.std.specs.Prelude.{ℕ, ◌-◌, Bool, true, false, ◌&&◌, not, List, map, Option, Some, None, length, take, drop}
+use Rattle.std.specs.Prelude.{ℕ, ◌-◌, Bool, true, false, ◌&&◌, not, List, Option, Some, None, length, take, drop}
 use Rattle.std.specs.List.{list_any, slice_get}
 use Rattle.hl_base.specs.Items.{closes_block, items_of}
 use Rattle.hl_base.specs.Lines.{lines_of}
@@ -7,13 +7,10 @@ pub use Rattle.hl_base.specs.Lines.{ends_line}
 use Rattle.hl_base.specs.declared.items.Kind.{Kind}
 use Rattle.hl_base.specs.declared.items.Kind.TheVariants as kinds
 use Rattle.hl_base.specs.declared.items.Piece.{Piece}
-use Rattle.book.specs.declared.item.Item.{Item}
 use Rattle.book.specs.declared.item.Placed.{Placed}
+pub use Rattle.entry_reader.specs.Contexts.{items_at}
 use Rattle.entry_reader.specs.Contexts.{context_of}
 use Rattle.text_ends.specs.declared.kept.KeptEnd.{KeptEnd}
-
-abbrev pub items_at : List Placed → List Item
-items_at placed = map (λ p. p.item) placed
 
 -- the last of some, if there are any
 abbrev pub last_of : {X : Type 0} → List X → Option X

@@ -7,7 +7,6 @@ ghost use Rattle.hl_base.specs.Lines.{lines_of};
 ghost use Rattle.hl_base.specs.Pieces.{IsWithin};
 ghost use Rattle.book.specs.declared.item.Placed.{Placed};
 ghost use Rattle.entry_reader.specs.Causes.{cause_in};
-ghost use Rattle.entry_reader.specs.Contexts.{context_of};
 ghost use Rattle.journal_reader.specs.Items.{items_in};
 ghost use Rattle.text_ends.specs.Ends as spec;
 ghost use Rattle.text_ends.specs.Going as going;
@@ -20,7 +19,7 @@ use crate::growing::{ended_behind, last_behind, lines_behind, unclosed_behind};
 use crate::reading::{Grown, put_behind};
 use crate::taking::taken;
 use book::Placed;
-use entry_reader::{Context, ReadFault};
+use entry_reader::{Context, ReadFault, context_behind};
 use hl_base::ascii::past;
 use hl_base::line::{closes_block, count_lines, ends_line, line_at};
 use hl_base::{Kind, Memory, Piece, Steps, cut_items};
@@ -178,15 +177,4 @@ fn leaves_block(text: &[u8], pieces: &[Piece]) -> bool
         [] => false,
         [.., last] => is_unclosed(text, last),
     }
-}
-
-/// The context behind some items of a text that begins in a year.
-fn context_behind(alloc: Global, year: Option<u16>, items: &[Placed]) -> Result<Context, Memory>
-    ensures { IfOk result (λ context. context ≡ context_of year (spec.items_at items.now)) }
-{
-    let mut context = Context::start(alloc, year)?;
-    for placed in items {
-        context.after(alloc, &placed.item)?;
-    }
-    Ok(context)
 }
