@@ -11,9 +11,9 @@ ghost use Rattle.changed_texts.specs.Changing.{change_to, items_with};
 ghost use Rattle.changed_texts.specs.Replacing as spec;
 ghost use Rattle.changed_texts.specs.Standing.{Replaces};
 
-use crate::parts::{bytes_of, context_behind};
+use crate::parts::bytes_of;
 use book::{Item, Placed};
-use entry_reader::ReadFault;
+use entry_reader::{ReadFault, context_behind};
 use hl_base::line::count_lines;
 use hl_base::{Piece, Steps};
 use journal_reader::read_item;

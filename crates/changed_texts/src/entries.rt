@@ -11,9 +11,9 @@ ghost use Rattle.text_ends.specs.Growth as growth;
 ghost use Rattle.text_ends.specs.Ends.{items_at};
 ghost use Rattle.changed_texts.specs.Meeting.{said_behind};
 
-use crate::parts::{bytes_of, context_behind};
+use crate::parts::bytes_of;
 use book::{Items, Placed};
-use entry_reader::ReadFault;
+use entry_reader::{ReadFault, context_behind};
 use hl_base::{List, Memory, Piece, Steps, cut_items};
 use journal_reader::read_item;
 use std::alloc::Global;

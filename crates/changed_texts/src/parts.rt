@@ -1,12 +1,7 @@
-//! The bytes of a piece, and the context behind some items.
-ghost use Rattle.std.specs.Prelude.{◌≡◌, ◌+◌, ◌≤◌, IfOk, length, take, drop};
-ghost use Rattle.entry_reader.specs.Contexts.{context_of};
-ghost use Rattle.text_ends.specs.Ends.{items_at};
+//! The bytes of a piece.
+ghost use Rattle.std.specs.Prelude.{◌≡◌, ◌+◌, ◌≤◌, length, take, drop};
 
-use book::Placed;
-use entry_reader::Context;
-use hl_base::{Memory, Piece};
-use std::alloc::Global;
+use hl_base::Piece;
 
 /// The bytes of a piece.
 pub(crate) fn bytes_of<'a>(bytes: &'a [u8], piece: &Piece) -> &'a [u8]
@@ -15,19 +10,4 @@ pub(crate) fn bytes_of<'a>(bytes: &'a [u8], piece: &Piece) -> &'a [u8]
 {
     let at = piece.at as usize;
     &bytes[at..at + piece.len as usize]
-}
-
-/// The context behind some items of a text that begins in a year.
-pub(crate) fn context_behind(
-    alloc: Global,
-    year: Option<u16>,
-    items: &[Placed],
-) -> Result<Context, Memory>
-    ensures { IfOk result (λ context. context ≡ context_of year (items_at items.now)) }
-{
-    let mut context = Context::start(alloc, year)?;
-    for placed in items {
-        context.after(alloc, &placed.item)?;
-    }
-    Ok(context)
 }
