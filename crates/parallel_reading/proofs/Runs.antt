@@ -2,7 +2,7 @@
 use Rattle.std.proofs.Common.{◌≡◌, ℕ, zero, suc, ◌+◌, ◌-◌, ◌*◌, ◌/◌, ◌^◌, ◌<◌, ◌≤◌, Bool, false, ◌||◌, List, [], ◌∷◌, ◌++◌, Result, Ok, Err, Vec, Global, length, get_or, take, drop, refl, sym, ap, subst, ◌∙◌, append_assoc, append-nil, take-append-drop, arith}
 use Rattle.std.specs.Prelude.{IfSome}
 use Rattle.std.specs.List.{AllByRecursion}
-use Rattle.std.proofs.lemmas.List.{map_more, at_drop_all, drop_more, get_or_default}
+use Rattle.std.proofs.lemmas.List.{at_drop_all, drop_more, get_or_default}
 use Rattle.std.proofs.lemmas.List.Sums.{sum_by-append}
 use Rattle.hl_base.specs.Gives.{Gives}
 use Rattle.hl_base.specs.declared.items.Piece.{Piece}
@@ -17,7 +17,7 @@ use Rattle.entry_reader.specs.Contexts.{Context}
 use Rattle.entry_reader.proofs.Lines.{few_within}
 use Rattle.journal_reader.specs.Items.{reading}
 use Rattle.journal_reader.specs.Whole.{AreWithin}
-use Rattle.parallel_reading.specs.Runs.{both, bytes_of, first_part, has_head, is_head, items_at, read_alike, second_part}
+use Rattle.parallel_reading.specs.Runs.{both, bytes_of, first_part, has_head, is_head, read_alike, second_part}
 
 abbrev pub Told : Type 0
 Told = Result (List Placed) Fault
@@ -215,14 +215,6 @@ bytes_within pieces front back old middle whole h =
 
 pub bytes_same : (n m : ℕ) → n ≡ m → n ≤ m
 bytes_same n m e = omega (arith, e)
-
--- ---- a loop over items
-
-item_next : (items : List Placed) (i : ℕ) (d : Placed) → i < length items → items_at (take (i + 1) items) ≡ items_at (take i items) ++ (get_or items i d).item ∷ []
-item_next items i d lt = map_more (λ (p : Placed). p.item) items i d lt
-
-pub item_after : (items : List Placed) (i : ℕ) (x : Placed) → i < length items → x ≡ get_or items i x → items_at (take i items) ++ x.item ∷ [] ≡ items_at (take (i + 1) items)
-item_after items i x lt is = ap (λ (p : Placed). items_at (take i items) ++ p.item ∷ []) is ∙ sym (item_next items i x lt)
 
 -- ---- what one definition tells, another one does
 

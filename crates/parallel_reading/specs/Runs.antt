@@ -1,14 +1,14 @@
 -- Pieces that are all read in one context.
-use Rattle.std.specs.Prelude.{ℕ, Bool, true, false, ◌||◌, List, [], ◌∷◌, ◌++◌, ◌*◌, ◌/◌, Result, Ok, length, take, drop, map}
+use Rattle.std.specs.Prelude.{ℕ, Bool, true, false, ◌||◌, List, [], ◌∷◌, ◌++◌, ◌*◌, ◌/◌, Result, Ok, length, take, drop}
 use Rattle.hl_base.specs.Lines.{first_line}
 use Rattle.hl_base.specs.Items.{kind_of}
 use Rattle.hl_base.specs.declared.items.Kind.{Kind}
 use Rattle.hl_base.specs.declared.items.Kind.TheVariants as kinds
 use Rattle.hl_base.specs.declared.items.Piece.{Piece}
-use Rattle.book.specs.declared.item.Item.{Item}
 use Rattle.book.specs.declared.item.Placed.{Placed}
 use Rattle.book.specs.declared.fault.Fault.{Fault}
 use Rattle.entry_reader.specs.Causes.{◌>>=◌}
+pub use Rattle.entry_reader.specs.Contexts.{items_at}
 use Rattle.entry_reader.specs.Contexts.{Context}
 use Rattle.journal_reader.specs.Items.{reading}
 
@@ -37,10 +37,6 @@ read_alike context text (p ∷ ps) = do
   i ← reading context p.line (bytes_of text p)
   more ← read_alike context text ps
   Ok (record { piece = p; item = i } ∷ more)
-
--- the items of some pieces
-abbrev pub items_at : List Placed → List Item
-items_at placed = map (λ p. p.item) placed
 
 -- what a run of pieces says, and behind it what a second one does; the first fault decides
 abbrev pub both : Result (List Placed) Fault → Result (List Placed) Fault → Result (List Placed) Fault

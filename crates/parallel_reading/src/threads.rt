@@ -1,10 +1,9 @@
 //! Reads the items of a text by several threads.
 ghost use denote.Param.Send.{IsSync};
-ghost use Rattle.std.specs.Prelude.{◌≡◌, ◌+◌, ◌≤◌, [], false, IfOk, Ok, OnOk};
+ghost use Rattle.std.specs.Prelude.{◌≡◌, ◌+◌, ◌≤◌, [], false, Ok, OnOk};
 ghost use Rattle.hl_base.specs.Gives.{Gives};
 ghost use Rattle.hl_base.specs.Pieces.{bytes_in};
 ghost use Rattle.entry_reader.specs.Causes.{cause_in};
-ghost use Rattle.entry_reader.specs.Contexts.{context_of};
 ghost use Rattle.journal_reader.specs.Items as spec;
 ghost use Rattle.journal_reader.specs.Whole.{AreWithin};
 ghost use Rattle.parallel_reading.specs.Runs.{both, first_part, has_head, items_at, read_alike, second_part};
@@ -12,7 +11,7 @@ ghost use Rattle.parallel_reading.specs.Runs.{both, first_part, has_head, items_
 use crate::head::cut_behind_heads;
 use crate::run::{Run, joined, read_run};
 use book::{Items, Placed};
-use entry_reader::{Context, ReadFault};
+use entry_reader::{Context, ReadFault, context_behind};
 use hl_base::{List, Memory, Piece, Steps};
 use std::alloc::Global;
 use std::sync::ledger::Ledger;
@@ -122,17 +121,6 @@ fn read_by_four<R: Threads + Sync>(
     joined(most, fourth)
 }
 
-/// The context behind some items.
-fn context_behind(alloc: Global, items: &[Placed], year: Option<u16>) -> Result<Context, Memory>
-    ensures { IfOk result (λ context. context ≡ context_of year (items_at items.now)) }
-{
-    let mut context = Context::start(alloc, year)?;
-    for placed in items {
-        context.after(alloc, &placed.item)?;
-    }
-    Ok(context)
-}
-
 /// Some items, and behind them what the pieces behind theirs say, of which none is a directive, a price or a rule: so each is
 /// read in the context of the first. The items' vector gets room for all at once.
 fn read_behind<R: Threads + Sync>(
@@ -150,7 +138,7 @@ fn read_behind<R: Threads + Sync>(
         (spec.reading_from year (items_at items.items) text.now pieces.now)) }
 {
     items.reserve_exact(pieces.len())?;
-    let context = context_behind(alloc, items.as_slice(), year)?;
+    let context = context_behind(alloc, year, items.as_slice())?;
     read_by_four(rt, alloc, text, pieces, &context, items)
 }
 
