@@ -1,12 +1,11 @@
 //! The entry that a record becomes, or why it becomes none.
 ghost use Rattle.std.specs.Prelude.{◌≡◌, true, IfOk, option_map, map};
 ghost use Rattle.std.specs.List.{join_with_byte};
-ghost use Rattle.std.specs.Str.{is_utf8, bytes_eq};
+ghost use Rattle.std.specs.Str.{is_utf8};
 ghost use Rattle.std.specs.String.{string_bytes};
 ghost use Rattle.entry_reader.specs.Tags.{tags_of};
 ghost use Rattle.hl_base.specs.Gives.{Gives};
 ghost use Rattle.query_terms.specs.Finders.{known_in};
-ghost use Rattle.query_terms.specs.Reading.{status_of};
 ghost use Rattle.csv_entries.specs.Conversion.{cause_in};
 ghost use Rattle.csv_entries.specs.Judging as spec;
 
@@ -25,8 +24,8 @@ use entry_reader::tag::push_tags;
 use entry_reader::{Context, ReadFault, read_account};
 use hl_base::{List, Memory, Text};
 use hl_time::Day;
-use query_terms::Finder;
 use query_terms::cutting::bytes_of;
+use query_terms::{Finder, status_of};
 use std::alloc::Global;
 
 /// What becomes of a record.
@@ -237,27 +236,6 @@ fn postings_in(
     Ok(Some((first, second)))
 }
 
-fn is_same(a: &[u8], b: &[u8]) -> bool
-    ensures { result ≡ bytes_eq a.now b.now }
-{
-    a == b
-}
-
-/// The mark that a status is: `*`, `!` or nothing.
-pub fn mark_of(text: &[u8]) -> Option<Mark>
-    ensures { result ≡ status_of text.now }
-{
-    if is_same(text, b"*") {
-        Some(Mark::Cleared)
-    } else if is_same(text, b"!") {
-        Some(Mark::Pending)
-    } else if is_same(text, b"") {
-        Some(Mark::Unmarked)
-    } else {
-        None
-    }
-}
-
 fn read_tags(alloc: Global, comment: &Text) -> Result<List<Tag>, Memory>
     ensures { IfOk result (λ tags. tags ≡ tags_of comment.now) }
 {
@@ -312,7 +290,7 @@ fn entry_on(
 ) -> Result<Option<Txn>, Memory>
     ensures { IfOk result (λ txn. txn ≡ spec.entry_on context.now fields.now day.0) }
 {
-    let Some(mark) = mark_of(fields.status.as_bytes()) else {
+    let Some(mark) = status_of(fields.status.as_bytes()) else {
         return Ok(None);
     };
     let Some(postings) = postings_in(alloc, context, fields)? else {
