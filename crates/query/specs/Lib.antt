@@ -4,5 +4,6 @@ pub mod Made
 pub mod Matching
 pub mod Meaning
 pub mod OwnLetters
+pub mod Serving
 pub mod Types
 pub mod Words
