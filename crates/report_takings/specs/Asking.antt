@@ -1,13 +1,10 @@
 -- What a report is asked over.
-use Rattle.std.specs.Prelude.{◌≡◌, ℕ, Bool, List, Option}
+use Rattle.std.specs.Prelude.{ℕ, Bool, List, Option}
 use Rattle.hl_time.specs.declared.spans.Period.{Period}
 use Rattle.book.specs.declared.transaction.Txn.{Txn}
 use Rattle.query.specs.Matching.{dates_in, depth_in}
 use Rattle.query.specs.Meaning.{of_boundless, of_posting, of_txn, of_undated}
-use Rattle.query.specs.declared.queries.Query.{Query}
-use Rattle.query.specs.declared.queries.Search.{Search}
-use Rattle.query_terms.specs.Finders.{known_in}
-use Rattle.query_terms.specs.Sought.{known_of}
+pub use Rattle.query.specs.Serving.{Serves}
 use Rattle.report_options.specs.declared.options.Options.{Options}
 use Rattle.report_takings.specs.Entries.{Entry, entries_of}
 use Rattle.report_takings.specs.declared.scope.Scope.{Scope}
@@ -43,8 +40,3 @@ question_of scope = record {
 -- the postings of its book
 abbrev pub entries : Question → List Entry
 entries asked = entries_of asked.txns
-
--- a search means what the query does
-pub record Serves (search : Search) (query : Query) : Type 0 where
-  pub terms : search.terms.now ≡ query.terms.items
-  pub known : known_in search.finder ≡ known_of query.regexes.items
