@@ -11,8 +11,7 @@ use Rattle.book.specs.SumsBefore.{is_of as is_account}
 use Rattle.book.proofs.Accounts.{account_total, account_ties}
 use Rattle.book.proofs.Order.{sorted-each_once}
 use Rattle.hl_time.specs.declared.spans.Span.{Span}
-use Rattle.live_index.specs.declared.row.Row.{Row}
-use Rattle.live_index.specs.Rows.{TurnoverFits, places_of}
+use Rattle.live_index.specs.Rows.{places_of}
 use Rattle.live_index.specs.Net.{net}
 use Rattle.live_index.specs.Standing.{standing}
 use Rattle.live_index.proofs.NetLaws.{fits-by}
@@ -36,11 +35,6 @@ use Rattle.index_cells.specs.declared.kept.Kept.{Kept}
 use Rattle.index_cells.proofs.Naming.{account_among, once_in_order}
 use Rattle.index_cells.proofs.Nets.{same_places, same_sums}
 use Rattle.index_cells.proofs.Taking.{rowed_fit, rowed_places, rowed_sum}
-
--- ---- an index of rows
-
-pub put_fits : (old rows : List Row) → old ≡ [] → TurnoverFits rows → TurnoverFits (standing (old ++ rows))
-put_fits old rows none fits = subst (λ (o : List Row). TurnoverFits (standing (o ++ rows))) (sym none) (fits-by rows rows (λ row. refl) fits)
 
 -- ---- takings without amounts
 

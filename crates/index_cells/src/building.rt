@@ -1,6 +1,5 @@
 //! What is kept of takings that are put in at once.
-ghost use Rattle.std.specs.Prelude.{◌≡◌, IfOk};
-ghost use Rattle.live_index.specs.Rows.{TurnoverFits};
+ghost use Rattle.std.specs.Prelude.{IfOk};
 ghost use Rattle.report_cells.specs.Bounds as bounds;
 ghost use Rattle.index_cells.specs.Keeps.{Keeps};
 ghost use Rattle.index_cells.specs.Names.{NamesOf};
@@ -9,7 +8,7 @@ use crate::amounts::amounts_of;
 use crate::kept::Kept;
 use crate::names::{accounts_of, symbols_of};
 use hl_base::Memory;
-use live_index::{Index, Row};
+use live_index::Index;
 use report_cells::Taking;
 use std::alloc::Global;
 
@@ -22,21 +21,10 @@ pub(crate) fn keep(alloc: Global, takings: &[Taking]) -> Result<Kept, Memory>
     let accounts = accounts_of(alloc, takings)?;
     let symbols = symbols_of(alloc, takings)?;
     let amounts = amounts_of(alloc, takings)?;
-    let sums = index_of(alloc, &amounts)?;
+    let sums = Index::of(alloc, &amounts)?;
     Ok(Kept {
         sums,
         accounts,
         symbols,
     })
-}
-
-/// An index of some rows.
-fn index_of(alloc: Global, rows: &[Row]) -> Result<Index, Memory>
-    requires { TurnoverFits rows.now }
-    ensures { IfOk result (λ index. index ≡ rows.now) }
-{
-    let mut index = Index::new(alloc)?;
-    let prepared = index.prepare(rows)?;
-    index.put(prepared);
-    Ok(index)
 }
