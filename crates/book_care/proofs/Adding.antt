@@ -1,13 +1,10 @@
 -- Lists of which one item more is known.
-use Rattle.std.proofs.Common.{◌≡◌, ℕ, ℤ, ◌+◌, ◌<◌, neg_ℤ, Bool, true, false, cond, List, [], ◌∷◌, ◌++◌, length, get_or, map, take, None, refl, sym, ap, ◌∙◌}
+use Rattle.std.proofs.Common.{◌≡◌, ℕ, ℤ, ◌+◌, ◌<◌, neg_ℤ, Bool, true, false, cond, List, [], ◌∷◌, ◌++◌, length, get_or, map, take, refl, sym, ap, ◌∙◌}
 use Rattle.std.proofs.lemmas.List.{take_more}
 use Rattle.hl_num.specs.Decimal.{Decimal, units_of}
-use Rattle.book.specs.declared.item.Placed.{Placed}
-use Rattle.entry_reader.specs.Contexts.{Context, context_of}
 use Rattle.report_cells.specs.Report.{seen}
 use Rattle.book_care.specs.Kept.{signed_sum, sum_lines}
 use Rattle.book_care.specs.Lines.{Moved, shortest, line_of}
-use Rattle.book_care.specs.Reads.{context_at_end}
 
 pub taken_more : {X : Type 0} (xs : List X) (i : ℕ) (x : X) → i < length xs → x ≡ get_or xs i x → take (i + 1) xs ≡ take i xs ++ x ∷ []
 taken_more xs i x lt is = take_more xs i x lt ∙ ap (λ y. take i xs ++ y ∷ []) (sym is)
@@ -31,8 +28,3 @@ sums_more turns account sums i sum value lt is same =
     ∙ ap (λ (m : Moved). sum_lines turns account (seen (take i sums)) ++ m ∷ []) (sym (line-signed turns account sum.0 (units_of sum.1)))
     ∙ sym (ap (λ (es : List (List ℕ × ℤ)). sum_lines turns account es) (mapped_more (λ (e : List ℕ × Decimal). (e.0, units_of e.1)) sums i sum lt is)
     ∙ map-push (λ (e : List ℕ × ℤ). line_of account (signed_sum turns e)) (seen (take i sums)) (sum.0, units_of sum.1))
-
--- the context after the next item
-pub context_more : (items : List Placed) (i : ℕ) (placed : Placed) (context : Context) → i < length items → placed ≡ get_or items i placed → context ≡ context_of None (map (λ (p : Placed). p.item) (take i items) ++ placed.item ∷ []) → context ≡ context_at_end (take (i + 1) items)
-context_more items i placed context lt is e =
-    e ∙ ap (context_of None) (sym (mapped_more (λ (p : Placed). p.item) items i placed lt is))

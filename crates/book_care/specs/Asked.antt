@@ -1,5 +1,5 @@
 -- What is asked to be closed.
-use Rattle.std.specs.Prelude.{◌≡◌, ℕ, Bool, not, ◌&&◌, List, map, filter}
+use Rattle.std.specs.Prelude.{ℕ, Bool, not, ◌&&◌, List, map, filter}
 use Rattle.std.specs.List.{flat_map, list_any}
 use Rattle.std.specs.Str.{bytes_eq}
 use Rattle.book.specs.Postings.{postings_of}
@@ -7,10 +7,7 @@ use Rattle.book.specs.declared.item.Placed.{Placed}
 use Rattle.book.specs.declared.transaction.Posting.{Posting}
 use Rattle.book.specs.declared.transaction.Txn.{Txn}
 use Rattle.query.specs.Meaning.{of_posting}
-use Rattle.query.specs.declared.queries.Query.{Query}
-use Rattle.query.specs.declared.queries.Search.{Search}
-use Rattle.query_terms.specs.Finders.{known_in}
-use Rattle.query_terms.specs.Sought.{known_of}
+pub use Rattle.query.specs.Serving.{Serves}
 use Rattle.book_care.specs.declared.close.Closing.{Closing}
 
 -- a posting with its transaction
@@ -56,8 +53,3 @@ is_named asked account = not (bytes_eq account asked.into) && is_meant asked acc
 -- the postings of the named accounts, all of them
 abbrev pub named_postings : Asked → List Posting
 named_postings asked = filter (λ p. is_named asked p.account) (postings_of asked.txns)
-
--- a search means what the query does
-pub record Serves (search : Search) (query : Query) : Type 0 where
-  pub terms : search.terms.now ≡ query.terms.items
-  pub known : known_in search.finder ≡ known_of query.regexes.items

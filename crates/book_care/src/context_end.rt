@@ -4,7 +4,7 @@ ghost use Rattle.std.specs.List.{list_any};
 ghost use Rattle.book_care.specs.Reads as spec;
 
 use book::{Directive, Item, Items, Placed};
-use entry_reader::Context;
+use entry_reader::{Context, context_behind};
 use hl_base::Memory;
 use std::alloc::Global;
 
@@ -12,11 +12,7 @@ use std::alloc::Global;
 pub(crate) fn context_at_end(alloc: Global, items: &Items) -> Result<Context, Memory>
     ensures { IfOk result (λ context. context ≡ spec.context_at_end items.now) }
 {
-    let mut context = Context::start(alloc, None)?;
-    for placed in items.as_slice() {
-        context.after(alloc, &placed.item)?;
-    }
-    Ok(context)
+    context_behind(alloc, None, items.as_slice())
 }
 
 /// Whether a directive says a default commodity.
