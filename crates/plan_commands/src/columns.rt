@@ -2,19 +2,19 @@
 ghost use Rattle.std.specs.Prelude.{◌≡◌, ◌<◌, ◌≤◌, ◌∷◌, ◌^◌, [], None, length, IfOk, IfSome};
 ghost use Rattle.hl_base.specs.Gives.{Gives};
 ghost use Rattle.hl_time.specs.Calendar.{day_end};
-ghost use Rattle.hl_time.specs.Periods.{is_within};
 ghost use Rattle.report_cells.specs.Follows.{Follow};
 ghost use Rattle.report_sums.specs.Celled.{cause};
 ghost use Rattle.report_takings.specs.Asking.{question_of};
-ghost use Rattle.report_takings.specs.Columns.{columns_of, cut_into};
+ghost use Rattle.report_takings.specs.Columns.{columns_of};
 ghost use Rattle.report_takings.specs.Spans.{span_of};
 ghost use Rattle.report_commands.specs.Answered as answers;
 ghost use Rattle.plan_commands.specs.Columns as spec;
 
 use crate::bounds::with_bounds;
 use hl_base::{List, Memory};
-use hl_time::{DAY_END, Interval, Period, Span, split};
+use hl_time::{DAY_END, Period, Span};
 use report_cells::ReportFault;
+use report_takings::columns::cut;
 use report_takings::{COLUMN_LIMIT, Scope, columns_of, shown_in};
 use std::alloc::Global;
 
@@ -47,41 +47,6 @@ fn whole_span(alloc: Global, scope: &Scope) -> Result<Span, Memory>
         day: scope.day,
     };
     only_span(alloc, &whole)
-}
-
-/// Whether a span has a day, and its days are days of the calendar.
-fn is_within(span: Span) -> bool
-    ensures { result ≡ is_within span }
-{
-    1 <= span.from && span.from < span.end && span.end <= DAY_END
-}
-
-/// The span alone.
-fn alone(alloc: Global, span: Span) -> Result<List<Span>, Memory>
-    ensures { IfOk result (λ columns. columns ≡ span ∷ []) }
-{
-    let mut columns = Vec::new(alloc);
-    columns.push(span)?;
-    Ok(List::from_vec(columns))
-}
-
-/// The parts of a span: whole intervals, where it is of days of the calendar.
-#[tactic(auto, using(report_takings::proofs::Following::split_follows, report_takings::proofs::Following::alone_follows, report_takings::proofs::Intervals::split_is, report_takings::proofs::Intervals::cut_whole, report_takings::proofs::Intervals::cut_alone))]
-fn cut(alloc: Global, span: Span, interval: Option<Interval>) -> Result<List<Span>, Memory>
-    requires { IfSome interval (λ some. 1 ≤ some.n) }
-    ensures parts { IfOk result (λ parts. parts ≡ cut_into interval span) }
-    ensures follow { IfOk result Follow }
-{
-    match interval {
-        None => alone(alloc, span),
-        Some(interval) => {
-            if is_within(span) {
-                split(alloc, span, interval)
-            } else {
-                alone(alloc, span)
-            }
-        }
-    }
 }
 
 /// The columns of a report, however many.
