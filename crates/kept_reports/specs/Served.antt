@@ -2,7 +2,7 @@
 use Rattle.std.specs.Prelude.{◌≡◌, ℕ, Bool, true, false, not, ◌&&◌, is_some, List, [], ◌∷◌, None}
 use Rattle.plan_commands.specs.Reports.{asks_rules}
 use Rattle.report_commands.specs.declared.asked.Asked.{Asked}
-use Rattle.report_options.specs.declared.command.Command.{Command}
+pub use Rattle.report_options.specs.Names.{is_balance}
 use Rattle.report_options.specs.declared.command.Command.TheVariants as commands
 use Rattle.report_options.specs.declared.options.Options.{Options}
 
@@ -10,10 +10,6 @@ use Rattle.report_options.specs.declared.options.Options.{Options}
 abbrev pub is_bare : List (List ℕ) → Bool
 is_bare [] = true
 is_bare (word ∷ words) = false
-
-abbrev pub is_balance : Command → Bool
-is_balance commands.Balance = true
-is_balance _ = false
 
 -- amounts are neither valued nor taken at cost
 abbrev pub is_as_written : Options → Bool

@@ -5,7 +5,7 @@ ghost use Rattle.kept_reports.specs.Served as spec;
 use hl_base::{List, Text};
 use plan_commands::asks_rules;
 use report_commands::Asked;
-use report_options::{Command, Options};
+use report_options::{Options, is_balance};
 
 /// Whether a report is answered from what is kept: a balance without words of a query, of amounts as they are written, of
 /// the accounts that have sums, and without entries that rules make.
@@ -24,12 +24,6 @@ fn is_bare(words: &List<Text>) -> bool
     ensures { result ≡ spec.is_bare words.now }
 {
     words.is_empty()
-}
-
-fn is_balance(command: Command) -> bool
-    ensures { result ≡ spec.is_balance command }
-{
-    matches!(command, Command::Balance)
 }
 
 /// Whether amounts are neither valued nor taken at cost.
