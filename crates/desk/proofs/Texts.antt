@@ -2,9 +2,8 @@
 use Rattle.std.proofs.Common.{◌≡◌, ℕ, ◌+◌, ◌<◌, ◌≤◌, ◌==◌, Bool, true, false, List, [], ◌∷◌, ◌++◌, map, length, get_or, take, Option, Some, None, Ok, refl, sym, ap, ◌∙◌, append_assoc, arith}
 use Rattle.std.specs.List.{flat_map}
 use Rattle.std.proofs.lemmas.Bool.Decides.{nat_tests}
-use Rattle.std.proofs.lemmas.List.{map_push, take_all, take_more}
+use Rattle.std.proofs.lemmas.List.{take_all, take_more}
 use Rattle.hl_base.specs.declared.change.Latest.{Latest}
-use Rattle.book.specs.declared.item.Item.{Item}
 use Rattle.book.specs.declared.item.Placed.{Placed}
 use Rattle.book.specs.declared.transaction.Txn.{Txn}
 use Rattle.entry_reader.specs.Contexts.{Context, context_of}
@@ -12,17 +11,6 @@ use Rattle.live_journal.specs.Loading.{reading_in}
 use Rattle.live_journal.specs.declared.edit.Edit.TheVariants as edits
 use Rattle.desk.specs.declared.deed.Deed.{Deed}
 use Rattle.desk.specs.Imports.{context_at, context_in, deed_for, entries_text, entry_text}
-
--- ---- the context behind items
-
-pub context_more : (items : List Placed) (i : ℕ) (p : Placed) (old new : Context) → i < length items → p ≡ get_or items i p
-    → ((year : Option ℕ) (before : List Item) → old ≡ context_of year before → new ≡ context_of year (before ++ p.item ∷ []))
-    → old ≡ context_of None (map (λ p. p.item) (take i items)) → new ≡ context_of None (map (λ p. p.item) (take (i + 1) items))
-context_more items i p old new less is step so_far =
-    let item : Placed → Item = λ p. p.item in
-    let more : map item (take (i + 1) items) ≡ map item (take i items) ++ p.item ∷ [] =
-    ap (map item) (take_more items i p less ∙ ap (λ (q : Placed). take i items ++ q ∷ []) (sym is)) ∙ map_push item (take i items) p in
-    step None (map item (take i items)) so_far ∙ ap (context_of None) (sym more)
 
 -- ---- further entries
 

@@ -1,7 +1,6 @@
 //! How a machine answers imports: the entries of a file, and the edit that an import of them is.
-ghost use Rattle.std.specs.Prelude.{◌≡◌, ◌++◌, ◌<◌, ◌^◌, ◌∷◌, true, None, IfOk, OnOk, length, map};
+ghost use Rattle.std.specs.Prelude.{◌≡◌, ◌++◌, ◌<◌, ◌^◌, ◌∷◌, true, None, IfOk, OnOk, length};
 ghost use Rattle.std.specs.List.{flat_map};
-ghost use Rattle.entry_reader.specs.Contexts.{context_of};
 ghost use Rattle.csv_rules.specs.Importing.{is_ordered};
 ghost use Rattle.desk.specs.Files.{FileSo, rules_reply, convert_reply};
 ghost use Rattle.desk.specs.Imports as spec;
@@ -14,10 +13,10 @@ use crate::judging::covers;
 use crate::reply::Reply;
 use crate::request::{Allow, Request};
 use crate::states::state_named;
-use book::{Placed, Txn};
+use book::Txn;
 use csv_entries::{ConvertFault, convert};
 use csv_rules::{Rules, RulesFault, new_ones};
-use entry_reader::Context;
+use entry_reader::{Context, context_behind};
 use hl_base::{Bytes, Disk, Latest, List, Memory, Steps, Text};
 use journal_printer::print_entry;
 use live_journal::{Edit, Live};
@@ -186,17 +185,6 @@ fn entries_of<M: Maker>(
     }
 }
 
-/// The context behind some items of a text without a year before it.
-fn context_behind(alloc: Global, items: &[Placed]) -> Result<Context, Memory>
-    ensures { IfOk result (λ context. context ≡ context_of None (map (λ p. p.item) items.now)) }
-{
-    let mut context = Context::start(alloc, None)?;
-    for placed in items {
-        context.after(alloc, &placed.item)?;
-    }
-    Ok(context)
-}
-
 /// Puts an entry as it is printed in a context behind other bytes.
 fn push_entry(
     alloc: Global,
@@ -257,7 +245,7 @@ fn addition(
     if new.is_empty() {
         return Ok(None);
     }
-    let context = context_behind(alloc, live.items().as_slice())?;
+    let context = context_behind(alloc, None, live.items().as_slice())?;
     let entry = entries_text(alloc, &context, new)?;
     Ok(Some(Deed {
         edit: Edit::Add { entry },
