@@ -15,7 +15,6 @@ ghost use Rattle.book_commands.specs.Texts.{judged_text};
 ghost use Rattle.book_commands.specs.Works as spec;
 ghost use Rattle.book_commands.specs.declared.work.CloseAsked.{CloseAsked as CloseAskedOf};
 
-use crate::context_end::context_at_end;
 use crate::entries::pair_text;
 use crate::fault_lines::refuse_close;
 use crate::journal::{Kept, load_kept};
@@ -23,6 +22,7 @@ use crate::today::Today;
 use crate::work::{CloseAsked, Entries};
 use book::Txn;
 use book_care::{Closing, close_entries};
+use entry_reader::context_behind;
 use hl_base::{Bytes, Memory, Steps};
 use hl_time::Day;
 use query::{Maker, Query, Types, make_query};
@@ -42,7 +42,7 @@ fn closing_text(
     ensures { IfOk result (λ text.
         text ≡ spec.pair_text (reads.context_at_end closing.now.items.now) chosen entries.now) }
 {
-    let context = context_at_end(alloc, closing.items.as_slice())?;
+    let context = context_behind(alloc, None, closing.items.as_slice())?;
     pair_text(alloc, &context, chosen, entries)
 }
 

@@ -3,7 +3,6 @@
 #![tactic(auto)]
 
 mod close;
-mod context_end;
 mod entries;
 mod explain;
 mod fault_lines;
