@@ -1,8 +1,8 @@
 -- Words one after another.
 use Rattle.std.proofs.Common.{◌≡◌, ◌≤◌, ◌<◌, ℕ, Bool, true, false, List, [], ◌∷◌, map, length, Option, Some, None, IfSome, Result, Ok, Err, refl, sym, ap, ◌∙◌, subst, arith}
 use Rattle.hl_base.specs.Gives.{Gives}
-use Rattle.report_options.specs.Items.{is_end, is_option, piece_of, words}
-use Rattle.command_words.specs.Said.{all_said, item_of, items_in, left_of, named_item, next_of, onto, option_name, pieces, plain_item, plain_items, put_first, takes_next, with_item}
+use Rattle.report_options.specs.Items.{is_end, is_option, left_of, piece_of, words}
+use Rattle.command_words.specs.Said.{all_said, item_of, items_in, named_item, next_of, onto, option_name, pieces, plain_item, plain_items, put_first, takes_next, with_item}
 use Rattle.command_words.specs.Usage.{usage_cause}
 use Rattle.command_words.specs.declared.chores.Chore.{Chore}
 use Rattle.command_words.specs.declared.items.Item.{Item}
@@ -60,11 +60,11 @@ module _ (chore : Chore) (whole : Reading) (said : Said) (left : List (List ℕ)
 
 -- the words from here on are a piece and what is left behind it
 pieces_taken : (word next : List ℕ) (rest : List (List ℕ)) (taken : Bool) → takes_next word ≡ taken → is_end word ≡ false
-    → pieces (word ∷ next ∷ rest) ≡ piece_of word (Some next) ∷ pieces (left_of word (next ∷ rest))
+    → pieces (word ∷ next ∷ rest) ≡ piece_of word (Some next) ∷ pieces (left_of (takes_next word) (next ∷ rest))
 pieces_taken word next rest true e goes = rw (goes, e) refl
 pieces_taken word next rest false e goes = rw (goes, e) refl
 
-pieces_step : (word : List ℕ) (rest : List (List ℕ)) → is_end word ≡ false → pieces (word ∷ rest) ≡ piece_of word (next_of rest) ∷ pieces (left_of word rest)
+pieces_step : (word : List ℕ) (rest : List (List ℕ)) → is_end word ≡ false → pieces (word ∷ rest) ≡ piece_of word (next_of rest) ∷ pieces (left_of (takes_next word) rest)
 pieces_step word [] goes = rw goes refl
 pieces_step word (next ∷ rest) goes = pieces_taken word next rest (takes_next word) refl goes
 
@@ -73,7 +73,7 @@ pieces_end word [] end = rw end refl
 pieces_end word (next ∷ rest) end = rw end refl
 
 items_step : (chore : Chore) (word : List ℕ) (rest : List (List ℕ)) → is_end word ≡ false
-    → items_in chore (word ∷ rest) ≡ put_first (item_of chore (piece_of word (next_of rest))) (items_in chore (left_of word rest))
+    → items_in chore (word ∷ rest) ≡ put_first (item_of chore (piece_of word (next_of rest))) (items_in chore (left_of (takes_next word) rest))
 unfolding items_in
 items_step chore word rest goes = ap (λ ps. all_said (map (item_of chore) ps)) (pieces_step word rest goes)
 
@@ -100,23 +100,23 @@ module _ (chore : Chore) (whole : Reading) (said : Said) (left : List (List ℕ)
       subst F (sym (ended word rest here end)) told
 
   read_here : (word : List ℕ) (rest : List (List ℕ)) → left ≡ word ∷ rest → is_end word ≡ false
-      → whole ≡ onto said (put_first (item_of chore (piece_of word (next_of rest))) (items_in chore (left_of word rest)))
+      → whole ≡ onto said (put_first (item_of chore (piece_of word (next_of rest))) (items_in chore (left_of (takes_next word) rest)))
   read_here word rest here goes =
       so_far ∙ ap (λ (l : List (List ℕ)). onto said (items_in chore l)) here
       ∙ ap (λ (x : Result (List Item) UsageFault). onto said x) (items_step chore word rest goes)
 
   pub read_more : (word : List ℕ) (rest : List (List ℕ)) (item : Item) (more : Said) → left ≡ word ∷ rest → is_end word ≡ false
-      → item_of chore (piece_of word (next_of rest)) ≡ Ok item → more ≡ with_item said item → whole ≡ onto more (items_in chore (left_of word rest))
+      → item_of chore (piece_of word (next_of rest)) ≡ Ok item → more ≡ with_item said item → whole ≡ onto more (items_in chore (left_of (takes_next word) rest))
   read_more word rest item more here goes read is =
       read_here word rest here goes
-      ∙ ap (λ (x : Result Item UsageFault). onto said (put_first x (items_in chore (left_of word rest)))) read
-      ∙ onto_more said item (items_in chore (left_of word rest)) ∙ ap (λ (s : Said). onto s (items_in chore (left_of word rest))) (sym is)
+      ∙ ap (λ (x : Result Item UsageFault). onto said (put_first x (items_in chore (left_of (takes_next word) rest)))) read
+      ∙ onto_more said item (items_in chore (left_of (takes_next word) rest)) ∙ ap (λ (s : Said). onto s (items_in chore (left_of (takes_next word) rest))) (sym is)
 
   read_bad : (word : List ℕ) (rest : List (List ℕ)) (fault : UsageFault) → left ≡ word ∷ rest → is_end word ≡ false
       → item_of chore (piece_of word (next_of rest)) ≡ Err fault → whole ≡ Err fault
   read_bad word rest fault here goes read =
       read_here word rest here goes
-      ∙ ap (λ (x : Result Item UsageFault). onto said (put_first x (items_in chore (left_of word rest)))) read
+      ∙ ap (λ (x : Result Item UsageFault). onto said (put_first x (items_in chore (left_of (takes_next word) rest)))) read
 
   pub read_told : (word : List ℕ) (rest : List (List ℕ)) → left ≡ word ∷ rest → is_end word ≡ false → (cause : Option UsageFault)
       → IfSome cause (λ fault. item_of chore (piece_of word (next_of rest)) ≡ Err fault) → IfSome cause (λ fault. whole ≡ Err fault)
@@ -128,13 +128,13 @@ module _ (chore : Chore) (whole : Reading) (said : Said) (left : List (List ℕ)
   read_none here = so_far ∙ ap (λ (l : List (List ℕ)). onto said (items_in chore l)) here
 
 -- what is left behind a word and its value is no longer
-left_by : (word next : List ℕ) (rest : List (List ℕ)) (taken : Bool) → takes_next word ≡ taken → length (left_of word (next ∷ rest)) ≤ length (next ∷ rest)
+left_by : (word next : List ℕ) (rest : List (List ℕ)) (taken : Bool) → takes_next word ≡ taken → length (left_of (takes_next word) (next ∷ rest)) ≤ length (next ∷ rest)
 left_by word next rest true e = rw e (omega arith)
 left_by word next rest false e = rw e (omega arith)
 
-left_length : (word : List ℕ) (rest : List (List ℕ)) → length (left_of word rest) ≤ length rest
+left_length : (word : List ℕ) (rest : List (List ℕ)) → length (left_of (takes_next word) rest) ≤ length rest
 left_length word [] = omega arith
 left_length word (next ∷ rest) = left_by word next rest (takes_next word) refl
 
-pub left_shorter : (word : List ℕ) (left rest : List (List ℕ)) → left ≡ word ∷ rest → length (left_of word rest) < length left
+pub left_shorter : (word : List ℕ) (left rest : List (List ℕ)) → left ≡ word ∷ rest → length (left_of (takes_next word) rest) < length left
 left_shorter word left rest here = rw here (omega (arith, left_length word rest))

@@ -225,7 +225,3 @@ said_by chore those = onto unsaid (items_in chore those)
 abbrev pub next_of : List (List ℕ) → Option (List ℕ)
 next_of [] = None
 next_of (next ∷ rest) = Some next
-
-abbrev pub left_of : List ℕ → List (List ℕ) → List (List ℕ)
-left_of word [] = []
-left_of word (next ∷ rest) = if takes_next word then rest else next ∷ rest

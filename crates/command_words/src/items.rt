@@ -19,6 +19,7 @@ use entry_reader::{ReadFault, read_account};
 use hl_base::{Memory, Text};
 use hl_time::read_date;
 use report_commands::WordsFault;
+use report_options::{after_equals, before_equals, has_value, is_long, is_option, left_of};
 use std::alloc::Global;
 
 /// What a word says, with its value.
@@ -54,60 +55,6 @@ pub(crate) enum Item {
     Check(Check),
     /// A word of the query, or a name.
     Word(Text),
-}
-
-/// Whether a word ends the options.
-pub(crate) fn is_end(word: &Text) -> bool
-    ensures { result ≡ cut.is_end word.now }
-{
-    word.as_bytes() == b"--".as_slice()
-}
-
-/// Whether a word is read as an option: it begins with `-`.
-pub(crate) fn is_option(word: &Text) -> bool
-    ensures { result ≡ cut.is_option word.now }
-{
-    word.as_bytes().starts_with(b"-")
-}
-
-/// Whether a word is of the long form.
-fn is_long(word: &str) -> bool
-    ensures { result ≡ cut.is_long word.now }
-{
-    word.as_bytes().starts_with(b"--")
-}
-
-fn has_equals(word: &str) -> bool
-    ensures { result ≡ cut.has_equals word.now }
-{
-    word.as_bytes().iter().any(|byte| *byte == b'=')
-}
-
-/// Whether a word holds a value, behind `=`.
-fn has_value(word: &str) -> bool
-    ensures { result ≡ cut.has_value word.now }
-{
-    is_long(word) && has_equals(word)
-}
-
-/// What stands before the first `=`.
-fn before_equals(word: &str) -> &str
-    ensures { result.now ≡ cut.before_equals word.now }
-{
-    match word.split_once('=') {
-        Some((head, _)) => head,
-        None => word,
-    }
-}
-
-/// What stands after the first `=`, or nothing.
-fn after_equals(word: &str) -> &str
-    ensures { result.now ≡ cut.after_equals word.now }
-{
-    match word.split_once('=') {
-        Some((_, text)) => text,
-        None => "",
-    }
 }
 
 /// The option that a word names.
@@ -365,15 +312,8 @@ pub(crate) fn item_of(
 }
 
 /// What is left behind a word and its value.
-pub(crate) fn left_of<'a>(word: &Text, rest: &'a [Text]) -> &'a [Text]
-    ensures { result.now ≡ spec.left_of word.now rest.now }
+pub(crate) fn left_behind<'a>(word: &Text, rest: &'a [Text]) -> &'a [Text]
+    ensures { result.now ≡ cut.left_of (spec.takes_next word.now) rest.now }
 {
-    if takes_next(word.as_str()) {
-        match rest {
-            [] => rest,
-            [_, later @ ..] => later,
-        }
-    } else {
-        rest
-    }
+    left_of(takes_next(word.as_str()), rest)
 }

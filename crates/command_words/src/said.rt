@@ -5,12 +5,13 @@ ghost use Rattle.command_words.specs.Said as spec;
 ghost use Rattle.command_words.specs.Usage.{usage_cause};
 
 use crate::chores::Chore;
-use crate::items::{Item, is_end, item_of, left_of, plain_item};
+use crate::items::{Item, item_of, left_behind, plain_item};
 use crate::usage::UsageFault;
 use book_care::Check;
 use book_commands::ClosingDay;
 use desk::Allow;
 use hl_base::{List, Memory, Text};
+use report_options::is_end;
 use std::alloc::Global;
 
 /// The journal that some words name: of an option that is repeated the last.
@@ -211,7 +212,7 @@ pub(crate) fn read_said(alloc: Global, chore: Chore, words: &[Text]) -> Result<S
         }
         let item = item_of(alloc, chore, word, rest)?;
         said = with_item(alloc, said, item)?;
-        left = left_of(word, rest);
+        left = left_behind(word, rest);
     }
     Ok(said)
 }

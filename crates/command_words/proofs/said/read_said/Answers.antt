@@ -1,11 +1,17 @@
-use Rattle.std.proofs.Common.{◌≡◌, true, false, sym, ◌∙◌}
+use Rattle.std.proofs.Common.{◌≡◌, ◌<◌, true, false, length, sym, ap, ◌∙◌, arith}
 use Rattle.std.proofs.lemmas.List.{nil_from_length}
 use Rattle.std.proofs.lemmas.Result.{err_from_is_err_and}
 use Rattle.report_options.specs.Items.{is_end}
 use Rattle.command_words.specs.Said.{said_by}
 use Rattle.command_words.specs.Usage.{usage_cause}
-use Rattle.command_words.proofs.Saying.{read_end, read_none, read_told}
+use Rattle.command_words.proofs.Saying.{left_shorter, read_end, read_none, read_told}
 use Rattle.command_words.proofs.said.read_said.Goals as goal
+
+pub loop-word-smaller : goal.loop-word-smaller
+loop-word-smaller c =
+    let shown = ap length c.left_behind-left.ensures in
+    let shorter = left_shorter c.in-Some.word.now c.loop-word.left.now c.in-Some.rest.now c.in-Some.ensures.cases.0 in
+    omega (arith, shown, shorter)
 
 pub returns-then-is_end : goal.returns-then-is_end
 returns-then-is_end c =
