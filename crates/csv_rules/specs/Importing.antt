@@ -2,16 +2,8 @@
 use Rattle.std.specs.Prelude.{ℕ, ◌==◌, nat_lt, nat_le, max, Bool, true, ◌&&◌, List, [], ◌∷◌, ◌++◌, filter, length, drop, Option, Some, None}
 use Rattle.std.specs.List.{fold, list_all}
 use Rattle.hl_base.specs.declared.change.Latest.{Latest}
+pub use Rattle.book.specs.ByDay.{is_ordered, on_day}
 use Rattle.book.specs.declared.transaction.Txn.{Txn}
-
--- each entry is of the same day as those before it, or of a later one
-abbrev pub is_ordered : List Txn → Bool
-is_ordered [] = true
-is_ordered (t ∷ ts) = list_all (λ u. nat_le t.day.0 u.day.0) ts && is_ordered ts
-
--- the entries of a day
-abbrev pub on_day : ℕ → List Txn → List Txn
-on_day day ts = filter (λ t. t.day.0 == day) ts
 
 -- the entries before a day
 abbrev pub before_day : ℕ → List Txn → List Txn

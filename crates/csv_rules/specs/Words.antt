@@ -13,6 +13,7 @@ use Rattle.csv_rules.specs.declared.kinds.EntryField.{EntryField}
 use Rattle.csv_rules.specs.declared.kinds.EntryField.TheVariants as fields
 use Rattle.csv_rules.specs.declared.forms.Word.{Word}
 use Rattle.csv_rules.specs.declared.forms.Word.TheVariants as words
+use Rattle.hl_num.specs.Reading.{most}
 pub use Rattle.hl_num.specs.Reading.{is_digit}
 
 -- an ASCII letter
@@ -59,10 +60,6 @@ is_same_name name other = bytes_eq (folded other) (folded name)
 -- one digit or more, and nothing else
 abbrev pub are_digits : List ℕ → Bool
 are_digits text = not (bytes_eq text []) && list_all is_digit text
-
--- the greatest number that is told
-abbrev pub most : ℕ
-most = 2 ^ 64 - 1
 
 -- the number of some digits, or the greatest that is told
 abbrev pub value_of : List ℕ → ℕ

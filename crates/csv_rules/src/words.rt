@@ -9,6 +9,7 @@ ghost use Rattle.csv_rules.specs.Words as spec;
 use crate::forms::Word;
 use crate::kinds::EntryField;
 use hl_base::is_digit;
+use hl_num::digits_number;
 use query_terms::cutting::{bytes_of, str_of};
 use unicode::case::simple_fold;
 
@@ -155,13 +156,7 @@ pub fn value_of(text: &[u8]) -> u64
     requires { spec.are_digits text.now ≡ true }
     ensures { result ≡ spec.value_of text.now }
 {
-    let mut value: u64 = 0;
-    for byte in text {
-        value = value
-            .saturating_mul(10)
-            .saturating_add(u64::from(*byte - b'0'));
-    }
-    value
+    digits_number(text)
 }
 
 /// Whether a name is that of a field, with case ignored or not.

@@ -4,6 +4,7 @@ use Rattle.std.specs.List.{flat_map, fold, find, list_all, list_any}
 use Rattle.std.specs.Str.{bytes_eq}
 use Rattle.hl_num.specs.Decimal.{Decimal, negated}
 use Rattle.hl_num.specs.Rounding.{rounded}
+use Rattle.book.specs.Style.{cost_amount}
 use Rattle.book.specs.declared.amount.Amount.{Amount}
 use Rattle.book.specs.declared.amount.Cost.{Cost}
 use Rattle.book.specs.declared.amount.Cost.TheVariants.{Total}
@@ -15,7 +16,7 @@ use Rattle.book.specs.declared.transaction.Side.{Side}
 use Rattle.book.specs.declared.transaction.Side.TheVariants.{Real, Balanced, Free}
 use Rattle.book.specs.declared.fault.Cause.{Cause}
 use Rattle.book.specs.declared.fault.Cause.TheVariants as cause
-use Rattle.entry_balance.specs.Values.{Value, value_of, at_cost, cost_fits, cost_values, absolute_value, amount_in}
+use Rattle.entry_balance.specs.Values.{Value, value_of, at_cost, cost_fits, cost_values, absolute_value}
 use Rattle.entry_balance.specs.Tally.{numbers_of, no_sum, sums_of, turnover_fits}
 
 -- ---- sides
@@ -101,7 +102,7 @@ written_amounts ps = flat_map (λ p. written_amount p.filled p.amount) ps
 
 abbrev pub written_cost : Option Cost → List Value
 written_cost None = []
-written_cost (Some cost) = value_of (amount_in cost) ∷ []
+written_cost (Some cost) = value_of (cost_amount cost) ∷ []
 
 abbrev pub written_costs : List Posting → List Value
 written_costs ps = flat_map (λ p. written_cost p.cost) ps

@@ -1,7 +1,7 @@
 -- Values: a symbol with a number of it. What the amounts and costs of postings come to.
 use Rattle.std.specs.Prelude.{ℕ, ℤ, pos, neg_ℤ, ◌*ℤ◌, ◌+◌, ◌/◌, ◌%◌, ◌==◌, zero, suc, Bool, true, int_lt, unsigned_abs, List, [], ◌∷◌, Option, Some, None, if◌then◌else◌}
 use Rattle.hl_num.specs.Decimal.{Decimal, mul_fits}
-use Rattle.hl_num.specs.Rounding.{with_sign}
+pub use Rattle.hl_num.specs.Shortest.{trimmed}
 use Rattle.book.specs.declared.amount.Amount.{Amount}
 use Rattle.book.specs.declared.amount.Cost.{Cost}
 use Rattle.book.specs.declared.amount.Cost.TheVariants.{Unit, Total}
@@ -11,13 +11,6 @@ Value = List ℕ × Decimal
 
 abbrev pub value_of : Amount → Value
 value_of a = (a.symbol, a.value)
-
--- a number of so many places, without zeros at the end of its decimals
-abbrev pub trimmed : ℤ → ℕ → Decimal
-trimmed m zero = record { mantissa = m; places = 0 }
-trimmed m (suc n) =
-    if unsigned_abs m % 10 == 0 then trimmed (with_sign (int_lt m (pos 0)) (unsigned_abs m / 10)) n
-    else record { mantissa = m; places = suc n }
 
 -- an exact product, without zeros at the end of its decimals
 abbrev pub product : Decimal → Decimal → Decimal
@@ -53,8 +46,3 @@ at_cost a (Some cost) = cost_of a.value cost
 abbrev pub cost_values : Amount → Option Cost → List Value
 cost_values a None = []
 cost_values a (Some cost) = cost_of a.value cost ∷ []
-
--- the amount that a cost is written with
-abbrev pub amount_in : Cost → Amount
-amount_in (Unit a) = a
-amount_in (Total a) = a

@@ -2,7 +2,7 @@
 ghost use Rattle.std.specs.Prelude.{◌≡◌, ◌++◌, ◌∷◌, [], ◌==◌, ℕ, List, true, false, not, filter, count_by, IfOk, Option, option_map};
 ghost use Rattle.std.specs.List.{list_any};
 ghost use Rattle.std.specs.Str.{bytes_eq};
-ghost use Rattle.entry_balance.specs.Values.{Value, value_of, amount_in};
+ghost use Rattle.entry_balance.specs.Values.{Value, value_of};
 ghost use Rattle.entry_balance.specs.Tally.{named, numbers_of};
 ghost use Rattle.entry_balance.specs.Entry.{is_assignment, has_assignment, is_absent, absent_count, lacks_two, is_date_tag, is_dated, assignment_fault, is_assignable, is_missing, misses, missing_count, has_two_missing, written_amount, written_amounts, written_cost, written_costs, places_among, precision_of, is_nothing_at, are_opposite, is_positive, is_plain, are_plain, is_of, is_real_of, is_of_either, is_not_of, second_is_first, recorded, recorded_between};
 ghost use Rattle.book.specs.declared.transaction.Side.TheVariants.{Real};
@@ -202,21 +202,11 @@ fn cost_places(postings: &[Posting], symbol: &str) -> Option<u8>
     let mut most = None;
     for posting in postings {
         most = match &posting.cost {
-            Some(cost) => wider(most, symbol, amount_in(cost.get())),
+            Some(cost) => wider(most, symbol, cost.get().amount()),
             None => most,
         };
     }
     most
-}
-
-/// The amount that a cost is written with.
-fn amount_in(cost: &Cost) -> &Amount
-    ensures { result.now ≡ amount_in cost.now }
-{
-    match cost {
-        Cost::Unit(amount) => amount,
-        Cost::Total(amount) => amount,
-    }
 }
 
 /// The most decimals of a symbol, after one more amount.

@@ -1,5 +1,4 @@
 pub mod Built
-pub mod Depths
 pub mod Folds
 pub mod Nots
 pub mod Refusals

@@ -5,7 +5,7 @@ use Rattle.std.specs.Str.{bytes_eq}
 use Rattle.std.specs.Str.Parse.{digits_value}
 use Rattle.hl_base.specs.Ascii.{begins, colon, digit_zero, equals, minus, plus}
 use Rattle.hl_num.specs.Decimal.{Decimal, negated}
-use Rattle.hl_num.specs.Reading.{is_digit, number_of}
+use Rattle.hl_num.specs.Reading.{begins_number, is_digit, most, number_of}
 use Rattle.hl_num.specs.declared.reading.Number.{Number}
 use Rattle.hl_time.specs.Periods.{period_of, IsPeriod}
 use Rattle.hl_time.specs.declared.fault.TimeFault.{TimeFault}
@@ -118,19 +118,10 @@ abbrev pub plain_period : Result Period TimeFault → Option Period
 plain_period (Ok period) = elim period.interval [ None ↦ Some period | Some interval ↦ None ]
 plain_period (Err fault) = None
 
--- the greatest depth that is told
-abbrev pub most : ℕ
-most = 2 ^ 64 - 1
-
 -- the bounds of a term of days are days
 abbrev pub HasDays : Kind → Type 0
 HasDays (kinds.Date period) = IsPeriod period
 HasDays _ = Unit {0}
-
--- a number from 1 doesn't begin with a zero
-abbrev pub begins_number : List ℕ → Bool
-begins_number [] = false
-begins_number (b ∷ bs) = not (b == digit_zero)
 
 -- digits without a leading zero; a greater depth than the greatest is that one
 abbrev pub depth_of : List ℕ → Option ℕ

@@ -1,10 +1,9 @@
 //! Words read as terms.
-ghost use Rattle.std.specs.Prelude.{◌≡◌, ◌≤◌, true, IfOk, IfSome, length, min};
+ghost use Rattle.std.specs.Prelude.{◌≡◌, ◌≤◌, true, IfOk, IfSome, length};
 ghost use Rattle.std.specs.List.{list_all};
 ghost use Rattle.std.specs.Str.{is_utf8, bytes_eq};
-ghost use Rattle.std.specs.Str.Parse.{digits_value};
 ghost use Rattle.hl_time.specs.Calendar.{IsDay};
-ghost use Rattle.hl_num.specs.Reading.{is_digit, number_of};
+ghost use Rattle.hl_num.specs.Reading.{number_of};
 ghost use Rattle.hl_time.specs.Periods.{period_of, IsPeriod};
 ghost use Rattle.query_terms.specs.Patterns as patterns;
 ghost use Rattle.query_terms.specs.Reading as spec;
@@ -17,7 +16,7 @@ use crate::patterns::{read_pattern, read_symbol};
 use book::Mark;
 use hl_base::ascii::{begins, past};
 use hl_base::{Memory, Text, are_digits};
-use hl_num::{Dec, Number, read_number};
+use hl_num::{Dec, Number, begins_number, digits_number, read_number};
 use hl_time::{Day, Period, read_period};
 use std::alloc::Global;
 
@@ -233,30 +232,6 @@ fn plain_period(text: &[u8], day: Day) -> Option<Period>
     }
 }
 
-/// The number of some digits, or the greatest that is told.
-fn depth_value(text: &[u8]) -> u64
-    requires { list_all is_digit text.now ≡ true }
-    ensures { result ≡ min (digits_value 10 text.now) spec.most }
-{
-    let mut value: u64 = 0;
-    for byte in text {
-        value = value
-            .saturating_mul(10)
-            .saturating_add(u64::from(*byte - b'0'));
-    }
-    value
-}
-
-/// Whether a number from 1 may begin so: not with a zero.
-fn begins_number(text: &[u8]) -> bool
-    ensures { result ≡ spec.begins_number text.now }
-{
-    match text.first() {
-        Some(byte) => *byte != b'0',
-        None => false,
-    }
-}
-
 /// What a `depth:` term says.
 fn depth_of(text: &[u8]) -> Option<u64>
     ensures { result ≡ spec.depth_of text.now }
@@ -264,7 +239,7 @@ fn depth_of(text: &[u8]) -> Option<u64>
     if !are_digits(text) || !begins_number(text) {
         return None;
     }
-    Some(depth_value(text))
+    Some(digits_number(text))
 }
 
 /// What a `real:` term says.

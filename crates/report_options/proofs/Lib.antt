@@ -1,7 +1,6 @@
 pub mod Clashing
 pub mod Cuts
 pub mod Cutting
-pub mod Depths
 pub mod Fields
 pub mod FileWords
 pub mod OptionRows

@@ -3,7 +3,7 @@ use Rattle.std.specs.Prelude.{ℕ, ◌-◌, ◌^◌, min, Bool, false, not, ◌&
 use Rattle.std.specs.List.{list_all, before_first, after_first}
 use Rattle.std.specs.Str.{bytes_eq}
 use Rattle.std.specs.Str.Parse.{digits_value}
-use Rattle.hl_num.specs.Reading.{is_digit}
+use Rattle.hl_num.specs.Reading.{begins_number, is_digit, most}
 use Rattle.hl_time.specs.Calendar.{IsDay}
 use Rattle.hl_time.specs.Date.{date_of, day_answer}
 use Rattle.hl_time.specs.Periods.{period_of, IsPeriod}
@@ -53,15 +53,6 @@ days_read (Err fault) = None
 -- the period that a text is
 abbrev pub period_in : List ℕ → ℕ → Option Value
 period_in text day = days_read (period_of text day)
-
--- the greatest depth that is told
-abbrev pub most : ℕ
-most = 2 ^ 64 - 1
-
--- a number from 1 doesn't begin with a zero
-abbrev pub begins_number : List ℕ → Bool
-begins_number [] = false
-begins_number (b ∷ bs) = not (b == 48)
 
 -- digits without a leading zero; a greater depth than the greatest is that one
 abbrev pub depth_in : List ℕ → Option Value

@@ -1,8 +1,6 @@
 //! The values of options.
-ghost use Rattle.std.specs.Prelude.{◌≡◌, ◌++◌, ◌≤◌, true, IfOk, IfSome, min, length, codes, option_map};
-ghost use Rattle.std.specs.List.{list_all, before_first, after_first};
-ghost use Rattle.std.specs.Str.Parse.{digits_value};
-ghost use Rattle.hl_num.specs.Reading.{is_digit};
+ghost use Rattle.std.specs.Prelude.{◌≡◌, ◌++◌, IfOk, IfSome, length, codes, option_map};
+ghost use Rattle.std.specs.List.{before_first, after_first};
 ghost use Rattle.hl_time.specs.Calendar.{IsDay};
 ghost use Rattle.hl_time.specs.Periods.{IsPeriod};
 ghost use Rattle.report_options.specs.Values as spec;
@@ -11,6 +9,7 @@ use crate::names::Name;
 use crate::options::{Valuation, When};
 use crate::texts::is_same;
 use hl_base::{Memory, Text, are_digits};
+use hl_num::{begins_number, digits_number};
 use hl_time::{Day, Interval, Period, Unit, read_date, read_period};
 use std::alloc::Global;
 
@@ -88,30 +87,6 @@ fn period_behind(alloc: Global, link: &str, text: &str, day: Day) -> Result<Opti
     let mut whole = String::from_str(alloc, link)?;
     whole.push_str(text)?;
     Ok(period_of(whole.as_bytes(), day))
-}
-
-/// The number of some digits, or the greatest that is told.
-fn digits_number(text: &[u8]) -> u64
-    requires { list_all is_digit text.now ≡ true }
-    ensures { result ≡ min (digits_value 10 text.now) spec.most }
-{
-    let mut value: u64 = 0;
-    for byte in text {
-        value = value
-            .saturating_mul(10)
-            .saturating_add(u64::from(*byte - b'0'));
-    }
-    value
-}
-
-/// Whether a number from 1 may begin so: not with a zero.
-fn begins_number(text: &[u8]) -> bool
-    ensures { result ≡ spec.begins_number text.now }
-{
-    match text.first() {
-        Some(byte) => *byte != b'0',
-        None => false,
-    }
 }
 
 /// The depth that a text is.
