@@ -15,7 +15,7 @@ use Rattle.report_cells.specs.Report.{Sums, row_seen, seen}
 use Rattle.balance_rows.specs.declared.layout.Layout.{Layout}
 use Rattle.balance_rows.specs.Rows.{Row}
 use Rattle.balance_rows.specs.Kept.{KeptSums}
-use Rattle.balance_rows.specs.Shortest.{shortest}
+use Rattle.hl_num.specs.Shortest.{shortest}
 use Rattle.balance_layouts.specs.Averages.{average_entry, average_of, averages, is_out, is_past, least_with, lesser, symbols_out}
 use Rattle.balance_layouts.specs.KeptAverages.{entry_average, kept_average, least_beside, shown_average}
 use Rattle.balance_layouts.specs.Totals.{first_out, outs_of, rows_out, totals_out}

@@ -8,7 +8,7 @@ use Rattle.hl_num.specs.Rounding.{signed_half_even}
 use Rattle.book.specs.declared.style.Style.{Style}
 use Rattle.book.specs.Sums.{is_nonzero}
 use Rattle.report_cells.specs.Report.{Sums}
-use Rattle.balance_rows.specs.Shortest.{shortest}
+use Rattle.hl_num.specs.Shortest.{shortest}
 
 -- a value's part by a number of columns, half to even at so many decimals, in units of the last of them
 abbrev pub average_of : ℕ → ℕ → Decimal → ℤ

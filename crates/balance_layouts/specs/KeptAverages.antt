@@ -8,7 +8,7 @@ use Rattle.hl_num.specs.Decimal.{Decimal, units_of}
 use Rattle.book.specs.declared.style.Style.{Style}
 use Rattle.book.specs.Mixed.{is_zero}
 use Rattle.balance_rows.specs.Kept.{KeptSums}
-use Rattle.balance_rows.specs.Shortest.{shortest}
+use Rattle.hl_num.specs.Shortest.{shortest}
 use Rattle.balance_layouts.specs.Averages.{average_of, is_past, lesser}
 
 -- a value's average, where it can be told

@@ -2,7 +2,7 @@
 ghost use Rattle.std.specs.Prelude.{◌≡◌, ◌*◌, ◌*ℤ◌, ◌^◌, ◌<◌, ◌≤◌, Some, None, nat_lt, pos, unsigned_abs, if◌then◌else◌};
 ghost use Rattle.hl_num.specs.Decimal.{Decimal, units_of};
 ghost use Rattle.hl_num.specs.Rounding.{signed_half_even};
-ghost use Rattle.balance_rows.specs.Shortest.{shortest};
+ghost use Rattle.hl_num.specs.Shortest.{shortest};
 ghost use Rattle.balance_layouts.specs.KeptAverages.{told_average};
 
 use hl_num::{Dec, div_round};
