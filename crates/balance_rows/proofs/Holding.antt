@@ -19,7 +19,7 @@ use Rattle.book.specs.Mixed.{plus, sum_with, is_zero, without, settled, added, f
 use Rattle.book.proofs.Added.{AreSums-added}
 use Rattle.book.proofs.Entries.{tie-bytes_eq}
 use Rattle.report_cells.specs.Report.{Sums, seen}
-use Rattle.balance_rows.specs.Shortest.{shortest}
+use Rattle.hl_num.specs.Shortest.{shortest}
 use Rattle.balance_rows.specs.Fitting.{turnover}
 use Rattle.balance_rows.specs.Kept.{KeptSums, EachFits, added_all}
 use Rattle.balance_rows.specs.Sums.{share, sum_of}

@@ -5,7 +5,7 @@ use Rattle.std.proofs.lemmas.List.Concat.{flat_map-append}
 use Rattle.hl_num.specs.Decimal.{Decimal, units_of}
 use Rattle.book.specs.Entries.{held}
 use Rattle.book.specs.Mixed.{added, fits_with}
-use Rattle.balance_rows.specs.Shortest.{shortest}
+use Rattle.hl_num.specs.Shortest.{shortest}
 use Rattle.balance_rows.specs.Kept.{KeptSums, EachFits, added_all, all_entries}
 
 pub added-append : (sums xs ys : KeptSums) → added_all sums (xs ++ ys) ≡ added_all (added_all sums xs) ys

@@ -17,5 +17,4 @@ pub mod RowsLaws
 pub mod Shortest
 pub mod TotalsLaws
 pub mod TreesLaws
-pub mod Trimmed
 pub mod Walking

@@ -6,9 +6,8 @@ use Rattle.std.proofs.lemmas.Nat.{pow-add, div-add-mod'}
 use Rattle.std.proofs.Math.Nat.{mul-mod_left}
 use Rattle.hl_num.specs.Decimal.{Decimal, units_of, IsTrimmed}
 use Rattle.hl_num.proofs.RoundingLemmas.{mul-mod-mul, pow_ten_positive}
-use Rattle.balance_rows.specs.Shortest.{trimmed}
-use Rattle.balance_rows.proofs.Trimmed.{same_trimmed, trimmed-units, trimmed-places, trimmed-is}
-use Rattle.balance_rows.specs.Shortest.{shortest}
+use Rattle.hl_num.proofs.Trimmed.{same_trimmed, trimmed-units, trimmed-places, trimmed-is}
+use Rattle.hl_num.specs.Shortest.{shortest, trimmed}
 
 by_one : (z : ℤ) → z *ℤ pos (10 ^ (36 - 36)) ≡ z
 by_one z = omega (arith, ints)

@@ -4,7 +4,7 @@ use Rattle.std.specs.List.{flat_map}
 use Rattle.hl_num.specs.Decimal.{Decimal, units_of}
 use Rattle.book.specs.Entries.{held}
 use Rattle.book.specs.Mixed.{added, fits_with}
-use Rattle.balance_rows.specs.Shortest.{shortest}
+use Rattle.hl_num.specs.Shortest.{shortest}
 
 -- kept sums of several symbols
 abbrev pub KeptSums : Type 0

@@ -5,7 +5,6 @@ pub mod Layouts
 pub mod Orders
 pub mod Ranks
 pub mod Rows
-pub mod Shortest
 pub mod Standing
 pub mod Sums
 pub mod Trees

@@ -3,7 +3,7 @@ ghost use Rattle.std.specs.Prelude.{◌≡◌, IfOk, OnOk, [], true};
 ghost use Rattle.hl_num.specs.Decimal.{units_of};
 ghost use Rattle.book.specs.Entries.{held};
 ghost use Rattle.book.specs.Mixed.{added, fits_with};
-ghost use Rattle.balance_rows.specs.Shortest.{shortest};
+ghost use Rattle.hl_num.specs.Shortest.{shortest};
 ghost use Rattle.balance_rows.specs.Kept.{EachFits, added_all, all_entries};
 
 use book::{Mixed, MixedFault};
