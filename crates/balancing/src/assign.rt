@@ -2,8 +2,7 @@
 ghost use Rattle.std.specs.Prelude.{◌≡◌, ◌++◌, true, false, Some, List, OnOk, IfOk, IfErr, IsSomeAnd};
 ghost use Rattle.std.specs.List.{list_all};
 ghost use Rattle.book.specs.declared.transaction.Posting.{Posting};
-ghost use Rattle.hl_num.specs.Decimal.{units_of};
-ghost use Rattle.entry_balance.specs.Values.{Value, trimmed};
+ghost use Rattle.entry_balance.specs.Values.{Value};
 ghost use Rattle.entry_balance.specs.Entry.{moved};
 ghost use Rattle.entry_balance.specs.Tally.{sums_of, total_of, turnover_fits, IsRange};
 ghost use Rattle.assertions.specs.Assertions.{held_in};
@@ -223,26 +222,7 @@ fn entered(form: Form, held: Dec) -> Dec
     ensures { result ≡ entering form held }
 {
     match form {
-        Form::Shortened => shortened(held),
+        Form::Shortened => held.trimmed(),
         Form::Whole => held,
-    }
-}
-
-/// A number with as few decimals as it needs.
-pub fn shortened(number: Dec) -> Dec
-    ensures { result ≡ trimmed (units_of number) 36 }
-{
-    let _decimals = number.decimals();
-    let _magnitude = number.magnitude();
-    let one = Dec {
-        mantissa: 1,
-        places: 0,
-    };
-    match number.mul(one) {
-        Ok(same) => {
-            let _places = same.decimals();
-            same
-        }
-        Err(_) => unreachable!(),
     }
 }

@@ -12,7 +12,7 @@ mod moves;
 mod walk;
 mod written;
 
-pub use assign::{difference, shortened, with_amount};
+pub use assign::{difference, with_amount};
 pub use entry_balance::{BalanceFault, balance_txn};
 pub use fault::CheckFault;
 pub use groups::{Part, has_assigned, is_in};
