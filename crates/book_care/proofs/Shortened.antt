@@ -3,7 +3,7 @@ use Rattle.std.proofs.Common.{◌≡◌, ℕ, zero, suc, ℤ, pos, negsuc, ◌-�
 use Rattle.std.proofs.lemmas.Int.{ints}
 use Rattle.hl_num.specs.Decimal.{Decimal, units_of, negated, IsTrimmed}
 use Rattle.hl_num.proofs.DecimalLemmas.{neg-mul}
-use Rattle.entry_balance.proofs.Trimmed.{same_trimmed, trimmed-units, trimmed-places, trimmed-is}
+use Rattle.hl_num.proofs.Trimmed.{same_trimmed, trimmed-units, trimmed-places, trimmed-is}
 use Rattle.book_care.specs.Lines.{shortest}
 
 by_one : (z : ℤ) → z *ℤ pos (10 ^ (36 - 36)) ≡ z
@@ -20,12 +20,6 @@ shortest-trimmed u = trimmed-is u 36
 pub units_shortest : (u : ℤ) → units_of (shortest u) ≡ u
 unfolding shortest
 units_shortest u = trimmed-units u 36 (omega arith) ∙ by_one u
-
--- a number without zeros at its end is the shortest one
-pub shortest_is : (d p : Decimal) → p.places ≤ 36 → IsTrimmed p → units_of p ≡ units_of d → p ≡ shortest (units_of d)
-shortest_is d p few trim same =
-    same_trimmed p (shortest (units_of d)) few (shortest-few (units_of d)) trim (shortest-trimmed (units_of d))
-    (same ∙ sym (units_shortest (units_of d)))
 
 back : (n : ℕ) → pos n ≡ neg_ℤ (neg_ℤ (pos n))
 back zero = refl

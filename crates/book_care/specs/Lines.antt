@@ -2,10 +2,10 @@
 use Rattle.std.specs.Prelude.{ℕ, ℤ, neg_ℤ, List, ◌++◌, map}
 use Rattle.std.specs.List.{flat_map}
 use Rattle.hl_num.specs.Decimal.{Decimal, negated}
+unfoldable pub use Rattle.hl_num.specs.Shortest.{shortest}
 use Rattle.book.specs.Accounts.{accounts_of}
 use Rattle.book.specs.Sums.{of_account, mixed_of}
 use Rattle.book.specs.declared.transaction.Posting.{Posting}
-use Rattle.entry_balance.specs.Values.{trimmed}
 use Rattle.book_care.specs.Asked.{Asked, named_postings}
 
 -- an account, and a value in a symbol
@@ -13,10 +13,6 @@ pub record Moved : Type 0 where
   pub account : List ℕ
   pub symbol : List ℕ
   pub value : Decimal
-
--- a value in units of 10^-36, without zeros at the end of its decimals
-unfoldable pub shortest : ℤ → Decimal
-shortest units = trimmed units 36
 
 abbrev pub line_of : List ℕ → List ℕ × ℤ → Moved
 line_of account sum = record { account = account; symbol = sum.0; value = shortest sum.1 }

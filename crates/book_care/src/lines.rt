@@ -63,24 +63,14 @@ impl<'a> Line<'a> {
     }
 }
 
-/// A number with as few decimals as it needs.
-fn shortened(number: Dec) -> Dec
-    ensures { result ≡ shortest (units_of number) }
-{
-    let _decimals = number.decimals();
-    let short = number.trimmed();
-    let _places = short.decimals();
-    short
-}
-
 /// A sum with as few decimals as it needs, or with the other sign.
 fn signed(turns: bool, sum: Dec) -> Dec
     ensures { result ≡ shortest (if turns then neg_ℤ (units_of sum) else units_of sum) }
 {
     if turns {
-        shortened(sum.negated())
+        sum.negated().trimmed()
     } else {
-        shortened(sum)
+        sum.trimmed()
     }
 }
 

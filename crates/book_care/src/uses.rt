@@ -2,12 +2,11 @@
 ghost use Rattle.std.specs.Prelude.{◌≡◌};
 ghost use Rattle.std.specs.List.{find, flat_map};
 ghost use Rattle.std.specs.Option.{option_copied, option_map, option_to_list};
-ghost use Rattle.book.specs.Style.{cost_amount};
 ghost use Rattle.book_care.specs.Uses as spec;
 
 use crate::declarations::Declared;
 use crate::faults::Check;
-use book::{Amount, Cost, Posting, Tag, Txn};
+use book::{Amount, Posting, Tag, Txn};
 use hl_base::Text;
 use query::payee_of;
 use std::marker::Model;
@@ -43,15 +42,6 @@ impl<'a> Use<'a> {
     }
 }
 
-/// The amount of a cost.
-fn cost_amount(cost: &Cost) -> &Amount
-    ensures { result.now ≡ cost_amount cost.now }
-{
-    match cost {
-        Cost::Unit(amount) | Cost::Total(amount) => amount,
-    }
-}
-
 /// The symbol of a posting's amount, where that is written.
 fn amount_symbol(posting: &Posting) -> Option<&Text>
     ensures { option_copied result ≡ spec.amount_symbol posting.now }
@@ -73,7 +63,7 @@ fn cost_symbol(posting: &Posting) -> Option<&Text>
         return None;
     }
     match &posting.cost {
-        Some(cost) => Some(&cost_amount(cost.get()).symbol),
+        Some(cost) => Some(&cost.get().amount().symbol),
         None => None,
     }
 }
