@@ -26,7 +26,7 @@ use Rattle.entry_balance.specs.Entry.{amount_cost_fits, assignment_fault, cause_
 use Rattle.entry_balance.specs.Tally.{no_sum, numbers_of, sums_of, symbols_in as names_in, total_of, turnover_fits}
 use Rattle.entry_balance.specs.Values.{Value, at_cost, trimmed}
 use Rattle.entry_balance.proofs.Named.{left_true, right_true}
-use Rattle.entry_balance.proofs.Trimmed.{trimmed-places}
+use Rattle.hl_num.proofs.Trimmed.{trimmed-places}
 use Rattle.entry_balance.proofs.Turnover.{AllAtMost, places_within}
 use Rattle.reached_walk.proofs.Lists.{all-join, all-left, all-right}
 use Rattle.book_laws.specs.Decimals.{IsShort, WriteFew}
