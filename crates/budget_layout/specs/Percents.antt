@@ -6,7 +6,7 @@ use Rattle.hl_num.specs.Rounding.{half_even, with_sign}
 use Rattle.book.specs.Mixed.{is_zero}
 use Rattle.report_cells.specs.Report.{Sums}
 use Rattle.balance_rows.specs.Rows.{has_sums}
-use Rattle.balance_rows.specs.Shortest.{shortest}
+use Rattle.hl_num.specs.Shortest.{shortest}
 use Rattle.budget_layout.specs.declared.percent.Percent.{Percent}
 use Rattle.budget_layout.specs.declared.percent.Percent.TheVariants.{Missing, Told, OutOfRange}
 

@@ -5,7 +5,7 @@ ghost use Rattle.hl_num.specs.Decimal.{negated, units_of};
 ghost use Rattle.hl_num.specs.Rounding.{half_even, signed_half_even, with_sign};
 ghost use Rattle.report_cells.specs.Report.{seen};
 ghost use Rattle.balance_rows.specs.Rows.{has_sums};
-ghost use Rattle.balance_rows.specs.Shortest.{shortest};
+ghost use Rattle.hl_num.specs.Shortest.{shortest};
 ghost use Rattle.budget_layout.specs.Percents.{alone_in, are_opposite, percent_beside, percent_by, percent_in, percent_told};
 
 use book::Mixed;
