@@ -7,6 +7,7 @@ use Rattle.hl_base.specs.declared.items.Kind.{Kind}
 use Rattle.hl_base.specs.declared.items.Kind.TheVariants as kinds
 use Rattle.hl_base.specs.declared.items.Piece.{Piece}
 use Rattle.book.specs.Postings.{txns_of}
+pub use Rattle.book.specs.Postings.{IsTxn}
 use Rattle.book.specs.declared.fault.Fault.{Fault}
 use Rattle.book.specs.declared.item.Item.{Item}
 use Rattle.book.specs.declared.item.Item.TheVariants as item
@@ -115,11 +116,6 @@ left_items text items n p = left_at (moved_placed (offset_of text p [])) n items
 -- What the text with bytes in the place of the n-th piece says: the items with another one; or the fault of the bytes.
 abbrev pub read_anew : Option ℕ → List ℕ → List Placed → ℕ → Piece → List ℕ → Result (List Placed) Fault
 read_anew year text items n p bytes = said_there year items n p bytes >>= λ i. Ok (changed_items text items n p bytes i)
-
--- it is a transaction
-abbrev pub IsTxn : Item → Type 0
-IsTxn (item.Txn t) = Unit {0}
-IsTxn _ = ⊥
 
 -- the number of the transaction that the n-th item is, among all of the text
 abbrev pub number_at : List Placed → ℕ → ℕ
