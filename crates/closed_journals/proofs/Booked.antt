@@ -30,7 +30,7 @@ use Rattle.assertions.specs.Assertions.{held_in}
 use Rattle.entry_balance.specs.Entry.{costed_posting, exchanges, found_posting, found_values, from_amount, is_assignable, is_nothing, is_nothing_at, is_real_of, left_over, moved, moved_by, needed, or_nothing, plain_amount, precision_of, recorded, recorded_between, recorded_cost, same_side, second_is_first, settled, share_of, side_values, solved, solved_posting, with_postings}
 use Rattle.entry_balance.specs.Tally.{no_sum, numbers_of, sums_of, symbols_in, total_of, turnover_fits}
 use Rattle.entry_balance.specs.Values.{Value, absolute_value, at_cost, cost_of, cost_values, trimmed, value_of}
-use Rattle.entry_balance.proofs.Trimmed.{trimmed-places}
+use Rattle.hl_num.proofs.Trimmed.{trimmed-places}
 use Rattle.balancing.specs.Assigned.{whole, shortened, assigned, assigned_by, given, given_at, given_from, given_posting, given_postings}
 use Rattle.balancing.specs.Groups.{Group, groups_of}
 use Rattle.balancing.specs.Load.{book_of, first_fault, load, moved_of_group}

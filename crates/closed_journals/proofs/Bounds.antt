@@ -8,7 +8,7 @@ use Rattle.std.proofs.lemmas.Bool.{cases_lt}
 use Rattle.std.proofs.lemmas.Int.{ints, unsigned_abs-mul}
 use Rattle.std.proofs.Math.Nat.{mul-le-mul_left, div-le_self}
 use Rattle.std.proofs.lemmas.Nat.{pow-add}
-use Rattle.hl_num.specs.Decimal.{Decimal, units_of}
+use Rattle.hl_num.specs.Decimal.{Decimal, IsTrimmed, units_of}
 use Rattle.hl_num.specs.Rounding.{with_sign}
 use Rattle.hl_num.proofs.DecimalLemmas.{mul-add, mul-mul}
 use Rattle.hl_num.proofs.RoundingLemmas.{pow_ten_positive}
@@ -21,8 +21,8 @@ use Rattle.book.specs.declared.transaction.Posting.{Posting}
 use Rattle.entry_balance.specs.Values.{trimmed}
 use Rattle.book_care.specs.Asked.{Asked as Closed, is_named, named_postings}
 use Rattle.book_care.specs.Lines.{Moved, all_closed, closed, closing_lines, line_of, shortest, taken_into, turned}
-use Rattle.book_care.proofs.Shortened.{shortest_is, units_negated}
-use Rattle.entry_balance.proofs.Trimmed.{trimmed-is, trimmed-places, trimmed-units}
+use Rattle.book_care.proofs.Shortened.{units_negated}
+use Rattle.hl_num.proofs.Trimmed.{shortened_is, trimmed-is, trimmed-places, trimmed-units}
 use Rattle.written_logs.proofs.Lines.{all_parts}
 use Rattle.closed_journals.proofs.Booked.{BookedIs, IsBooked, once_keeps}
 use Rattle.closed_journals.proofs.Told.{IsTold}
@@ -124,6 +124,11 @@ less_units t c u some h = by (cases_lt t c)
     by : (t < c) ⊎ (c ≤ t) → t < c
     by (inl less) = less
     by (inr more) = absurd (let most : u * c ≤ u * t = mul-le-mul_left u more in omega (arith, most, h))
+
+-- a number without zeros at its end is the shortest one of its value
+shortest_is : (d p : Decimal) → p.places ≤ 36 → IsTrimmed p → units_of p ≡ units_of d → p ≡ shortest (units_of d)
+unfolding shortest
+shortest_is d p few trim same = shortened_is d p few trim same
 
 shortest_small : (z : ℤ) (k : ℕ) → k ≤ 36 → IsTimes z (10 ^ (36 - k)) → unsigned_abs z < 2 ^ 127 * 10 ^ (36 - k) → unsigned_abs (shortest z).mantissa < 2 ^ 127
 shortest_small z k most is bound =
