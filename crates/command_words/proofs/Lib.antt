@@ -1,4 +1,3 @@
 mod Choosing
-mod Digits
 pub mod Plain
 mod Saying

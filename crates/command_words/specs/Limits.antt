@@ -4,11 +4,7 @@ use Rattle.std.specs.List.{list_all}
 use Rattle.std.specs.Str.{bytes_eq}
 use Rattle.std.specs.Str.Parse.{digits_value}
 use Rattle.hl_base.specs.Ascii.{digit_zero}
-use Rattle.hl_num.specs.Reading.{is_digit}
-
--- the greatest number that is told
-abbrev pub most : ℕ
-most = 2 ^ 64 - 1
+use Rattle.hl_num.specs.Reading.{is_digit, most}
 
 abbrev pub number_within : ℕ → ℕ → Option ℕ
 number_within greatest number = if nat_le 1 number && nat_le number greatest then Some number else None

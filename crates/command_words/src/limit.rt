@@ -1,32 +1,16 @@
 //! Numbers as words write them, and the limit of a store.
-ghost use Rattle.std.specs.Prelude.{◌≡◌, ◌≤◌, true, min, IfSome, codes};
-ghost use Rattle.std.specs.List.{list_all};
+ghost use Rattle.std.specs.Prelude.{◌≡◌, ◌≤◌, IfSome, codes};
 ghost use Rattle.std.specs.Str.{bytes_eq};
-ghost use Rattle.std.specs.Str.Parse.{digits_value};
-ghost use Rattle.hl_num.specs.Reading.{is_digit};
 ghost use Rattle.command_words.specs.Limits as spec;
 
 use hl_base::are_digits;
+use hl_num::digits_number;
 
 /// The greatest limit of a store, in bytes.
 pub(crate) const MOST_LIMIT: u64 = 1_099_511_627_776;
 
 /// The greatest revision of a store.
 const LAST_REVISION: u64 = 4_611_686_018_427_387_904;
-
-/// The number of some digits, or the greatest that is told.
-fn digits_number(text: &[u8]) -> u64
-    requires { list_all is_digit text.now ≡ true }
-    ensures { result ≡ min (digits_value 10 text.now) spec.most }
-{
-    let mut value: u64 = 0;
-    for byte in text {
-        value = value
-            .saturating_mul(10)
-            .saturating_add(u64::from(*byte - b'0'));
-    }
-    value
-}
 
 /// A number from 1 to a greatest one.
 fn number_within(greatest: u64, number: u64) -> Option<u64>

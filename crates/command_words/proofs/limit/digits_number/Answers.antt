@@ -1,7 +1,0 @@
-use Rattle.std.proofs.Common.{arith}
-use Rattle.command_words.proofs.Digits.{more}
-use Rattle.command_words.proofs.limit.digits_number.Goals as goal
-
-pub loop-byte-preserved : goal.loop-byte-preserved
-loop-byte-preserved c =
-    more c.args.text.now c.loop-byte.byte-index c.loop-byte.value c.saturating_add-value.result c.requires c.loop-byte-test.true c.loop-byte.invariant (omega (arith, c.saturating_add-value.ensures, c.saturating_mul.ensures, c.from.ensures))

@@ -1,7 +1,0 @@
-use Rattle.std.proofs.Common.{◌≡◌, min, take}
-use Rattle.std.specs.Str.Parse.{digits_value}
-use Rattle.command_words.specs.Limits.{most}
-use Rattle.command_words.proofs.limit.digits_number.Given as goal
-
-abbrev pub invariant-loop-byte : goal.invariant-loop-byte
-invariant-loop-byte l = l.value ≡ min (digits_value 10 (take l.byte-index l.text)) most
