@@ -2,7 +2,7 @@
 ghost use Rattle.std.specs.Prelude.{◌≡◌, ◌++◌, ◌∷◌, [], IfOk, OnOk, map};
 ghost use Rattle.std.specs.List.{flat_map};
 ghost use Rattle.std.specs.Option.{option_to_list};
-ghost use Rattle.book.specs.Style.{amount_style, commodity_said, commodity_styles, cost_amount, cost_styles, default_said, default_styles, first_class, further_styles, rule_styles, second_class, wanted_styles, written_as};
+ghost use Rattle.book.specs.Style.{amount_style, commodity_said, commodity_styles, cost_styles, default_said, default_styles, first_class, further_styles, rule_styles, second_class, wanted_styles, written_as};
 
 use book::{Amount, Assertion, Boxed, Cost, Directive, Item, Posting, RulePosting, Style};
 use hl_base::{Memory, Text};
@@ -36,23 +36,13 @@ fn say_present(alloc: Global, said: &mut Said, amount: &Option<Amount>) -> Resul
     }
 }
 
-/// The amount of a cost.
-fn amount_of(cost: &Cost) -> &Amount
-    ensures { result.now ≡ cost_amount cost.now }
-{
-    match cost {
-        Cost::Unit(amount) => amount,
-        Cost::Total(amount) => amount,
-    }
-}
-
 /// Says a cost's amount, where it is there.
 fn say_cost(alloc: Global, said: &mut Said, cost: &Option<Boxed<Cost>>) -> Result<(), Memory>
     ensures { OnOk result (said.new.items ≡ said.old.items ++ cost_styles cost.now) }
 {
     match cost {
         Some(cost) => {
-            let amount = amount_of(cost.get());
+            let amount = cost.get().amount();
             say(alloc, said, &amount.symbol, amount)
         }
         None => Ok(()),
