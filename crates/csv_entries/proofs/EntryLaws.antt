@@ -15,7 +15,7 @@ use Rattle.csv_entries.specs.Conversion.{ordered, conversion}
 use Rattle.csv_entries.specs.Numbered.{Entries, entries_from}
 use Rattle.csv_entries.specs.Ordering.{into_runs, runs_of, turned, turned_runs, days_turned, is_falling, in_order}
 use Rattle.csv_entries.specs.Records.{lines_after, text_after, config_of, records_of}
-use Rattle.csv_entries.proofs.ByDay.{by_day_ordered, by_day_length}
+use Rattle.book.proofs.ByDay.{by_day_ordered, by_day_length}
 use Rattle.csv_entries.proofs.CutOff.{lines_join}
 use Rattle.csv_entries.proofs.Numbers.{few_of}
 use Rattle.csv_entries.proofs.Progress.{few_records}

@@ -1,4 +1,3 @@
-pub mod ByDay
 pub mod Chosen
 pub mod Composed
 pub mod CutOff

@@ -1,6 +1,7 @@
 -- The order of the entries of a file.
 use Rattle.std.specs.Prelude.{Bool, false, ◌||◌, ◌==◌, nat_lt, nat_le, List, [], ◌∷◌, reverse, Option, Some, None, if◌then◌else◌}
 use Rattle.std.specs.List.{flat_map}
+use Rattle.book.specs.ByDay.{by_day}
 use Rattle.book.specs.declared.transaction.Txn.{Txn}
 use Rattle.csv_rules.specs.declared.kinds.Settings.{Settings}
 
@@ -33,16 +34,6 @@ turned turns ts = if turns then reverse ts else ts
 -- each run of entries of one day turned
 abbrev pub turned_runs : List Txn → List Txn
 turned_runs ts = flat_map reverse (runs_of ts)
-
--- an entry before those of its day and of later ones
-abbrev pub insert_by_day : Txn → List Txn → List Txn
-insert_by_day t [] = t ∷ []
-insert_by_day t (u ∷ us) = if nat_le t.day.0 u.day.0 then t ∷ u ∷ us else u ∷ insert_by_day t us
-
--- sorted by day, in their order on one day
-abbrev pub by_day : List Txn → List Txn
-by_day [] = []
-by_day (t ∷ ts) = insert_by_day t (by_day ts)
 
 abbrev pub days_turned : Bool → List Txn → List Txn
 days_turned turns ts = if turns then turned_runs ts else ts

@@ -3,7 +3,7 @@ ghost use Rattle.std.specs.Prelude.{◌≡◌, ◌==◌, ◌<◌, ◌≤◌, ◌
 ghost use Rattle.std.specs.List.{prefix_len};
 ghost use Rattle.csv_entries.specs.Ordering as spec;
 
-use book::Txn;
+use book::{Txn, sort_by_day};
 use csv_rules::Settings;
 use hl_base::Memory;
 
@@ -99,14 +99,6 @@ fn turn_days(turns: bool, txns: &mut Vec<Txn>)
     if turns {
         turn_runs(txns.as_mut_slice());
     }
-}
-
-/// Sorts entries by day; those of one day stay in their order.
-fn sort_by_day(txns: &mut Vec<Txn>) -> Result<(), Memory>
-    ensures { OnOk result (txns.new.items ≡ spec.by_day txns.old.items) }
-{
-    txns.sort_by_key(|txn| txn.day.0)?;
-    Ok(())
 }
 
 /// Puts the entries of a file in order.
