@@ -4,6 +4,7 @@ use Rattle.std.specs.Bool.{beq}
 use Rattle.std.specs.List.{AllByRecursion, flat_map, list_any}
 use Rattle.std.specs.Str.{bytes_eq}
 use Rattle.hl_num.specs.Decimal.{Decimal, units_of}
+pub use Rattle.book.specs.Keys.{Key}
 use Rattle.book.specs.SumsBefore.{Place, sum_before}
 use Rattle.book.specs.declared.amount.Assertion.{Assertion}
 use Rattle.book.specs.declared.transaction.Posting.{Posting}
@@ -11,12 +12,6 @@ use Rattle.book.specs.declared.transaction.Txn.{Txn}
 use Rattle.entry_balance.specs.Entry.{is_assignment}
 use Rattle.entry_check.specs.Asking.{Asks}
 use Rattle.entry_check.specs.declared.asked_once.Answer.{Answer}
-
--- what is asked for: an account and a symbol, with the account's subaccounts or without
-pub record Key : Type 0 where
-  pub account : List ℕ
-  pub symbol : List ℕ
-  pub below : Bool
 
 abbrev pub is_key : List ℕ → List ℕ → Bool → Key → Bool
 is_key account symbol below k = beq k.below below && (bytes_eq k.symbol symbol && bytes_eq k.account account)

@@ -7,7 +7,6 @@ ghost use Rattle.assertions.specs.Kept.{IsBalance, is_kept_for};
 ghost use Rattle.entry_check.specs.Checked.{told_before, held_after};
 
 use assertions::{Balances, asked_for, total_in};
-use balancing::shortened;
 use book::Sums;
 use entry_balance::{TallyFault, checked_sum};
 use hl_base::{Steps, Text};
@@ -27,7 +26,7 @@ pub(crate) fn told<S: Sums, L: Ledger>(
     ensures steps { OnlyAsked steps.old steps.new }
     ensures few { steps.new.nodes ≤ steps.old.nodes + S.asks sums.now account.now symbol.now below }
 {
-    shortened(sums.before(account, symbol, below, steps))
+    sums.before(account, symbol, below, steps).trimmed()
 }
 
 /// What an account holds in a symbol before a transaction and by some of its postings.
