@@ -12,7 +12,7 @@ use Rattle.book.specs.declared.amount.Amount.{Amount}
 use Rattle.book.specs.declared.transaction.Posting.{Posting}
 use Rattle.book.specs.declared.transaction.Txn.{Txn}
 use Rattle.entry_balance.specs.Values.{trimmed, value_of}
-use Rattle.entry_balance.proofs.Trimmed.{same_trimmed, trimmed-is, trimmed-places, trimmed-units}
+use Rattle.hl_num.proofs.Trimmed.{same_trimmed, trimmed-is, trimmed-places, trimmed-units}
 use Rattle.report_cells.specs.Bounds.{TurnoverFits, places_at, places_in, turnover_in}
 use Rattle.report_cells.specs.Taken.{Shared, share_in}
 use Rattle.report_takings.specs.Costs.{moved, told_as}

@@ -1,7 +1,6 @@
 //! What a plain report takes of a book.
 ghost use Rattle.std.specs.Prelude.{◌≡◌, ◌++◌, false, map, OnOk, IfOk};
-ghost use Rattle.hl_num.specs.Decimal.{units_of};
-ghost use Rattle.entry_balance.specs.Values.{trimmed, value_of};
+ghost use Rattle.entry_balance.specs.Values.{value_of};
 ghost use Rattle.report_cells.specs.Bounds as bounds;
 ghost use Rattle.report_takings.specs.Costs as costs;
 ghost use Rattle.index_cells.specs.Keeps.{Keeps};
@@ -12,7 +11,6 @@ use crate::building::keep;
 use crate::kept::Kept;
 use book::{Amount, Posting, Txn};
 use hl_base::Memory;
-use hl_num::Dec;
 use report_cells::{Share, Taking};
 use std::alloc::Global;
 
@@ -76,19 +74,9 @@ fn told_as<'a>(amount: &'a Amount, found: bool) -> Share<'a>
     Share {
         symbol: &amount.symbol,
         value: if found {
-            shortened(amount.value)
+            amount.value.trimmed()
         } else {
             amount.value
         },
     }
-}
-
-/// A number with as few decimals as it needs.
-fn shortened(number: Dec) -> Dec
-    ensures { result ≡ trimmed (units_of number) 36 }
-{
-    let _decimals = number.decimals();
-    let short = number.trimmed();
-    let _places = short.decimals();
-    short
 }
