@@ -2,8 +2,7 @@
 use Rattle.std.specs.Prelude.{ℕ, ◌==◌, min, max, Bool, true, false, List, [], ◌∷◌, ◌++◌, Option, Some, None, if◌then◌else◌, codes}
 use Rattle.std.specs.List.{flat_map}
 use Rattle.hl_base.specs.Ascii.{line_feed}
-use Rattle.hl_time.specs.Calendar.{last_day}
-use Rattle.hl_time.specs.Shown.{day_text}
+pub use Rattle.hl_time.specs.Shown.{calendar_text}
 use Rattle.book.specs.declared.amount.Amount.{Amount}
 use Rattle.book.specs.declared.amount.Assertion.{Assertion}
 use Rattle.book.specs.declared.amount.Cost.{Cost}
@@ -38,10 +37,6 @@ abbrev pub comment_text : List ℕ → List ℕ
 comment_text comment = comment_start comment ++ flat_map comment_byte comment ++ (line_feed ∷ [])
 
 -- ---- the head of a transaction
-
--- a day of the calendar as `Y-MM-DD`; a number before or past the calendar shows its first or its last day
-abbrev pub calendar_text : ℕ → List ℕ
-calendar_text day = day_text (max 1 (min day last_day))
 
 abbrev pub head_mark : Mark → List ℕ
 head_mark mark.Unmarked = []

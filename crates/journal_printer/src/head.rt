@@ -1,30 +1,21 @@
 //! The first line of a transaction.
 ghost use Rattle.std.specs.Prelude.{◌≡◌, ◌++◌, OnOk};
-ghost use Rattle.journal_printer.specs.Texts.{calendar_text, head_mark, code_text, description_text, head_text};
+ghost use Rattle.journal_printer.specs.Texts.{head_mark, code_text, description_text, head_text};
 
 use crate::comment::push_comment;
 use book::{Mark, Txn};
 use hl_base::Memory;
-use hl_time::{DAY_END, Day, print_day};
+use hl_time::push_calendar_day;
 
 /// Puts the first line of a transaction, and the further lines of its comment.
 pub fn push_head(out: &mut Vec<u8>, txn: &Txn) -> Result<(), Memory>
     ensures { OnOk result (out.new.items ≡ out.old.items ++ head_text txn.now) }
 {
-    push_day(out, txn.day)?;
+    push_calendar_day(out, txn.day)?;
     push_mark(out, txn.mark)?;
     push_code(out, txn.code.as_bytes())?;
     push_description(out, txn.description.as_bytes())?;
     push_comment(out, txn.comment.as_bytes())
-}
-
-/// Puts a day of the calendar, the first or the last one for a number that is no day.
-fn push_day(out: &mut Vec<u8>, day: Day) -> Result<(), Memory>
-    ensures { OnOk result (out.new.items ≡ out.old.items ++ calendar_text day.0) }
-{
-    let shown = print_day(Day(day.0.min(DAY_END - 1).max(1)));
-    out.extend_from_slice(&shown)?;
-    Ok(())
 }
 
 /// Puts the mark of a transaction, if it has one.
