@@ -1,6 +1,6 @@
 //! The transactions of a text as they are written, by their numbers, and others in their place.
 ghost use Rattle.std.specs.Prelude.{◌≡◌, ◌∷◌, ◌++◌, [], ◌≤◌, IfOk, OnOk, length, map, min, slice_get};
-ghost use Rattle.std.specs.Option.{option_copied, option_to_list};
+ghost use Rattle.std.specs.Option.{option_copied};
 ghost use Rattle.book.specs.Postings.{txn_in, txns_of};
 ghost use Rattle.kept_books.specs.Beginning.{IsRenewal};
 ghost use Rattle.kept_books.specs.Renewing.{renewed};
@@ -99,21 +99,6 @@ fn renewed_from<'a>(
     lent_at(forms, number - first)
 }
 
-/// The transaction that an item is, if it is one.
-fn entry_in(item: &Item) -> Option<&Txn>
-    ensures { option_to_list (option_copied result) ≡ txn_in item.now }
-{
-    match item {
-        Item::Txn(txn) => Some(txn),
-        Item::Gap => None,
-        Item::Block => None,
-        Item::Auto(_) => None,
-        Item::Periodic(_) => None,
-        Item::Price(_) => None,
-        Item::Directive(_) => None,
-    }
-}
-
 /// Lends a transaction behind others.
 fn push_lent<'a>(txns: &mut Vec<&'a Txn>, txn: &'a Txn) -> Result<(), Memory>
     ensures { OnOk result (map (λ t. t.now) txns.new.items
@@ -128,7 +113,7 @@ fn push_entry<'a>(txns: &mut Vec<&'a Txn>, item: &'a Item) -> Result<(), Memory>
     ensures { OnOk result (map (λ t. t.now) txns.new.items
         ≡ map (λ t. t.now) txns.old.items ++ txn_in item.now) }
 {
-    match entry_in(item) {
+    match item.entry() {
         Some(txn) => push_lent(txns, txn),
         None => Ok(()),
     }
