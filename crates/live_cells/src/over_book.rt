@@ -1,9 +1,6 @@
 //! Sums over the postings of a book before a day.
-ghost use Rattle.std.specs.Prelude.{◌≡◌, ◌≤◌, ◌++◌, ◌∷◌, [], pos, ◌+ℤ◌, max, true, if◌then◌else◌};
-ghost use Rattle.std.specs.Bool.{nat_eq};
-ghost use Rattle.std.specs.List.{starts_with};
+ghost use Rattle.std.specs.Prelude.{◌≡◌, ◌≤◌, pos, ◌+ℤ◌, max, true, if◌then◌else◌};
 ghost use Rattle.std.specs.Str.{bytes_eq};
-ghost use Rattle.hl_base.specs.Ascii.{colon};
 ghost use Rattle.hl_num.specs.Decimal.{add_fits, units_of};
 ghost use Rattle.book.specs.Bounds.{TurnoverFits, places_in};
 ghost use Rattle.book.specs.Postings.{postings_of};
@@ -12,7 +9,7 @@ ghost use Rattle.book.specs.SumsBefore as names;
 ghost use Rattle.placed_sums.specs.Own.{IsSumIn};
 ghost use Rattle.live_cells.specs.Earlier.{earlier_in, earlier_of, is_earlier};
 
-use book::{Posting, Txn};
+use book::{Posting, Txn, lies_below};
 use hl_base::Text;
 use hl_num::Dec;
 use hl_time::Day;
@@ -87,17 +84,6 @@ fn is_of(account: &Text, below: bool, name: &Text) -> bool
 {
     name.as_bytes() == account.as_bytes()
         || (below && lies_below(account.as_bytes(), name.as_bytes()))
-}
-
-/// Whether a name goes on behind that of an account with a colon.
-fn lies_below(account: &[u8], name: &[u8]) -> bool
-    ensures { result ≡ starts_with nat_eq name.now (account.now ++ colon ∷ []) }
-{
-    if !name.starts_with(account) {
-        return false;
-    }
-    let (_, rest) = name.split_at(account.len());
-    rest.starts_with(b":")
 }
 
 /// The sum of two numbers, which is in range.
