@@ -8,16 +8,11 @@ use Rattle.std.specs.Str.{bytes_eq}
 use Rattle.hl_base.specs.Ascii.{colon}
 use Rattle.std.specs.Cmp.Lexicographic.{slice_cmp}
 use Rattle.std.specs.FinMap.Entries.{find, is_sorted}
+pub use Rattle.book.specs.Keys.{Key}
 use Rattle.live_index.specs.declared.row.Row.{Row}
 use Rattle.live_index.specs.declared.runs.Run.{Run}
 use Rattle.live_index.specs.Rows.{counts, sum_by}
 use Rattle.live_index.specs.Runs.{Alike, before, raise, AreTogether}
-
--- an account's own rows in a symbol, or with `below` those of its subaccounts too
-pub record Key : Type 0 where
-  pub account : List ℕ
-  pub symbol : List ℕ
-  pub below : Bool
 
 -- by account, then by symbol, then by `below`
 abbrev pub key_cmp : Key → Key → Ordering
