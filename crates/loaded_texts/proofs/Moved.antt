@@ -5,6 +5,7 @@ use Rattle.std.specs.List.{AllByRecursion}
 use Rattle.std.proofs.lemmas.List.{length-set}
 use Rattle.hl_base.specs.Counts.{Counts}
 use Rattle.hl_base.specs.declared.fault.Memory.{Memory as NoMemory}
+use Rattle.book.proofs.Items.{txns_more}
 use Rattle.book.specs.Bounds.{TurnoverFits}
 use Rattle.book.specs.Postings.{postings_of, txn_in, txns_of}
 use Rattle.book.specs.declared.fault.Fault.{Fault}
@@ -41,7 +42,7 @@ use Rattle.walked_edits.specs.declared.fault.WalkFault.TheVariants as faults
 use Rattle.walked_edits.proofs.Loading.{solves_size}
 use Rattle.walked_texts.specs.Making.{Answers, AreParts, IsTxn, IsTxnAt, book_with, edit_at, room_for}
 use Rattle.walked_texts.specs.declared.making.Parts.{Parts}
-use Rattle.walked_texts.proofs.Numbered.{number_inside, same_room, stood_there, txns_changed, txns_more}
+use Rattle.walked_texts.proofs.Numbered.{number_inside, same_room, stood_there, txns_changed}
 use Rattle.loaded_texts.specs.Changing.{AreMetParts, ChangesBook, book_moved, edit_met}
 use Rattle.loaded_texts.specs.declared.changing.Changed.{Changed}
 

@@ -1,6 +1,6 @@
 //! What an entry makes in the place of another one.
 ghost use Rattle.std.specs.Prelude.{◌≡◌, ◌<◌, ◌≤◌, suc, IfOk, length, set};
-ghost use Rattle.book.specs.Postings.{txn_in, txns_of};
+ghost use Rattle.book.specs.Postings.{txns_of};
 ghost use Rattle.balancing.specs.Solves.{Solves};
 ghost use Rattle.changed_texts.specs.OneEntry.{IsMet};
 ghost use Rattle.changed_texts.specs.Replacing.{number_at};
@@ -11,7 +11,7 @@ ghost use Rattle.loaded_texts.specs.Changing as spec;
 ghost use Rattle.loaded_texts.specs.Keeping.{IsLoaded};
 
 use crate::loaded::{Loaded, given_back, taken};
-use book::{Boxed, Item, Placed};
+use book::{Boxed, count_txns};
 use changed_texts::Met;
 use hl_base::{Memory, Steps};
 use std::alloc::Global;
@@ -38,34 +38,6 @@ pub struct Changed {
     pub met: Met,
     pub first: usize,
     pub parts: Parts,
-}
-
-/// How many transactions an item is: one or none.
-fn count_in(item: &Item) -> usize
-    ensures count { result ≡ length (txn_in item.now) }
-    ensures few { result ≤ 1 }
-{
-    match item {
-        Item::Txn(_) => 1,
-        Item::Gap => 0,
-        Item::Block => 0,
-        Item::Auto(_) => 0,
-        Item::Periodic(_) => 0,
-        Item::Price(_) => 0,
-        Item::Directive(_) => 0,
-    }
-}
-
-/// How many of some items are transactions.
-fn count_txns(items: &[Placed]) -> usize
-    ensures count { result ≡ length (txns_of items.now) }
-    ensures few { result ≤ length items.now }
-{
-    let mut count = 0;
-    for placed in items {
-        count += count_in(&placed.item);
-    }
-    count
 }
 
 /// What a walk makes of an entry in the place of another one, of the book alone.
