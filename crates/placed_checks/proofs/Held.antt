@@ -12,7 +12,7 @@ use Rattle.book.specs.declared.transaction.Posting.{Posting}
 use Rattle.entry_balance.specs.Entry.{from_amount}
 use Rattle.entry_balance.specs.Tally.{no_sum, numbers_of, total_of}
 use Rattle.entry_balance.specs.Values.{Value, trimmed, value_of}
-use Rattle.entry_balance.proofs.Trimmed.{trimmed-units}
+use Rattle.hl_num.proofs.Trimmed.{trimmed-units}
 use Rattle.entry_balance.proofs.Turnover.{numbers-here, plus_none}
 use Rattle.assertions.specs.Assertions.{held_in}
 use Rattle.balancing.specs.Solves.{HasFew}

@@ -1,5 +1,4 @@
 pub mod Lists
-pub mod Names
 pub mod Elsewhere
 pub mod Own
 pub mod Held

@@ -12,7 +12,7 @@ use Rattle.book.specs.declared.transaction.Txn.{Txn}
 use Rattle.entry_balance.specs.Entry as amounts
 use Rattle.entry_balance.specs.Entry.{cause_alone, settled, solved}
 use Rattle.entry_balance.proofs.Named.{left_true, right_true}
-use Rattle.entry_balance.proofs.Trimmed.{trimmed-places}
+use Rattle.hl_num.proofs.Trimmed.{trimmed-places}
 use Rattle.balancing.specs.Groups.{day_of}
 use Rattle.balancing.specs.Solves.{is_unmarked}
 use Rattle.reached_entries.specs.Reached.{IsSolved}

@@ -1,15 +1,13 @@
 //! Which transactions can be checked alone.
-ghost use Rattle.std.specs.Prelude.{◌≡◌, ◌++◌, ◌∷◌, [], ◌==◌, Some};
-ghost use Rattle.std.specs.List.{list_all, starts_with};
-ghost use Rattle.std.specs.Bool.{nat_eq};
-ghost use Rattle.hl_base.specs.Ascii.{colon};
+ghost use Rattle.std.specs.Prelude.{◌≡◌, ◌==◌, Some};
+ghost use Rattle.std.specs.List.{list_all};
 ghost use Rattle.book.specs.SumsBefore as names;
 ghost use Rattle.entry_balance.specs.Entry as amounts;
 ghost use Rattle.balancing.specs.Groups.{day_of};
 ghost use Rattle.balancing.specs.Solves.{is_unmarked};
 ghost use Rattle.placed_checks.specs.Unmixed as spec;
 
-use book::{Amount, Assertion, Boxed, Posting, Txn};
+use book::{Amount, Assertion, Boxed, Posting, Txn, lies_below};
 use hl_base::Text;
 
 /// Whether nothing of some postings is marked as found, as it is where they were read.
@@ -101,15 +99,4 @@ fn is_of(account: &Text, below: bool, name: &Text) -> bool
 {
     name.as_bytes() == account.as_bytes()
         || (below && lies_below(account.as_bytes(), name.as_bytes()))
-}
-
-/// Whether a name goes on behind that of an account with a colon.
-fn lies_below(account: &[u8], name: &[u8]) -> bool
-    ensures { result ≡ starts_with nat_eq name.now (account.now ++ colon ∷ []) }
-{
-    if !name.starts_with(account) {
-        return false;
-    }
-    let (_, rest) = name.split_at(account.len());
-    rest.starts_with(b":")
 }
