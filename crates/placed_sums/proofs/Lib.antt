@@ -1,4 +1,3 @@
-pub mod Names
 mod Asking
 pub mod Fitting
 pub mod Indexing

@@ -5,9 +5,8 @@ use Rattle.std.proofs.lemmas.Bool.{cases_lt, false≢true}
 use Rattle.std.proofs.lemmas.Int.{ints, unsigned_abs-mul}
 use Rattle.std.proofs.lemmas.Nat.{pow-add}
 use Rattle.hl_num.specs.Decimal.{Decimal, IsTrimmed, units_of}
-use Rattle.hl_num.proofs.DecimalLemmas.{mul-add, mul-mul}
+use Rattle.hl_num.proofs.DecimalLemmas.{cancel, mul-add, mul-mul}
 use Rattle.hl_num.proofs.RoundingLemmas.{pow_ten_positive}
-use Rattle.book.proofs.Added.{cancel}
 use Rattle.live_index.specs.Rows as rows
 use Rattle.live_index.specs.declared.row.Row.{Row}
 
