@@ -2,8 +2,7 @@
 use Rattle.std.specs.Prelude.{ℕ, ℤ, ◌-◌, ◌==◌, min, max, Bool, false, ◌&&◌, List, [], ◌∷◌, ◌++◌, length, take, drop, Option, Some, None, codes, if◌then◌else◌}
 use Rattle.std.specs.List.{flat_map, zip}
 use Rattle.hl_base.specs.Ascii.{line_feed, space}
-use Rattle.hl_time.specs.Calendar.{last_day}
-use Rattle.hl_time.specs.Shown.{day_text}
+use Rattle.hl_time.specs.Shown.{calendar_text}
 use Rattle.book.specs.Mixed.{is_zero}
 use Rattle.book.specs.Printed.{printed_amount, printed_units_of}
 use Rattle.book.specs.declared.style.Style.{Style}
@@ -27,10 +26,6 @@ continues None e = false
 continues (Some last) e = (last.0 == e.0.line) && (last.1 == e.1.day)
 
 -- ---- what stands before the sums
-
--- a day of the calendar as `Y-MM-DD`; a number before or past the calendar shows its first or its last day
-abbrev pub calendar_text : ℕ → List ℕ
-calendar_text day = day_text (max 1 (min day last_day))
 
 abbrev pub day_and_description : ℕ → List ℕ → List ℕ
 day_and_description day description = calendar_text day ++ (space ∷ []) ++ field 20 description

@@ -5,6 +5,7 @@ ghost use Rattle.report_table.specs.Tables.{left_aligned, right_aligned, spaces}
 ghost use Rattle.register_report.specs.Fields.{columns_of, cut, field, shortened};
 
 use hl_base::Memory;
+use report_table::push_repeated;
 use std::alloc::Global;
 use unicode_width::{UnicodeWidthChar, UnicodeWidthStr};
 
@@ -36,10 +37,7 @@ fn cut(alloc: Global, room: usize, text: &str) -> Result<String, Memory>
 pub(crate) fn push_spaces(out: &mut Vec<u8>, count: usize) -> Result<(), Memory>
     ensures { OnOk result (out.new.items ≡ out.old.items ++ spaces count) }
 {
-    for _pushed in 0..count {
-        out.push(b' ')?;
-    }
-    Ok(())
+    push_repeated(out, b' ', count)
 }
 
 /// Appends a text, left aligned in a number of columns.

@@ -2,7 +2,7 @@
 ghost use Rattle.std.specs.Prelude.{◌≡◌, ◌++◌, ℕ, Option, OnOk};
 ghost use Rattle.std.specs.List.{flat_map};
 ghost use Rattle.book.specs.Styles.{style_in};
-ghost use Rattle.register_report.specs.Lines.{account_text, calendar_text, column_line, continues, day_and_description, head_text, posting_text, stamp};
+ghost use Rattle.register_report.specs.Lines.{account_text, column_line, continues, day_and_description, head_text, posting_text, stamp};
 ghost use Rattle.register_report.specs.Summed.{cell_lines, kept_line};
 
 use crate::fields::{push_field, push_right_aligned, push_spaces};
@@ -11,7 +11,7 @@ use crate::printed::{amount_text, sum_text};
 use book::Styles;
 use hl_base::{Memory, Text};
 use hl_num::Dec;
-use hl_time::{DAY_END, Day, print_day};
+use hl_time::{Day, push_calendar_day};
 use report_cells::Taking;
 use std::alloc::Global;
 
@@ -46,15 +46,6 @@ pub(crate) fn continues(last: Option<Stamp>, head: &Head, taking: &Taking) -> bo
     }
 }
 
-/// Appends a day, for a number that is no day of the calendar the first or the last one.
-fn push_day(out: &mut Vec<u8>, day: Day) -> Result<(), Memory>
-    ensures { OnOk result (out.new.items ≡ out.old.items ++ calendar_text day.0) }
-{
-    let shown = print_day(Day(day.0.min(DAY_END - 1).max(1)));
-    out.extend_from_slice(&shown)?;
-    Ok(())
-}
-
 /// Appends a day and a description in its field.
 fn push_day_and_description(
     alloc: Global,
@@ -65,7 +56,7 @@ fn push_day_and_description(
     ensures { OnOk result (out.new.items
         ≡ out.old.items ++ day_and_description day.0 description.now) }
 {
-    push_day(out, day)?;
+    push_calendar_day(out, day)?;
     out.push(b' ')?;
     push_field(alloc, out, DESCRIPTION_COLUMNS, description.as_str())
 }
