@@ -7,4 +7,3 @@ pub mod Parts
 pub mod Steps
 pub mod Unique
 pub mod Serving
-pub mod Shortened

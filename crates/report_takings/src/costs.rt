@@ -1,9 +1,8 @@
 //! Amounts that are taken at cost.
 ghost use Rattle.std.specs.Prelude.{◌≡◌, true, false, not, if◌then◌else◌};
 ghost use Rattle.std.specs.Option.{option_copied};
-ghost use Rattle.hl_num.specs.Decimal.{units_of};
 ghost use Rattle.entry_balance.specs.Entry.{amount_cost_fits, optional_cost_fits};
-ghost use Rattle.entry_balance.specs.Values.{value_of, at_cost, cost_of, cost_fits, amount_in, trimmed};
+ghost use Rattle.entry_balance.specs.Values.{value_of, at_cost, cost_of, cost_fits};
 ghost use Rattle.report_takings.specs.Costs as spec;
 
 use crate::entries::Entry;
@@ -32,15 +31,6 @@ pub fn is_at_cost(options: &Options) -> bool
     options.cost || values_at_cost(&options.value)
 }
 
-/// The amount that a cost is written with.
-fn amount_in(cost: &Cost) -> &Amount
-    ensures { result.now ≡ amount_in cost.now }
-{
-    match cost {
-        Cost::Unit(amount) | Cost::Total(amount) => amount,
-    }
-}
-
 /// What an amount costs.
 fn costed<'a>(amount: &'a Amount, cost: &'a Cost) -> Share<'a>
     requires { cost_fits amount.now.value cost.now ≡ true }
@@ -48,7 +38,7 @@ fn costed<'a>(amount: &'a Amount, cost: &'a Cost) -> Share<'a>
 {
     let (_, value) = cost_of(amount.value, cost);
     Share {
-        symbol: &amount_in(cost).symbol,
+        symbol: &cost.amount().symbol,
         value,
     }
 }
@@ -97,16 +87,6 @@ fn is_found(posting: &Posting, costs: bool) -> bool
     }
 }
 
-/// A number with as few decimals as it needs.
-fn shortened(number: Dec) -> Dec
-    ensures { result ≡ trimmed (units_of number) 36 }
-{
-    let _decimals = number.decimals();
-    let short = number.trimmed();
-    let _places = short.decimals();
-    short
-}
-
 /// A value as it is taken, with as few decimals as it needs where balancing found it.
 fn told_as<'a>(share: Share<'a>, found: bool) -> Share<'a>
     ensures { result ≡ spec.told_as found share.entry }
@@ -114,7 +94,7 @@ fn told_as<'a>(share: Share<'a>, found: bool) -> Share<'a>
     if found {
         Share {
             symbol: share.symbol,
-            value: shortened(share.value),
+            value: share.value.trimmed(),
         }
     } else {
         share

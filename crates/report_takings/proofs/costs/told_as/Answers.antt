@@ -6,6 +6,6 @@ use Rattle.report_takings.proofs.costs.told_as.Goals as goal
 
 pub returns-then-found : goal.returns-then-found
 returns-then-found c =
-    ap {A = Decimal} {B = Value} (λ (d : Decimal). (c.share.inside.symbol.now, d)) c.shortened.ensures
+    ap {A = Decimal} {B = Value} (λ (d : Decimal). (c.share.inside.symbol.now, d)) c.trimmed.ensures.shortest
     ∙ ap (λ (v : Value). (v.0, trimmed (units_of v.1) 36)) c.share.view_is
     ∙ ap (λ (found : Bool). told_as found c.args.share) (sym c.if-found.true)
