@@ -5,7 +5,7 @@ use Rattle.std.proofs.lemmas.Int.{ints}
 use Rattle.hl_num.specs.Decimal.{Decimal, units_of, IsTrimmed}
 use Rattle.hl_time.specs.declared.spans.Span.{Span}
 use Rattle.entry_balance.specs.Values.{trimmed}
-use Rattle.entry_balance.proofs.Trimmed.{same_trimmed, trimmed-units, trimmed-places, trimmed-is}
+use Rattle.hl_num.proofs.Trimmed.{same_trimmed, trimmed-units, trimmed-places, trimmed-is}
 use Rattle.prices.proofs.Both.{take_more}
 use Rattle.report_cells.specs.Report.{Sums, seen, row_seen, rows_in, cell, accounts_in}
 use Rattle.report_cells.specs.Taken.{Taken}
@@ -13,15 +13,6 @@ use Rattle.report_cells.specs.declared.cells.CellRow.{CellRow}
 use Rattle.report_cells.specs.declared.reach.Reach.{Reach}
 use Rattle.report_values.specs.Spread.{bare, summed, cells_from, spread_row}
 use Rattle.report_values.proofs.Lists.{map-push}
-
-by_one : (z : ℤ) → z *ℤ pos (10 ^ (36 - 36)) ≡ z
-by_one z = omega (arith, ints)
-
--- a number without zeros at its end is the trimmed one
-pub shortened_is : (d p : Decimal) → p.places ≤ 36 → IsTrimmed p → units_of p ≡ units_of d → p ≡ trimmed (units_of d) 36
-shortened_is d p few trim same =
-    same_trimmed p (trimmed (units_of d) 36) few (trimmed-places (units_of d) 36) trim (trimmed-is (units_of d) 36)
-    (same ∙ sym (by_one (units_of d)) ∙ sym (trimmed-units (units_of d) 36 (omega arith)))
 
 -- one cell more
 pub cells-push : (account : List ℕ) (n m : ℕ) (cells : List (List (List ℕ × ℤ))) (cell : List (List ℕ × ℤ)) → m ≡ n + length cells → cells_from account n (cells ++ cell ∷ []) ≡ cells_from account n cells ++ map (summed account m) cell

@@ -3,7 +3,6 @@ ghost use Rattle.std.specs.Prelude.{◌≡◌, ◌≤◌, Some};
 ghost use Rattle.report_values.specs.Worth as spec;
 ghost use Rattle.prices.specs.Values as prices_spec;
 
-use crate::spread::shortened;
 use hl_base::Text;
 use hl_num::Dec;
 use prices::{Rate, RateRange, value};
@@ -66,7 +65,7 @@ impl<'a> Sale<'a> {
         match value(number, self.rate, self.places) {
             Ok(value) => Some(Share {
                 symbol: self.target,
-                value: shortened(value),
+                value: value.trimmed(),
             }),
             Err(_) => None,
         }
@@ -89,7 +88,7 @@ fn short<'a>(share: &Share<'a>) -> Share<'a>
 {
     Share {
         symbol: share.symbol,
-        value: shortened(share.value),
+        value: share.value.trimmed(),
     }
 }
 

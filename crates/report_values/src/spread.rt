@@ -1,27 +1,14 @@
 //! The sums of a report as takings.
 ghost use Rattle.std.specs.Prelude.{◌≡◌, ◌++◌, ◌<◌, ◌^◌, length, map, IfOk, OnOk};
 ghost use Rattle.std.specs.List.{AllByRecursion};
-ghost use Rattle.hl_num.specs.Decimal.{units_of};
-ghost use Rattle.entry_balance.specs.Values.{trimmed};
 ghost use Rattle.report_cells.specs.Report.{row_seen, seen};
 ghost use Rattle.report_values.specs.Spread as spec;
 
 use book::Mixed;
 use hl_base::Memory;
-use hl_num::Dec;
 use hl_time::Day;
 use report_cells::{CellRow, Share, Taking};
 use std::alloc::Global;
-
-/// A number with as few decimals as it needs.
-pub(crate) fn shortened(number: Dec) -> Dec
-    ensures { result ≡ trimmed (units_of number) 36 }
-{
-    let _decimals = number.decimals();
-    let short = number.trimmed();
-    let _places = short.decimals();
-    short
-}
 
 /// Adds the sums of a cell.
 fn add_cell<'a>(
@@ -39,7 +26,7 @@ fn add_cell<'a>(
             day: Day(number),
             amount: Some(Share {
                 symbol,
-                value: shortened(*value),
+                value: value.trimmed(),
             }),
         })?;
     }

@@ -6,5 +6,5 @@ use Rattle.report_values.proofs.exchange.short.Goals as goal
 
 pub returns : goal.returns
 returns c =
-    ap {A = Decimal} {B = Shared} (λ (d : Decimal). (c.share.inside.symbol.now, d)) c.shortened.ensures
+    ap {A = Decimal} {B = Shared} (λ (d : Decimal). (c.share.inside.symbol.now, d)) c.trimmed.ensures.shortest
     ∙ ap (λ (s : Shared). (s.0, shortest s.1)) c.share.view_is
