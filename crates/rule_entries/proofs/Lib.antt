@@ -1,6 +1,5 @@
 pub mod Chosen
 pub mod Recurring
 pub mod Replacing
-pub mod ByDay
 pub mod Totals
 pub mod Multiplied

@@ -3,7 +3,7 @@ use Rattle.std.proofs.Common.{◌≡◌, ◌≤◌, ◌<◌, ◌+◌, Bool, true
 use Rattle.std.proofs.lemmas.Bool.{false≢true, leb-true, lt-ltb, le-leb}
 use Rattle.hl_num.specs.Decimal.{Decimal, mul_fits}
 use Rattle.entry_balance.specs.Values.{product}
-use Rattle.rule_entries.specs.Amounts.{one, shortened, times}
+use Rattle.rule_entries.specs.Amounts.{shortened, times}
 
 right_of : (a b : Bool) → (a && b) ≡ true → b ≡ true
 right_of true b h = h
@@ -27,10 +27,3 @@ unfolding times
 times_past by number short same fits =
     ap (λ (b : Bool). cond b (Some (product short by)) None) (sym fits)
     ∙ ap (λ (d : Decimal). cond (mul_fits d by) (Some (product d by)) None) same
-
--- a number once is in range
-pub fits_one : (number : Decimal) → unsigned_abs number.mantissa < 2 ^ 127 → number.places ≤ 36 → mul_fits number one ≡ true
-fits_one number small few =
-    let low : nat_lt (unsigned_abs number.mantissa * 1) (2 ^ 127) ≡ true = lt-ltb (unsigned_abs number.mantissa * 1) (2 ^ 127) (omega (arith, small)) in
-    let less : nat_le (number.places + 0) 36 ≡ true = le-leb (number.places + 0) 36 (omega (arith, few)) in
-    ap (λ (b : Bool). b && nat_le (number.places + 0) 36) low ∙ less

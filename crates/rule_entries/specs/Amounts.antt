@@ -1,6 +1,7 @@
 -- What postings of rules say of amounts.
-use Rattle.std.specs.Prelude.{ℕ, pos, Bool, false, List, Option, Some, None, if◌then◌else◌}
-use Rattle.hl_num.specs.Decimal.{Decimal, mul_fits}
+use Rattle.std.specs.Prelude.{ℕ, Bool, false, List, Option, Some, None, if◌then◌else◌}
+use Rattle.hl_num.specs.Decimal.{Decimal, mul_fits, units_of}
+use Rattle.hl_num.specs.Shortest.{trimmed}
 use Rattle.book.specs.declared.amount.Amount.{Amount}
 use Rattle.book.specs.declared.amount.Cost.{Cost}
 use Rattle.book.specs.declared.amount.Cost.TheVariants as costs
@@ -10,12 +11,9 @@ use Rattle.book.specs.declared.transaction.Posting.{Posting}
 use Rattle.entry_balance.specs.Values.{absolute, product}
 use Rattle.rule_entries.specs.declared.amounts.Worth.{Worth}
 
-abbrev pub one : Decimal
-one = record { mantissa = pos 1; places = 0 }
-
 -- a number without zeros at the end of its decimals
-unfoldable pub shortened : Decimal → Decimal
-shortened number = product number one
+abbrev pub shortened : Decimal → Decimal
+shortened number = trimmed (units_of number) 36
 
 -- a number so many times, where the product of the mantissas is in range and the places are at most 36
 unfoldable pub times : Decimal → Decimal → Option Decimal

@@ -3,5 +3,4 @@ pub mod Amounts
 pub mod Accounts
 pub mod Added
 pub mod Making
-pub mod Ordered
 pub mod Counted

@@ -9,7 +9,7 @@ use Rattle.book.specs.declared.rules.PeriodicRule.{PeriodicRule}
 use Rattle.book.specs.declared.transaction.Mark.TheVariants.{Unmarked}
 use Rattle.book.specs.declared.transaction.Txn.{Txn}
 use Rattle.rule_entries.specs.Occurring.{days_of}
-use Rattle.rule_entries.specs.Ordered.{by_day}
+use Rattle.book.specs.ByDay.{by_day}
 
 -- the transaction of a rule on a day
 abbrev pub txn_on : PeriodicRule → ℕ → Txn

@@ -19,30 +19,11 @@ pub struct Worth {
     pub costed: bool,
 }
 
-/// A number without zeros at the end of its decimals.
-fn shortened(number: Dec) -> Dec
-    ensures { result ≡ spec.shortened number }
-{
-    let _decimals = number.decimals();
-    let _magnitude = number.magnitude();
-    let one = Dec {
-        mantissa: 1,
-        places: 0,
-    };
-    match number.mul(one) {
-        Ok(same) => {
-            let _places = same.decimals();
-            same
-        }
-        Err(_) => unreachable!(),
-    }
-}
-
 /// A number so many times, if that is in range.
 fn times(by: Dec, number: Dec) -> Option<Dec>
     ensures { result ≡ spec.times by number }
 {
-    let short = shortened(number);
+    let short = number.trimmed();
     match short.mul(by) {
         Ok(product) => {
             let _places = product.decimals();
@@ -68,7 +49,7 @@ fn with_value(alloc: Global, amount: &Amount, value: Dec) -> Result<Amount, Memo
 fn beyond(alloc: Global, by: Dec, amount: &Amount) -> Result<Worth, Memory>
     ensures { IfOk result (λ worth. worth ≡ spec.beyond by amount.now) }
 {
-    let units = with_value(alloc, amount, shortened(amount.value))?;
+    let units = with_value(alloc, amount, amount.value.trimmed())?;
     let each = with_value(alloc, amount, by)?;
     let cost = Boxed::new(alloc, Cost::Unit(each))?;
     Ok(Worth {

@@ -3,10 +3,9 @@ ghost use Rattle.std.specs.Prelude.{◌≡◌, ◌≤◌, ◌++◌, map, IfOk, O
 ghost use Rattle.hl_time.specs.Calendar.{day_end};
 ghost use Rattle.rule_entries.specs.Making as spec;
 ghost use Rattle.rule_entries.specs.Occurring.{AreDays, days_seen};
-ghost use Rattle.rule_entries.specs.Ordered.{by_day};
 
 use crate::days::{Occasions, occasions_in};
-use book::{Item, Items, Mark, PeriodicRule, Txn, copied_postings};
+use book::{Item, Items, Mark, PeriodicRule, Txn, copied_postings, sort_by_day};
 use hl_base::{List, Memory, Text};
 use hl_time::{Day, Span};
 use std::alloc::Global;
@@ -71,14 +70,6 @@ fn push_made(alloc: Global, txns: &mut Vec<Txn>, item: &Item, window: Span) -> R
         Item::Periodic(rule) => push_rule(alloc, txns, rule, window),
         _ => Ok(()),
     }
-}
-
-/// Sorts transactions by day; those of one day stay in their order.
-fn sort_by_day(txns: &mut Vec<Txn>) -> Result<(), Memory>
-    ensures { OnOk result (txns.new.items ≡ by_day txns.old.items) }
-{
-    txns.sort_by_key(|txn| txn.day.0)?;
-    Ok(())
 }
 
 /// The transactions that the periodic rules among some items make within a window, by day, and on one day in the order of

@@ -7,8 +7,8 @@ pub returns-in-Ok : goal.returns-in-Ok
 returns-in-Ok c =
     let fits = sym c.in-Ok.ensures.fits in
     let bound : c.in-Ok.product.places ≤ 36 = omega (arith, c.decimals-places.ensures.value, c.decimals-places.ensures.bound) in
-    times_fit c.args.by c.args.number c.shortened-short.result c.in-Ok.product c.shortened-short.ensures fits
-    (product-is c.shortened-short.result c.args.by c.in-Ok.product (few_places c.shortened-short.result c.args.by fits) bound c.in-Ok.ensures.trimmed c.in-Ok.ensures.value)
+    times_fit c.args.by c.args.number c.trimmed-short.result c.in-Ok.product c.trimmed-short.ensures.shortest fits
+    (product-is c.trimmed-short.result c.args.by c.in-Ok.product (few_places c.trimmed-short.result c.args.by fits) bound c.in-Ok.ensures.trimmed c.in-Ok.ensures.value)
 
 pub returns-in-Err : goal.returns-in-Err
-returns-in-Err c = times_past c.args.by c.args.number c.shortened-short.result c.shortened-short.ensures (sym c.in-Err.ensures.fits)
+returns-in-Err c = times_past c.args.by c.args.number c.trimmed-short.result c.trimmed-short.ensures.shortest (sym c.in-Err.ensures.fits)

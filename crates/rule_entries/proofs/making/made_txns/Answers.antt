@@ -1,7 +1,7 @@
 use Rattle.std.proofs.Common.{ap, ◌∙◌}
 use Rattle.book.specs.declared.item.Placed.{Placed}
 use Rattle.rule_entries.specs.Making.{made_in}
-use Rattle.rule_entries.specs.Ordered.{by_day}
+use Rattle.book.specs.ByDay.{by_day}
 use Rattle.rule_entries.proofs.Totals.{flat_all}
 use Rattle.rule_entries.proofs.making.made_txns.Goals as goal
 
