@@ -5,6 +5,7 @@ use Rattle.std.proofs.lemmas.List.{append-nil, drop_all, drop_at, length-set, ma
 use Rattle.std.proofs.lemmas.Option.{none-some, same_Some, slice_get-get_or}
 use Rattle.hl_base.specs.declared.fault.Memory.{Memory}
 use Rattle.book.specs.Postings.{txn_in, txns_of}
+use Rattle.book.proofs.Items.{txns_more}
 use Rattle.book.specs.declared.item.Item.{Item}
 use Rattle.book.specs.declared.item.Item.TheVariants as item
 use Rattle.book.specs.declared.item.Placed.{Placed}
@@ -14,14 +15,6 @@ use Rattle.text_ends.specs.declared.reading.Grown.{Grown}
 use Rattle.additions.proofs.Joining.{txns_behind}
 use Rattle.walked_edits.specs.Forms.{vacant}
 use Rattle.walked_texts.specs.Making.{IsTxn, IsTxnAt, number_at, room_for}
-
--- ---- items one after another
-
-pub txns_more : (items : List Placed) (i : ℕ) (placed : Placed) → i < length items → placed ≡ get_or items i placed → txns_of (take (i + 1) items) ≡ txns_of (take i items) ++ txn_in placed.item
-txns_more items i placed lt is =
-    ap txns_of (take_more items i placed lt) ∙ flat_map-append (λ (p : Placed). txn_in p.item) (take i items) (get_or items i placed ∷ [])
-    ∙ ap (λ (ts : List Txn). txns_of (take i items) ++ ts) (append-nil (txn_in (get_or items i placed).item))
-    ∙ ap (λ (p : Placed). txns_of (take i items) ++ txn_in p.item) (sym is)
 
 -- ---- an item that is a transaction, and another one in its place
 

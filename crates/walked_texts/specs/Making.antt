@@ -4,6 +4,7 @@ use Rattle.std.specs.List.{AllByRecursion}
 use Rattle.hl_base.specs.Counts.{Counts}
 use Rattle.book.specs.Bounds.{TurnoverFits}
 use Rattle.book.specs.Postings.{postings_of, txns_of}
+pub use Rattle.book.specs.Postings.{IsTxn}
 use Rattle.book.specs.declared.item.Item.{Item}
 use Rattle.book.specs.declared.item.Item.TheVariants as item
 use Rattle.book.specs.declared.item.Placed.{Placed}
@@ -42,11 +43,6 @@ number_at items number = length (txns_of (take number items))
 -- an item stands in the place of another one: its transaction is edited
 abbrev pub edit_at : List Placed → ℕ → Placed → Edit
 edit_at items number placed = edits_of (λ n. n == number_at items number) (txns_of items) (txns_of (set items number placed))
-
--- it is a transaction
-abbrev pub IsTxn : Item → Type 0
-IsTxn (item.Txn t) = Unit {0}
-IsTxn _ = ⊥
 
 -- a transaction stands under a number among some items
 abbrev pub IsTxnAt : List Placed → ℕ → Type 0

@@ -1,7 +1,6 @@
 //! The walk of an edit of a text.
 ghost use Rattle.std.specs.Prelude.{◌≡◌, ◌<◌, ◌≤◌, length, set};
-ghost use Rattle.std.specs.Option.{option_copied, option_to_list};
-ghost use Rattle.book.specs.Postings.{txn_in, txns_of};
+ghost use Rattle.book.specs.Postings.{txns_of};
 ghost use Rattle.book.specs.declared.item.Item.TheVariants as kinds;
 ghost use Rattle.balancing.specs.Solves.{Solves};
 ghost use Rattle.kept_books.specs.Keeping.{AreWalks, IsOf};
@@ -11,7 +10,7 @@ ghost use Rattle.text_ends.specs.Going.{items_behind};
 ghost use Rattle.walked_texts.specs.Making as spec;
 
 use crate::opened::{ItemAt, Open};
-use book::{Item, Placed, Txn};
+use book::{Item, Placed, Txn, count_txns};
 use hl_base::Steps;
 use kept_books::{KeptBook, Rewriting, Walk, Walks, walk_rewritten};
 use std::alloc::Global;
@@ -67,57 +66,15 @@ pub(crate) fn walk_behind<L: Ledger>(
     walked_by(alloc, &kept.walks, &rewriting, open, steps)
 }
 
-/// The transaction that an item is, if it is one.
-fn entry_in(item: &Item) -> Option<&Txn>
-    ensures { option_to_list (option_copied result) ≡ txn_in item.now }
-{
-    match item {
-        Item::Txn(txn) => Some(txn),
-        Item::Gap => None,
-        Item::Block => None,
-        Item::Auto(_) => None,
-        Item::Periodic(_) => None,
-        Item::Price(_) => None,
-        Item::Directive(_) => None,
-    }
-}
-
 /// The transaction that an item is.
 fn txn_of(item: &Item) -> &Txn
     requires { spec.IsTxn item.now }
     ensures { item.now ≡ kinds.Txn result.now }
 {
-    match entry_in(item) {
+    match item.entry() {
         Some(txn) => txn,
         None => unreachable!(),
     }
-}
-
-/// How many transactions an item is: one or none.
-fn count_in(item: &Item) -> usize
-    ensures count { result ≡ length (txn_in item.now) }
-    ensures few { result ≤ 1 }
-{
-    match item {
-        Item::Txn(_) => 1,
-        Item::Gap => 0,
-        Item::Block => 0,
-        Item::Auto(_) => 0,
-        Item::Periodic(_) => 0,
-        Item::Price(_) => 0,
-        Item::Directive(_) => 0,
-    }
-}
-
-/// How many transactions there are among some items.
-fn count_txns(items: &[Placed]) -> usize
-    ensures { result ≡ length (txns_of items.now) }
-{
-    let mut count = 0;
-    for placed in items {
-        count += count_in(&placed.item);
-    }
-    count
 }
 
 /// The number of the transaction that an item is, among all of a text.
