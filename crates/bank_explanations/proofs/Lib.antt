@@ -1,3 +1,4 @@
+mod Accounts
 mod Counting
 mod FileEnds
 mod Finding

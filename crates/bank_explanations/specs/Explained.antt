@@ -3,6 +3,7 @@ use Rattle.std.specs.Prelude.{ℕ, List, [], ◌++◌, codes, Option, Some, None
 use Rattle.std.specs.Fmt.{decimal}
 use Rattle.csv_rules.specs.declared.faults.RulesFault.{RulesFault}
 use Rattle.csv_rules.specs.declared.faults.RulesFault.TheVariants as rules_fault
+use Rattle.csv_rules.specs.declared.kinds.DatePart.{DatePart}
 use Rattle.csv_rules.specs.declared.kinds.EntryField.{EntryField}
 use Rattle.csv_rules.specs.declared.kinds.EntryField.TheVariants as fields
 use Rattle.csv_rules.specs.declared.reading.Rules.{Rules}
@@ -57,13 +58,13 @@ abbrev pub record_lines : ℕ → List ℕ → List ℕ → List ℕ
 record_lines n text rest = record_line n (number_before text rest) ++ ended (first_content rest)
 
 -- the field behind some lines, and the sentence
-abbrev pub with_part : List ℕ → ConvertFault → Option Part → List ℕ
-with_part lines fault part = (lines ++ part_line part) ++ ended (sentence_of fault part)
+abbrev pub with_part : List ℕ → Option (List DatePart) → ConvertFault → Option Part → List ℕ
+with_part lines format fault part = (lines ++ part_line part) ++ ended (sentence_of format fault part)
 
 -- the lines that explain why a record of a file is refused
 unfoldable pub explained : Rules → List ℕ → ConvertFault → List ℕ
 explained rules text fault =
-    with_part (record_lines (number_of fault) text (record_text rules.sheet.settings (number_of fault) text)) fault
+    with_part (record_lines (number_of fault) text (record_text rules.sheet.settings (number_of fault) text)) rules.sheet.format fault
     (part_for rules text fault)
 
 -- ---- rules

@@ -6,9 +6,9 @@ use crate::parts::{Part, part_for};
 use crate::places::{number_before, record_text};
 use crate::sentences::{rules_sentence, sentence_of};
 use csv_entries::ConvertFault;
-use csv_rules::{EntryField, Rules, RulesFault};
+use csv_rules::{DatePart, EntryField, Rules, RulesFault};
 use explanations::lines::{first_content, line_numbered};
-use hl_base::{Bytes, Memory};
+use hl_base::{Bytes, List, Memory};
 use std::alloc::Global;
 use std::string::ToString;
 
@@ -115,26 +115,29 @@ fn record_lines(alloc: Global, n: u64, text: &[u8], rest: &[u8]) -> Result<Vec<u
 fn explain_part(
     alloc: Global,
     lines: Vec<u8>,
+    format: &Option<List<DatePart>>,
     fault: ConvertFault,
     part: &Option<Part>,
 ) -> Result<Vec<u8>, Memory>
-    ensures { IfOk result (λ text. text.items ≡ spec.with_part lines.items fault part.now) }
+    ensures { IfOk result (λ text.
+        text.items ≡ spec.with_part lines.items format.now fault part.now) }
 {
     let shown = part_line(alloc, part)?;
     let text = joined(lines, shown.as_slice())?;
-    with_line(text, sentence_of(fault, part).as_bytes())
+    with_line(text, sentence_of(format, fault, part).as_bytes())
 }
 
 /// The lines on a record, of a field that is dropped with them.
 fn explain_with(
     alloc: Global,
     lines: Vec<u8>,
+    format: &Option<List<DatePart>>,
     fault: ConvertFault,
     part: Option<Part>,
 ) -> Result<Vec<u8>, Memory>
-    ensures { IfOk result (λ text. text.items ≡ spec.with_part lines.items fault part) }
+    ensures { IfOk result (λ text. text.items ≡ spec.with_part lines.items format.now fault part) }
 {
-    explain_part(alloc, lines, fault, &part)
+    explain_part(alloc, lines, format, fault, &part)
 }
 
 /// Explains why a record of a bank's file is refused: its number and the number of the line on which it begins, that line,
@@ -152,7 +155,8 @@ pub fn explain(
     let n = number_of(fault);
     let lines = record_lines(alloc, n, text, record_text(rules.sheet.settings, n, text))?;
     let part = part_for(alloc, rules, text, fault)?;
-    Ok(Bytes::from_vec(explain_with(alloc, lines, fault, part)?))
+    let format = &rules.sheet.format;
+    Ok(Bytes::from_vec(explain_with(alloc, lines, format, fault, part)?))
 }
 
 /// The number of the line that is refused.

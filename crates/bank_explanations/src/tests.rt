@@ -60,7 +60,7 @@ fn a_line_that_is_no_rule(rt: HostRuntime) -> Result<(), Fail> {
     let text = b"skip 1\n\ncurrncy EUR\n";
     let lines = explain_rules(rt.alloc(), text, RulesFault::BadRule { line: 3 })?;
     let wanted =
-        b"line 3\ncurrncy EUR\nThis is no rule: it begins with the name of a field, before a colon or white space, or with another word of rules.\n";
+        b"line 3\ncurrncy EUR\nThis is no rule: a rule begins with the name of a field, before a colon or white space, or with another word of rules.\n";
     assert_eq!(rt; lines.as_slice(), wanted.as_slice());
     Ok(())
 }
