@@ -11,7 +11,7 @@ use Rattle.report_commands.specs.declared.fault.WordsFault.{WordsFault}
 use Rattle.plan_commands.specs.Commands.{given_of}
 use Rattle.command_words.specs.Chores.{chore_named}
 use Rattle.command_words.specs.Commands.{chore_or_report, close_task, entries_of, into_or_default, report_task, strict_task, task_by, task_from, task_of, task_over, words_or_default, origin_of}
-use Rattle.command_words.specs.ExplainWords.{explain_of, explain_task, explain_text, is_input}
+use Rattle.command_words.specs.ExplainWords.{explain_of, explain_task, explain_text, is_unnamed}
 use Rattle.command_words.specs.HelpWords.{help_on, help_task, subject_named}
 use Rattle.command_words.specs.Limits.{most_entries, number_in}
 use Rattle.command_words.specs.Said.{said_by}
@@ -87,9 +87,9 @@ plain_either : (b : Bool) (rules : Option (List ℕ)) (file : List ℕ) (rest : 
 plain_either true rules file rest = plain_explained rules (name_alone file rest)
 plain_either false rules file rest = tt
 
-plain_explain : (origin : Origin) (rules : Option (List ℕ)) (words : List (List ℕ)) → IsPlainRead (explain_task origin rules words)
-plain_explain origin rules [] = plain_journal origin rules
-plain_explain origin rules (file ∷ rest) = plain_either (is_input origin) rules file rest
+plain_explain : (unnamed : Bool) (origin : Origin) (rules : Option (List ℕ)) (words : List (List ℕ)) → IsPlainRead (explain_task unnamed origin rules words)
+plain_explain unnamed origin rules [] = plain_journal origin rules
+plain_explain unnamed origin rules (file ∷ rest) = plain_either unnamed rules file rest
 
 plain_replacing : (origin : Origin) (base : Option ℕ) (name : Result (List ℕ) UsageFault) → IsPlainRead (replacing_of origin base name)
 plain_replacing origin base (Ok name) = tt
@@ -107,7 +107,7 @@ plain_over : (chore : Chore) (said : Said) (origin : Origin) → (chore ≡ chor
 plain_over chores.Hours said origin h = tt
 plain_over chores.Strict said origin h = plain_strict origin said.checks
 plain_over chores.Close said origin h = plain_close origin (entries_of said.closing said.opening) said.on (into_or_default said.into) (words_or_default said.words)
-plain_over chores.Explain said origin h = plain_explain origin said.rules said.words
+plain_over chores.Explain said origin h = plain_explain (is_unnamed said.journal) origin said.rules said.words
 plain_over chores.Init said origin h = plain_making origin said.limit (plain_name said.words)
 plain_over chores.Add said origin h = plain_adding (plain_name said.words)
 plain_over chores.Import said origin h = plain_import said.dry said.rules said.remembered said.words

@@ -16,7 +16,7 @@ use Rattle.report_commands.specs.declared.fault.WordsFault.{WordsFault}
 use Rattle.report_commands.specs.declared.fault.WordsFault.TheVariants as words_fault
 use Rattle.plan_commands.specs.Commands.{given_of}
 use Rattle.command_words.specs.Chores.{chore_named}
-use Rattle.command_words.specs.ExplainWords.{explain_task}
+use Rattle.command_words.specs.ExplainWords.{explain_task, is_unnamed}
 use Rattle.command_words.specs.HelpWords.{help_task}
 use Rattle.command_words.specs.Limits.{most_entries}
 use Rattle.command_words.specs.Said.{said_by}
@@ -121,7 +121,7 @@ abbrev pub task_over : Chore → Said → Origin → Result Task UsageFault
 task_over chores.Hours said origin = Ok (text_task origin (works.Hours (log_form said.dot)))
 task_over chores.Strict said origin = strict_task origin said.checks
 task_over chores.Close said origin = close_task origin (entries_of said.closing said.opening) said.on (into_or_default said.into) (words_or_default said.words)
-task_over chores.Explain said origin = explain_task origin said.rules said.words
+task_over chores.Explain said origin = explain_task (is_unnamed said.journal) origin said.rules said.words
 task_over chores.Init said origin = init_task origin said.limit said.words
 task_over chores.Add said origin = add_task said.words
 task_over chores.Import said origin = import_task said.dry said.rules said.remembered said.words

@@ -4,8 +4,9 @@ use Rattle.book_commands.specs.declared.work.Work.TheVariants as works
 use Rattle.command_words.specs.StoreWords.{name_alone, rules_or_default}
 use Rattle.command_words.specs.TalkWords.{misplaced_task}
 use Rattle.command_words.specs.Usage.{missing}
+use Rattle.command_words.specs.declared.said.Named.{Named}
+use Rattle.command_words.specs.declared.said.Named.TheVariants as named
 use Rattle.command_words.specs.declared.task.Origin.{Origin}
-use Rattle.command_words.specs.declared.task.Origin.TheVariants as origins
 use Rattle.command_words.specs.declared.task.StoreTask.TheVariants as stored
 use Rattle.command_words.specs.declared.task.Task.{Task}
 use Rattle.command_words.specs.declared.task.Task.TheVariants as task
@@ -28,16 +29,16 @@ abbrev pub explain_of : Option (List ℕ) → Result (List ℕ) UsageFault → R
 explain_of rules (Ok file) = Ok (explaining_file file (rules_or_default rules file))
 explain_of rules (Err fault) = Err fault
 
--- no file and no store of a journal is named
-abbrev pub is_input : Origin → Bool
-is_input origins.Input = true
-is_input _ = false
+-- no journal is named; the input may be, by `-`
+abbrev pub is_unnamed : Named → Bool
+is_unnamed named.Unnamed = true
+is_unnamed _ = false
 
 -- a file of a bank has no place beside a journal that is named
-abbrev pub explain_file : Origin → Option (List ℕ) → List ℕ → List (List ℕ) → Result Task UsageFault
-explain_file origin rules file rest = if is_input origin then explain_of rules (name_alone file rest) else misplaced_task file
+abbrev pub explain_file : Bool → Option (List ℕ) → List ℕ → List (List ℕ) → Result Task UsageFault
+explain_file unnamed rules file rest = if unnamed then explain_of rules (name_alone file rest) else misplaced_task file
 
 -- the first fault of a journal, or why the file that the words name isn't imported
-abbrev pub explain_task : Origin → Option (List ℕ) → List (List ℕ) → Result Task UsageFault
-explain_task origin rules [] = explain_text origin rules
-explain_task origin rules (file ∷ rest) = explain_file origin rules file rest
+abbrev pub explain_task : Bool → Origin → Option (List ℕ) → List (List ℕ) → Result Task UsageFault
+explain_task unnamed origin rules [] = explain_text origin rules
+explain_task unnamed origin rules (file ∷ rest) = explain_file unnamed rules file rest

@@ -6,7 +6,7 @@ ghost use Rattle.command_words.specs.Commands as spec;
 ghost use Rattle.command_words.specs.Usage.{usage_cause};
 
 use crate::chores::Chore;
-use crate::explain_words::explain_task;
+use crate::explain_words::{explain_task, is_unnamed};
 use crate::said::{Named, Said, read_said};
 use crate::store_words::{
     add_task, export_task, feed_task, follow_task, import_task, init_task, items_task, replace_task,
@@ -182,6 +182,7 @@ fn task_said(alloc: Global, chore: Chore, said: Said) -> Result<Task, UsageFault
         checks,
         words,
     } = said;
+    let unnamed = is_unnamed(&journal);
     let origin = origin_of(journal)?;
     match chore {
         Chore::Hours => Ok(text_task(origin, Work::Hours(log_form(dot)))),
@@ -191,7 +192,7 @@ fn task_said(alloc: Global, chore: Chore, said: Said) -> Result<Task, UsageFault
             let words = words_or_default(alloc, words)?;
             close_task(origin, entries_of(closing, opening), on, into, words)
         }
-        Chore::Explain => explain_task(alloc, origin, rules, words.as_slice()),
+        Chore::Explain => explain_task(alloc, unnamed, origin, rules, words.as_slice()),
         Chore::Init => init_task(alloc, origin, limit, words.as_slice()),
         Chore::Add => add_task(alloc, words.as_slice()),
         Chore::Import => import_task(alloc, dry, rules, remembered, words.as_slice()),

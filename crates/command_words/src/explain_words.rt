@@ -6,6 +6,7 @@ ghost use Rattle.command_words.specs.ExplainWords as spec;
 ghost use Rattle.command_words.specs.StoreWords.{name_alone};
 ghost use Rattle.command_words.specs.Usage.{usage_cause};
 
+use crate::said::Named;
 use crate::store_words::{name_alone, rules_or_default};
 use crate::talk_words::misplaced;
 use crate::task::{Explaining, Origin, StoreTask, Task, TextTask};
@@ -58,29 +59,29 @@ fn explain_named(
     Ok(explaining_file(file, rules))
 }
 
-/// Whether no file and no store of a journal is named.
-fn is_input(origin: &Origin) -> bool
-    ensures { result ≡ spec.is_input origin.now }
+/// Whether no journal is named, neither the input, by `-`, nor another one.
+pub(crate) fn is_unnamed(journal: &Named) -> bool
+    ensures { result ≡ spec.is_unnamed journal.now }
 {
-    match origin {
-        Origin::Input => true,
-        Origin::File(_) | Origin::Store(_) => false,
+    match journal {
+        Named::Unnamed => true,
+        Named::File(_) | Named::Store { .. } | Named::Both { .. } => false,
     }
 }
 
 /// Why the file of a bank that some words name isn't imported; it has no place beside a journal that is named.
 fn explain_file(
     alloc: Global,
-    origin: &Origin,
+    unnamed: bool,
     rules: Option<Text>,
     file: &Text,
     rest: &[Text],
 ) -> Result<Task, UsageFault>
     ensures answer { Gives (λ task. task) usage_cause result
-        (spec.explain_file origin.now rules file.now rest.now) }
+        (spec.explain_file unnamed rules file.now rest.now) }
     ensures valid { IfOk result IsReadable }
 {
-    if is_input(origin) {
+    if unnamed {
         explain_named(alloc, rules, file, rest)
     } else {
         misplaced(alloc, file)
@@ -90,16 +91,17 @@ fn explain_file(
 /// The first fault of a journal, or why the file of a bank that the words name isn't imported.
 pub(crate) fn explain_task(
     alloc: Global,
+    unnamed: bool,
     origin: Origin,
     rules: Option<Text>,
     words: &[Text],
 ) -> Result<Task, UsageFault>
     ensures answer { Gives (λ task. task) usage_cause result
-        (spec.explain_task origin rules words.now) }
+        (spec.explain_task unnamed origin rules words.now) }
     ensures valid { IfOk result IsReadable }
 {
     match words {
         [] => explain_text(origin, rules),
-        [file, rest @ ..] => explain_file(alloc, &origin, rules, file, rest),
+        [file, rest @ ..] => explain_file(alloc, unnamed, rules, file, rest),
     }
 }
