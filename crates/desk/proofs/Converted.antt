@@ -91,7 +91,7 @@ line_among text line before now last_now h =
     subst P (sym h.earlier.place)
     (line_from start 1 line h.earlier.earlier h.later h.content h.progress h.form h.refusal.source h.earlier.read h.earlier.number h.said (only_source h.form h.refusal.source h.refusal.among))
 
-bad_line : (text csv : List ℕ) (line : ℕ) → rules_of text ≡ Err line → entries_of text csv ≡ Err (csv_fault.Rules (rules_fault.BadRule line))
+pub bad_line : (text csv : List ℕ) (line : ℕ) → rules_of text ≡ Err line → entries_of text csv ≡ Err (csv_fault.Rules (rules_fault.BadRule line))
 unfolding entries_of
 bad_line text csv line is = ap (λ (r : Result Sheet ℕ). made_by r csv) is
 

@@ -1,7 +1,7 @@
 pub mod AskingLaws
 mod Again
 mod Complete
-mod Converted
+pub mod Converted
 mod Done
 mod DryEdits
 pub mod DryLaws
