@@ -110,7 +110,7 @@ stored_memory day status old error faults (stored.Add name) h = λ none patterns
 stored_memory day status old error faults (stored.Import what) h = λ none patterns told csv rules is is_rules well. memory_done status old error faults h none
 stored_memory day status old error faults (stored.Preview what) h = λ none patterns told csv rules is is_rules within well. memory_done status old error faults h none
 stored_memory day status old error faults (stored.Replace what) h = λ none patterns plain told text is well. memory_done status old error faults h none
-stored_memory day status old error faults (stored.Explain what) h = tt
+stored_memory day status old error faults (stored.Explain what) h = λ none patterns told csv rules is is_rules txns made. memory_done status old error faults h none
 stored_memory day status old error faults (stored.Feed name) h = λ none told shown is. memory_done status old error faults h none
 stored_memory day status old error faults (stored.Follow what) h = tt
 

@@ -1,22 +1,37 @@
 -- A store that is made, edited or fed, to the end.
-use Rattle.std.proofs.Common.{◌≡◌, ◌⊎◌, inl, inr, ⊎_elim, ℕ, ◌≤◌, List, Option, None, Some, Result, Ok, Err, IsTrue, refl, sym, ◌∙◌, ap, subst, arith}
+use Rattle.std.proofs.Common.{◌≡◌, ◌⊎◌, inl, inr, ⊎_elim, ℕ, ◌≤◌, false, List, Option, None, Some, Result, Ok, Err, IsTrue, refl, sym, ◌∙◌, ap, subst, arith}
+use Rattle.std.proofs.lemmas.Bool.{false≢true}
 use Rattle.hl_base.specs.Causes.{Rose}
 use Rattle.hl_base.specs.declared.disk.Disk.{Ghosts as Disks}
+use Rattle.hl_base.specs.declared.fault.Memory.{Memory}
 use Rattle.hl_base.specs.declared.outside.Source.{Ghosts as Inputs}
 use Rattle.hl_base.specs.declared.outside.Sink.{Ghosts as Outputs}
 use Rattle.hl_base.specs.declared.shelf.Shelf.{Ghosts as Shelves}
 use Rattle.hl_base.specs.Limits.{text_limit}
 use Rattle.hl_time.specs.declared.day.Day.{Day}
 use Rattle.query_terms.specs.declared.making.Maker.{Ghosts as Makers}
+use Rattle.book.specs.declared.transaction.Txn.{Txn}
+use Rattle.csv_rules.specs.Reading.{IsRulesOf, Reads}
+use Rattle.csv_rules.specs.declared.faults.RulesFault.{RulesFault}
+use Rattle.csv_rules.specs.declared.faults.RulesFault.TheVariants as rules_fault
+use Rattle.csv_rules.specs.declared.reading.Rules.{Rules}
+use Rattle.csv_entries.specs.Conversion.{conversion_by}
+use Rattle.csv_entries.specs.declared.faults.ConvertFault.{ConvertFault}
+use Rattle.bank_explanations.specs.FileFaults.{ExplainsFile, is_rules_memory}
+use Rattle.bank_explanations.specs.declared.files.Explanation.{Explanation}
+use Rattle.bank_explanations.specs.declared.files.Explanation.TheVariants as explanation
 use Rattle.live_journal.specs.Loading.{fault_of}
 use Rattle.text_store.specs.declared.image.Image.{Image}
 use Rattle.text_store.specs.Files.{opened_limit, opened_size}
 use Rattle.text_store.specs.Image.{NoImage, image}
+use Rattle.desk.specs.Imports.{as_csv, entries_of}
+use Rattle.desk.specs.declared.csv_fault.CsvFault.{CsvFault}
 use Rattle.desk.specs.States.{State, answer_to}
 use Rattle.desk.specs.declared.reply.Reply.{Reply}
 use Rattle.desk.specs.declared.reply.Reply.TheVariants as reply
 use Rattle.desk.specs.declared.request.Request.{Request}
 use Rattle.desk.specs.declared.request.Request.TheVariants as request
+use Rattle.desk.proofs.Converted.{bad_line, entries_are}
 use Rattle.refusals.specs.Outcomes.{Outcome}
 use Rattle.refusals.specs.declared.refusal.Refusal.{Refusal}
 use Rattle.refusals.specs.declared.refusal.Refusal.TheVariants as refusal
@@ -35,6 +50,7 @@ use Rattle.store_commands.specs.Replacing.{base_or, replacement}
 use Rattle.store_commands.specs.Replies.{line_of as reply_line, status_of as reply_status}
 use Rattle.store_commands.specs.declared.preview.Preview.{Preview}
 use Rattle.store_commands.specs.declared.preview.Preview.TheVariants as preview
+use Rattle.command_words.specs.declared.task.Explaining.{Explaining}
 use Rattle.command_words.specs.declared.task.Importing.{Importing}
 use Rattle.command_words.specs.declared.task.Making.{Making}
 use Rattle.command_words.specs.declared.task.Replacing.{Replacing}
@@ -42,6 +58,7 @@ use Rattle.command_words.specs.declared.task.Origin.{Origin}
 use Rattle.command_words.specs.declared.task.Origin.TheVariants as origins
 use Rattle.command_words.specs.declared.task.StoreTask.{StoreTask}
 use Rattle.command_words.specs.declared.task.StoreTask.TheVariants as stored
+use Rattle.command_line.specs.BankFiles.{ExplainsBankFile, ExplainsBytes, ToldExplained}
 use Rattle.command_line.specs.Answers.{FindsText, IsOfFile, IsOfSource, IsStore, status_of}
 use Rattle.command_line.specs.Complete.{AnswersWell, AreWithin, CompletesStored, IsDone, NoneRose}
 use Rattle.command_line.specs.Files.{LoadsFile, ReadsShelf}
@@ -68,6 +85,37 @@ ended_well status last new (Ok output) good (inl h) no_output no_error = inl h.0
 ended_well status last new (Ok output) good (inr h) no_output no_error = absurd (no_output h.1.0)
 ended_well status last new (Err x) good ends no_output no_error =
     said_memory x status last.error new.error last.error_faults new.error_faults good no_error ends.0
+
+-- ---- what is said of a bank's file
+
+never_both : (txns : List Txn) (fault : CsvFault) (r : Result (List Txn) CsvFault) → r ≡ Ok txns → r ≡ Err fault → ⊥
+never_both txns fault r made refused = cc
+
+-- rules by which it becomes entries aren't refused
+rules_good : (rules csv : List ℕ) (before now : ℕ) (last_before last_now : Option (List ℕ)) (fault : RulesFault) → Reads rules before now last_before last_now (Err fault)
+    → is_rules_memory fault ≡ false → (txns : List Txn) → entries_of rules csv ≡ Ok txns → (Rose before now → ⊥) → ⊥
+rules_good rules csv before now last_before last_now (rules_fault.BadRule line) reads kind txns made patterns =
+    never_both txns _ (entries_of rules csv) made (bad_line rules csv line reads.0.is)
+rules_good rules csv before now last_before last_now (rules_fault.PatternRefused line) reads kind txns made patterns = patterns reads.refusal.rose
+rules_good rules csv before now last_before last_now rules_fault.Memory reads kind txns made patterns = false≢true (sym kind)
+
+-- nor a record of it
+record_good : (rules csv : List ℕ) (read : Rules) (fault : ConvertFault) → IsRulesOf rules read → conversion_by read csv ≡ Err fault
+    → (txns : List Txn) → entries_of rules csv ≡ Ok txns → ⊥
+record_good rules csv read fault is bad txns made =
+    never_both txns _ (entries_of rules csv) made (entries_are rules csv read is ∙ ap as_csv bad)
+
+explained_good : (rules csv : List ℕ) (before now : ℕ) (last_before last_now : Option (List ℕ)) (found : Result (Option Explanation) Memory) (r : Result (List ℕ) Refusal)
+    → ExplainsFile rules csv before now last_before last_now found → ToldExplained found r
+    → (txns : List Txn) → entries_of rules csv ≡ Ok txns → (Rose before now → ⊥) → GoodAnswer r
+explained_good rules csv before now last_before last_now (Err memory) (Ok output) finds said txns made patterns = tt
+explained_good rules csv before now last_before last_now (Err memory) (Err x) finds said txns made patterns = ap status_of said
+explained_good rules csv before now last_before last_now (Ok None) (Ok output) finds said txns made patterns = tt
+explained_good rules csv before now last_before last_now (Ok None) (Err x) finds said txns made patterns = absurd said
+explained_good rules csv before now last_before last_now (Ok (Some (explanation.Rules fault lines))) r finds said txns made patterns =
+    absurd (rules_good rules csv before now last_before last_now fault finds.reads finds.kind txns made patterns)
+explained_good rules csv before now last_before last_now (Ok (Some (explanation.Record fault lines))) r finds said txns made patterns =
+    absurd (record_good rules csv finds.0.read fault finds.0.is finds.0.finds.0 txns made)
 
 -- ---- what is said of a store
 
@@ -400,6 +448,30 @@ module _ {J O E S D M : Type 0} (j : Inputs J) (o : Outputs O) (e : Outputs E) (
       import_by what (EditedBy s g m) old last r csv rules imports is is_rules told none
       (λ shelf same edited. edit_well what.store (request.Import what.name rules csv) old (record old { shelf = shelf }) last r edited same refl (unchanged old shelf) told well none patterns)
 
+  -- ---- a file of a bank that is explained
+
+  bytes_well : (csv rules : List ℕ) (old last : Outside J O E S M) (shelf : S) (r : Result (List ℕ) Refusal) (txns : List Txn)
+      → ExplainsBytes m csv rules (record old { shelf = shelf }) last r → entries_of rules csv ≡ Ok txns
+      → (Rose (m.refusals old.maker) (m.refusals last.maker) → ⊥) → IsWell old last r
+  bytes_well csv rules old last shelf r txns judged made patterns = (
+    explained_good rules csv (m.refusals old.maker) (m.refusals last.maker) (m.last_refused old.maker) (m.last_refused last.maker) judged.found r judged.finds judged.told
+        txns made patterns,
+    record {
+      output = ap (λ (x : Outside J O E S M). o.faults x.streams.output) judged.rest;
+      error = le_is (e.faults old.err) (e.faults last.err) (ap (λ (x : Outside J O E S M). e.faults x.err) judged.rest);
+    },
+  )
+
+  explain_well : (what : Explaining) (old last : Outside J O E S M) (r : Result (List ℕ) Refusal) (csv rules : List ℕ) (txns : List Txn) → ExplainsBankFile s m what old last r
+      → file_within most_imported what.file (s.file old.shelf what.file) ≡ Ok csv → file_within most_imported what.rules (s.file old.shelf what.rules) ≡ Ok rules
+      → IsTrue ((s.tells old.shelf).files) → entries_of rules csv ≡ Ok txns
+      → NoneFailed s old.shelf last.shelf → (Rose (m.refusals old.maker) (m.refusals last.maker) → ⊥) → IsWell old last r
+  explain_well what old last r csv rules txns explains is is_rules told made none patterns =
+      loads_by most_imported what.file csv (λ bytes. Loads s most_imported what.rules (ExplainsBytes m bytes)) old last old.shelf explains.mid explains.read r
+      (same_at s old.shelf old.shelf refl) explains.reads explains.goes is told none
+      (λ same more. loads_by most_imported what.rules rules (ExplainsBytes m csv) old last explains.mid more.mid more.read r
+      same more.reads more.goes is_rules told none (λ again judged. bytes_well csv rules old last more.mid r txns judged made patterns))
+
   -- ---- a dry run
 
   files_well : (name : List ℕ) (what : Request) (old last : Outside J O E S M) (shelf : S) (r : Result (List ℕ) Refusal)
@@ -544,7 +616,11 @@ module _ {J O E S D M : Type 0} (j : Inputs J) (o : Outputs O) (e : Outputs E) (
       (⊎_elim (λ replaces. replace_well j o e s g m day what old runs.last runs.answer text replaces plain is told well (none_last (stored.Replace what) runs none)
       (patterns_last (stored.Replace what) runs none patterns) (input_last (stored.Replace what) runs none))
       (λ h. unread_well (stored.Replace what) runs none h) runs.answers)
-  complete_stored (stored.Explain what) runs = tt
+  complete_stored (stored.Explain what) runs = λ none patterns told csv rules is is_rules txns made.
+      done (stored.Explain what) runs none
+      (⊎_elim (λ explains. explain_well j o e s g m day what old runs.last runs.answer csv rules txns explains is is_rules told made
+      (none_last (stored.Explain what) runs none) (patterns_last (stored.Explain what) runs none patterns))
+      (λ h. unread_well (stored.Explain what) runs none h) runs.answers)
   complete_stored (stored.Feed name) runs = λ none told shown is.
       done (stored.Feed name) runs none
       (⊎_elim (λ feeds. feed_well j o e s g m day name old runs.last runs.answer shown feeds told is (none_last (stored.Feed name) runs none))

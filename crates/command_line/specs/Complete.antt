@@ -4,6 +4,8 @@ use Rattle.hl_base.specs.Causes.{Rose}
 use Rattle.live_journal.specs.Loading.{fault_of}
 use Rattle.web_messages.specs.Streams.{IsOfWhole}
 use Rattle.text_store.specs.declared.image.Image.{Image}
+use Rattle.book.specs.declared.transaction.Txn.{Txn}
+use Rattle.desk.specs.Imports.{entries_of}
 use Rattle.desk.specs.States.{answer_to}
 use Rattle.desk.specs.declared.request.Request.{Request}
 use Rattle.desk.specs.declared.request.Request.TheVariants as request
@@ -17,6 +19,7 @@ use Rattle.refusals.specs.Outcomes.{Judged, outcome_of}
 use Rattle.refusals.specs.declared.refusal.PatternOf.{PatternOf}
 use Rattle.command_words.specs.declared.task.Origin.{Origin}
 use Rattle.command_words.specs.declared.task.Origin.TheVariants as origins
+use Rattle.command_words.specs.declared.task.Explaining.{Explaining}
 use Rattle.command_words.specs.declared.task.Importing.{Importing}
 use Rattle.command_words.specs.declared.task.Making.{Making}
 use Rattle.command_words.specs.declared.task.Replacing.{Replacing}
@@ -102,6 +105,13 @@ CompletesPreview what day status old new =
     → file_within most_imported what.file (old.file what.file) ≡ Ok csv → file_within most_imported what.rules (old.file what.rules) ≡ Ok rules
     → AreWithin what.store old → AnswersWell what.store (request.Import what.name rules csv) day old → IsDone status
 
+-- a file of a bank that becomes entries by its rules
+abbrev pub CompletesExplain : Explaining → ℕ → Scene → Scene → Type 0
+CompletesExplain what status old new =
+    NoneRose old new → (Rose old.refusals new.refusals → ⊥) → IsTrue old.files_told → (csv rules : List ℕ)
+    → file_within most_imported what.file (old.file what.file) ≡ Ok csv → file_within most_imported what.rules (old.file what.rules) ≡ Ok rules
+    → (txns : List Txn) → entries_of rules csv ≡ Ok txns → IsDone status
+
 -- a text that takes the place of the one of a store
 abbrev pub CompletesReplace : Replacing → ℕ → ℕ → Scene → Scene → Type 0
 CompletesReplace what day status old new =
@@ -120,7 +130,7 @@ CompletesStored (stored.Add name) day status old new = CompletesAdd name day sta
 CompletesStored (stored.Import what) day status old new = CompletesImport what day status old new
 CompletesStored (stored.Preview what) day status old new = CompletesPreview what day status old new
 CompletesStored (stored.Replace what) day status old new = CompletesReplace what day status old new
-CompletesStored (stored.Explain what) day status old new = Unit {0}
+CompletesStored (stored.Explain what) day status old new = CompletesExplain what status old new
 CompletesStored (stored.Feed name) day status old new = CompletesFeed name status old new
 CompletesStored (stored.Follow what) day status old new = Unit {0}
 
