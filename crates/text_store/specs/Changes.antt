@@ -6,6 +6,7 @@ use Rattle.hl_base.specs.declared.change.Latest.{Latest}
 use Rattle.hl_base.specs.declared.change.Splice.{Splice as Part}
 use Rattle.text_store.specs.declared.change.Change.{Change}
 use Rattle.text_store.specs.declared.change.Change.TheVariants.{Splice, Whole, Import}
+use Rattle.text_store.specs.Kinds.{import_kind, splice_kind, text_kind}
 
 -- a splice: its place and how many bytes it removes in eight bytes each, and the bytes that it inserts
 abbrev pub splice_payload : Part → List ℕ
@@ -17,9 +18,9 @@ mark_payload latest = to_le_bytes w32 (length latest.name) ++ latest.name ++ to_
 
 -- S for a splice, T for the whole text, I for an import
 abbrev pub kind_of : Change → ℕ
-kind_of (Splice splice) = 83
-kind_of (Whole text) = 84
-kind_of (Import latest splice) = 73
+kind_of (Splice splice) = splice_kind
+kind_of (Whole text) = text_kind
+kind_of (Import latest splice) = import_kind
 
 abbrev pub payload_of : Change → List ℕ
 payload_of (Splice splice) = splice_payload splice

@@ -8,6 +8,7 @@ use Rattle.text_store.specs.Changes.{mark_payload}
 use Rattle.text_store.specs.Edits.{whole_size}
 use Rattle.text_store.specs.Entries.{Entry, body}
 use Rattle.text_store.specs.Image.{Half, NoImage, letters, live, chosen, image, have_own_names, number_8}
+use Rattle.text_store.specs.Kinds.{image_kind}
 
 -- the letters, the version 2, and then the limit, the generation and the base revision in 8 bytes each
 abbrev pub header : ℕ → ℕ → ℕ → List ℕ
@@ -17,9 +18,9 @@ header limit generation base = (letters ++ 2 ∷ []) ++ to_le_bytes w64 limit ++
 abbrev pub whole_payload : Image → List ℕ
 whole_payload image = to_le_bytes w32 (length image.latest) ++ flat_map mark_payload image.latest ++ image.text
 
--- the bytes up to the last gate of a half that holds an image and no further record; C is 67
+-- the bytes up to the last gate of a half that holds an image and no further record
 abbrev pub new_front : ℕ → ℕ → Image → List ℕ
-new_front limit generation image = header limit generation image.revision ++ 1 ∷ body 67 (whole_payload image)
+new_front limit generation image = header limit generation image.revision ++ 1 ∷ body image_kind (whole_payload image)
 
 abbrev pub next_generation : ℕ → ℕ
 next_generation generation = (generation + 1) % 3

@@ -6,6 +6,7 @@ use Rattle.std.specs.List.{list_any}
 use Rattle.hl_base.specs.declared.change.Latest.{Latest}
 use Rattle.text_store.specs.declared.image.Image.{Image}
 use Rattle.text_store.specs.Entries.{Entry, open_entries}
+use Rattle.text_store.specs.Kinds.{image_kind, import_kind, splice_kind, text_kind}
 
 -- the text and the import states
 pub record Content : Type 0 where
@@ -58,9 +59,9 @@ imported content (Some (mark, payload)) =
 -- a record's change: T is the whole text, S a splice, I an import's state and its splice; none, where it is bad
 abbrev pub changed : Content → Entry → Option Content
 changed content entry =
-    if entry.kind == 84 then Some (record { text = entry.payload; latest = content.latest })
-    else (if entry.kind == 83 then with_text content.latest (spliced content.text entry.payload)
-    else (if entry.kind == 73 then imported content (mark_at entry.payload)
+    if entry.kind == text_kind then Some (record { text = entry.payload; latest = content.latest })
+    else (if entry.kind == splice_kind then with_text content.latest (spliced content.text entry.payload)
+    else (if entry.kind == import_kind then imported content (mark_at entry.payload)
     else None))
 
 -- what a step gives from a content, or the place where there is none
@@ -112,7 +113,7 @@ started limit generation base (Some start) entries = Some (record { limit = limi
 
 abbrev pub first_of : ℕ → ℕ → ℕ → List Entry → Option Half
 first_of limit generation base [] = None
-first_of limit generation base (entry ∷ entries) = if entry.kind == 67 then started limit generation base (checkpointed entry.payload) entries else None
+first_of limit generation base (entry ∷ entries) = if entry.kind == image_kind then started limit generation base (checkpointed entry.payload) entries else None
 
 abbrev pub letters : List ℕ
 letters = codes "HLSTORE"
@@ -152,7 +153,7 @@ half_image half = image_at (half.base + length half.entries) (folded half.entrie
 abbrev pub old_records : List Entry → Result Image NoImage
 old_records [] = Err (NotAStore 16)
 old_records (entry ∷ entries) =
-    if entry.kind == 84 then image_at (length entries) (folded entries (record { text = entry.payload; latest = [] })) else Err (NotAStore 16)
+    if entry.kind == text_kind then image_at (length entries) (folded entries (record { text = entry.payload; latest = [] })) else Err (NotAStore 16)
 
 abbrev pub old_image : List ℕ → Result Image NoImage
 old_image file = if nat_lt (length file) 17 then Err (NotAStore 0) else old_records (open_entries 16 file)

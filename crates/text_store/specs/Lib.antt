@@ -11,6 +11,7 @@ pub mod Frames
 pub mod Halves
 pub mod Image
 pub mod Joined
+pub mod Kinds
 pub mod Names
 pub mod Parsed
 pub mod Pieces

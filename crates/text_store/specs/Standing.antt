@@ -10,6 +10,7 @@ use Rattle.text_store.specs.Files.{header, next_generation, whole_payload}
 use Rattle.text_store.specs.Rest.{RestsAs, StandsIn, IsAt, IsRewritten}
 use Rattle.text_store.specs.Settled.{IsSettled, IsUnsettled}
 use Rattle.text_store.specs.Stores.{Leads, limit_of, placed}
+use Rattle.text_store.specs.Kinds.{image_kind}
 
 -- two files in their places: P holds of the half in use and Q of the other file
 pub record Stand (in_second : Bool) (P Q : List ℕ → Type 0) (first second : List ℕ) : Type 0 where
@@ -35,7 +36,7 @@ put_of change beside = put (record_bytes (kind_of change) (payload_of change)) b
 -- a C as the only record of the other file, in the generation behind that of the half in use
 abbrev pub rewrite_of : {D : Type 0} {g : Ghosts D} → Store D g → Image → List ℕ → Task
 rewrite_of store image beside =
-    rewrite beside (header (limit_of store) (next_generation store.generation) image.revision) (record_bytes 67 (whole_payload image))
+    rewrite beside (header (limit_of store) (next_generation store.generation) image.revision) (record_bytes image_kind (whole_payload image))
 
 -- the half in use keeps the bytes up to its last gate, whatever was done of a task
 abbrev pub IsInUse : List ℕ → Task → List ℕ → Type 0
