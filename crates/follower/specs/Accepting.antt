@@ -18,6 +18,7 @@ use Rattle.follower.specs.Images.{snapshot, image_after}
 use Rattle.follower.specs.Keeping.{room_size}
 use Rattle.follower.specs.Standings.{IsNext}
 use Rattle.follower.specs.Stands.{ShowsOne, Stands}
+use Rattle.text_store.specs.Kinds.{image_kind}
 
 -- the revisions that are told of a frame
 abbrev pub AreTold : ℕ → Frame → ℕ → ℕ → Type 0
@@ -27,7 +28,7 @@ AreTold revision frame had got = (had ≡ revision) × (got ≡ frame.revision)
 -- the image before it where the store is written anew.
 abbrev pub needed : {D : Type 0} {g : Ghosts D} → Follower D g → Frame → Image → ℕ
 needed old frame next =
-    if frame.kind == 67
+    if frame.kind == image_kind
     then whole_size next
     else room_size (size_of old.store) (limit_of old.store) (10 + length frame.payload) (whole_size old.image) + (10 + length frame.payload)
 
@@ -43,7 +44,7 @@ IsUnstored old new size store_fault.Memory = ⊥
 -- What becomes of a frame, each case exactly where it says.
 abbrev pub BecomesOf : {D : Type 0} {g : Ghosts D} → Follower D g → Frame → Result Accepted FollowFault → Follower D g → Type 0
 BecomesOf old frame (Ok (accepted.Old had got)) new = AreTold old.image.revision frame had got × (got ≤ had) × (new ≡ old)
-BecomesOf old frame (Ok (accepted.Gap had got)) new = AreTold old.image.revision frame had got × (had + 1 < got) × (frame.kind ≡ 67 → ⊥) × (new ≡ old)
+BecomesOf old frame (Ok (accepted.Gap had got)) new = AreTold old.image.revision frame had got × (had + 1 < got) × (frame.kind ≡ image_kind → ⊥) × (new ≡ old)
 BecomesOf old frame (Ok (accepted.Taken revision)) new = IsNext old.image.revision frame × (revision ≡ frame.revision) × (image_after old.image frame ≡ Some new.image)
 BecomesOf old frame (Err (fault.BadPayload revision)) new = IsNext old.image.revision frame × (revision ≡ frame.revision) × (image_after old.image frame ≡ None) × (new ≡ old)
 BecomesOf old frame (Err (fault.Store cause)) new = IsNext old.image.revision frame × ((next : Image) × (image_after old.image frame ≡ Some next) × IsUnstored old new (needed old frame next) cause)
@@ -102,11 +103,11 @@ IsUnmade g old new size limit (fault.BadPayload revision) = ⊥
 
 -- why a follower isn't made of a frame
 abbrev pub MakingRefused : {D : Type 0} → Ghosts D → D × D → D × D → Frame → ℕ → FollowFault → Type 0
-MakingRefused g old new frame limit (fault.NotASnapshot kind) = (kind ≡ frame.kind) × (frame.kind ≡ 67 → ⊥) × (new ≡ old)
-MakingRefused g old new frame limit (fault.BadPayload revision) = (frame.kind ≡ 67) × (revision ≡ frame.revision) × (snapshot frame ≡ None) × (new ≡ old)
+MakingRefused g old new frame limit (fault.NotASnapshot kind) = (kind ≡ frame.kind) × (frame.kind ≡ image_kind → ⊥) × (new ≡ old)
+MakingRefused g old new frame limit (fault.BadPayload revision) = (frame.kind ≡ image_kind) × (revision ≡ frame.revision) × (snapshot frame ≡ None) × (new ≡ old)
 MakingRefused g old new frame limit (fault.Store cause) =
-    (frame.kind ≡ 67) × ((shown : Image) × (snapshot frame ≡ Some shown) × CreateRefused g old new (whole_size shown) limit cause) × (cause ≡ store_fault.Memory → ⊥)
-MakingRefused g old new frame limit fault.Memory = (frame.kind ≡ 67) × (new ≡ old)
+    (frame.kind ≡ image_kind) × ((shown : Image) × (snapshot frame ≡ Some shown) × CreateRefused g old new (whole_size shown) limit cause) × (cause ≡ store_fault.Memory → ⊥)
+MakingRefused g old new frame limit fault.Memory = (frame.kind ≡ image_kind) × (new ≡ old)
 
 -- why two files aren't opened as a follower
 abbrev pub OpeningRefused : {D : Type 0} → Ghosts D → D × D → D × D → FollowFault → Type 0

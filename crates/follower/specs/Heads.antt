@@ -7,10 +7,11 @@ use Rattle.follower.specs.declared.fault.FrameFault.{FrameFault}
 use Rattle.follower.specs.declared.fault.FrameFault.TheVariants.{ReadFault, Cut, BadFrame, TooLong, Memory}
 use Rattle.follower.specs.declared.frame.Frame.{Frame}
 use Rattle.follower.specs.declared.heads.Head.{Head}
+use Rattle.text_store.specs.Kinds.{image_kind, import_kind, splice_kind, text_kind}
 
 -- C, T, S and I
 abbrev pub is_kind : ℕ → Bool
-is_kind kind = (kind == 67) || (kind == 84) || (kind == 83) || (kind == 73)
+is_kind kind = (kind == image_kind) || (kind == text_kind) || (kind == splice_kind) || (kind == import_kind)
 
 -- the most bytes of a payload
 abbrev pub most : ℕ

@@ -11,6 +11,7 @@ use Rattle.follower.specs.declared.fault.FollowFault.{FollowFault}
 use Rattle.follower.specs.declared.frame.Frame.{Frame}
 use Rattle.follower.specs.Standings.{IsNext}
 use Rattle.follower.specs.Images.{image_after}
+use Rattle.text_store.specs.Kinds.{image_kind}
 
 -- the image after so many changes of a history, each of which could be made
 abbrev pub IsAfter : Image → ℕ → List Change → Image → Type 0
@@ -20,7 +21,7 @@ IsAfter start (suc n) (change ∷ changes) shown = (next : Image) × (edited sta
 
 -- the C of an image
 pub record IsSnapshot (shown : Image) (frame : Frame) : Type 0 where
-  pub kind : frame.kind ≡ 67
+  pub kind : frame.kind ≡ image_kind
   pub payload : frame.payload ≡ whole_payload shown
   pub writable : IsWritable shown
   pub states : AreStates shown.latest

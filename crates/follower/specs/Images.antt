@@ -4,6 +4,7 @@ use Rattle.text_store.specs.declared.image.Image.{Image}
 use Rattle.text_store.specs.Edits.{at_revision, content_in}
 use Rattle.text_store.specs.Image.{Content, changed, checkpointed}
 use Rattle.follower.specs.declared.frame.Frame.{Frame}
+use Rattle.text_store.specs.Kinds.{image_kind}
 
 -- at a revision of at most 2^62
 abbrev pub within : ℕ → Option Content → Option Image
@@ -17,6 +18,6 @@ snapshot frame = within frame.revision (checkpointed frame.payload)
 -- part lies outside the text, it makes 2^32 import states, or the revision is above 2^62
 abbrev pub image_after : Image → Frame → Option Image
 image_after image frame =
-    if frame.kind == 67
+    if frame.kind == image_kind
     then snapshot frame
     else within frame.revision (changed (content_in image) (record { at = 0; kind = frame.kind; payload = frame.payload }))
