@@ -1,5 +1,6 @@
 pub mod Asking
 pub mod Building
+pub mod Letters
 pub mod Made
 pub mod Matching
 pub mod Meaning

@@ -30,6 +30,7 @@ use Rattle.query_terms.specs.declared.kinds.Term.{Term}
 use Rattle.query.specs.declared.matching.Group.{Group}
 use Rattle.query.specs.declared.matching.Group.TheVariants as groups
 use Rattle.hl_base.specs.Ascii.{trimmed}
+use Rattle.query.specs.Letters.{asset, cash, conversion, equity}
 
 -- the letters that accounts have of their own
 abbrev pub Own : Type 0
@@ -128,7 +129,7 @@ has_tag known name value tags = list_any (tag_matches known name value) tags
 -- a letter of a term stands for an account's: A for C too, and E for V too
 abbrev pub stands_for : ℕ → ℕ → Bool
 stands_for asked letter =
-    (asked == letter) || ((asked == 65) && (letter == 67)) || ((asked == 69) && (letter == 86))
+    (asked == letter) || ((asked == asset) && (letter == cash)) || ((asked == equity) && (letter == conversion))
 
 abbrev pub has_letter : List ℕ → Option ℕ → Bool
 has_letter letters None = false

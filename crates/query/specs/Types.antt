@@ -10,6 +10,7 @@ use Rattle.book.specs.declared.item.Item.{Item}
 use Rattle.book.specs.declared.item.Item.TheVariants as item
 use Rattle.book.specs.declared.item.Placed.{Placed}
 use Rattle.query_terms.specs.Reading.{upper, before_byte, after_byte, has_byte}
+use Rattle.query.specs.Letters.{asset, conversion, equity, expense, liability, revenue}
 
 -- the account and letter that a directive declares
 abbrev pub declared_by : Directive → List (List ℕ × ℕ)
@@ -99,11 +100,11 @@ is_expense part = is_named part (codes "EXPENSE") || is_named part (codes "EXPEN
 -- the letter that a first part says
 abbrev pub first_letter : List ℕ → Option ℕ
 first_letter part =
-    if is_asset part then Some 65
-    else if is_liability part then Some 76
-    else if is_equity part then Some 69
-    else if is_revenue part then Some 82
-    else if is_expense part then Some 88
+    if is_asset part then Some asset
+    else if is_liability part then Some liability
+    else if is_equity part then Some equity
+    else if is_revenue part then Some revenue
+    else if is_expense part then Some expense
     else None
 
 -- its first part is equity, and its second one says conversions
@@ -115,7 +116,7 @@ is_for_conversions account =
 -- the letter that a name says by its parts
 unfoldable pub letter_by_name : List ℕ → Option ℕ
 letter_by_name account =
-    if is_for_conversions account then Some 86 else first_letter (before_byte colon account)
+    if is_for_conversions account then Some conversion else first_letter (before_byte colon account)
 
 -- an account's letter: its own, else that of its nearest parent with one, else what its name says
 unfoldable pub letter_of : (List ℕ → Option ℕ) → List ℕ → Option ℕ

@@ -4,6 +4,7 @@ use Rattle.statements.specs.declared.statement.Part.{Part}
 use Rattle.statements.specs.declared.statement.Part.TheVariants.{Revenues, Expenses, Assets, Liabilities}
 use Rattle.statements.specs.declared.statement.Statement.{Statement}
 use Rattle.statements.specs.declared.statement.Statement.TheVariants.{Income, Sheet}
+use Rattle.query.specs.Letters.{asset, cash, expense, liability, revenue}
 
 -- what stands before the days in its title
 abbrev pub title_of : Statement → List ℕ
@@ -27,10 +28,10 @@ name_of Liabilities = codes "Liabilities"
 
 -- the letters of a section's accounts: R, X, A and C, or L
 abbrev pub has_letter : Part → ℕ → Bool
-has_letter Revenues letter = letter == 82
-has_letter Expenses letter = letter == 88
-has_letter Assets letter = letter == 65 || letter == 67
-has_letter Liabilities letter = letter == 76
+has_letter Revenues letter = letter == revenue
+has_letter Expenses letter = letter == expense
+has_letter Assets letter = letter == asset || letter == cash
+has_letter Liabilities letter = letter == liability
 
 -- an account without a letter is in none
 abbrev pub has_account : Part → Option ℕ → Bool
