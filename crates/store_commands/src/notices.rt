@@ -44,7 +44,8 @@ fn notice_lines(alloc: Global, references: &[Reference]) -> Result<Bytes, Memory
 }
 
 /// What a dry run of an import says of its rules: a line for each column that they refer to and don't name, with the first line
-/// of the rules that does. Of rules that don't read it says nothing.
+/// of the rules that does. Nothing where a line of the rules isn't of its form or their last block has no assignment; whether the
+/// patterns compile doesn't matter.
 pub fn import_notices(alloc: Global, request: &Request) -> Result<Bytes, Memory>
     ensures { IfOk result (λ lines. lines ≡ spec.notices_of request.now) }
 {
