@@ -46,7 +46,7 @@ unfoldable pub close_help : List ℕ
 close_help = codes "nibcactus close: the entries that close accounts and open them again\n\nnibcactus close --on=DAY [OPTIONS] [QUERY] < JOURNAL\n\nThe entries\n  --on=DAY              the day of the closing entry\n  --into=ACCOUNT        what takes the balances; else equity:closing\n  --close               the closing entry only\n  --open                the opening entry only\n  QUERY                 the accounts that are closed; else type:AL\n\nThe journal\n  -f FILE               read it from a file; - is standard input, the default\n  --store=NAME          read it from a store\n\nA query has words of account names, and terms: acct:, desc:, payee:, note:,\ncode:, date:, status:, real:, amt:, cur:, tag:, type:, depth:, not:.\n"
 
 unfoldable pub explain_help : List ℕ
-explain_help = codes "nibcactus explain: the first fault of a journal or of a bank's file, and how it is mended\n\nnibcactus explain [OPTIONS] < JOURNAL\nnibcactus explain FILE [--rules=NAME]\n\nThe journal\n  -f FILE               read it from a file; - is standard input, the default\n  --store=NAME          read it from a store\n\nA bank's file\n  FILE                  why import refuses it, or the line of its rules\n  --rules=NAME          the file of its rules; else FILE.rules\n"
+explain_help = codes "nibcactus explain: the first fault of a journal or of a bank's file, and how it is mended\n\nnibcactus explain [OPTIONS] < JOURNAL\nnibcactus explain -f JOURNAL\nnibcactus explain FILE [--rules=NAME]\n\nThe journal\n  -f FILE               read it from a file; - is standard input, the default\n  --store=NAME          read it from a store\n\nA bank's file\n  FILE                  why import refuses it, or the line of its rules\n  --rules=NAME          the file of its rules; else FILE.rules\n"
 
 unfoldable pub init_help : List ℕ
 init_help = codes "nibcactus init: a store of a journal\n\nnibcactus init STORE [OPTIONS] < JOURNAL\n\nOptions\n  -f FILE               read the journal from a file; - is standard input, the default\n  --limit=N             the most bytes of each of the store's two files; else 1099511627776\n"

@@ -106,7 +106,7 @@ fn close_help() -> &'static str
 fn explain_help() -> &'static str
     ensures { result.now ≡ spec.explain_help }
 {
-    "nibcactus explain: the first fault of a journal or of a bank's file, and how it is mended\n\nnibcactus explain [OPTIONS] < JOURNAL\nnibcactus explain FILE [--rules=NAME]\n\nThe journal\n  -f FILE               read it from a file; - is standard input, the default\n  --store=NAME          read it from a store\n\nA bank's file\n  FILE                  why import refuses it, or the line of its rules\n  --rules=NAME          the file of its rules; else FILE.rules\n"
+    "nibcactus explain: the first fault of a journal or of a bank's file, and how it is mended\n\nnibcactus explain [OPTIONS] < JOURNAL\nnibcactus explain -f JOURNAL\nnibcactus explain FILE [--rules=NAME]\n\nThe journal\n  -f FILE               read it from a file; - is standard input, the default\n  --store=NAME          read it from a store\n\nA bank's file\n  FILE                  why import refuses it, or the line of its rules\n  --rules=NAME          the file of its rules; else FILE.rules\n"
 }
 
 /// The help of `init`.
