@@ -12,7 +12,7 @@ use crate::head::cut_behind_heads;
 use crate::run::{Run, joined, read_run};
 use book::{Items, Placed};
 use entry_reader::{Context, ReadFault, context_behind};
-use hl_base::{List, Memory, Piece, Steps};
+use hl_base::{List, Piece, Steps};
 use std::alloc::Global;
 use std::sync::ledger::Ledger;
 use std::thread::{Threads, available_parallelism, join};
