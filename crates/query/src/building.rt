@@ -40,6 +40,7 @@ pub(crate) fn read_terms(alloc: Global, words: &[Text], day: Day) -> Result<Vec<
 }
 
 /// Builds the regex of a tag's value, where it needs one.
+#[tactic(auto, using(query_terms::proofs::Built::built_none))]
 fn build_value<M: Maker>(
     alloc: Global,
     value: &Option<Pattern>,
@@ -78,6 +79,7 @@ fn build_tag<M: Maker>(
 }
 
 /// Builds the regexes of a term.
+#[tactic(auto, using(query_terms::proofs::Built::built_none))]
 fn build_kind<M: Maker>(
     alloc: Global,
     kind: &Kind,
