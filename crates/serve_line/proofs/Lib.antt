@@ -1,4 +1,5 @@
 mod Clapping
+mod FileTasks
 mod Lending
 mod ReplyRuns
 mod ReportTasks

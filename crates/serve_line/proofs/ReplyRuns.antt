@@ -1,5 +1,6 @@
 -- A report's reply is what a run of its words over the text writes.
-use Rattle.std.proofs.Common.{◌≡◌, ◌≢◌, ◌∙◌, ◌⊎◌, inl, inr, ℕ, ◌+◌, Bool, true, false, nat_lt, if◌then◌else◌, List, [], ◌∷◌, length, Option, Some, None, Result, Ok, Err, IsOk, IfSome, refl, sym, ap, subst, arith}
+use Rattle.std.proofs.Common.{◌≡◌, ◌≢◌, ◌∙◌, ◌⊎◌, inl, inr, ℕ, ◌+◌, Bool, true, false, nat_lt, if◌then◌else◌, List, [], ◌∷◌, length, Option, Some, None, Result, Ok, Err, IsOk, IsTrue, IfSome, refl, sym, ap, subst, arith}
+use Rattle.std.specs.List.{AllByRecursion}
 use Rattle.std.specs.Option.{option_map}
 use Rattle.std.proofs.lemmas.Bool.{false≢true}
 use Rattle.hl_base.specs.Items.{items_of}
@@ -13,6 +14,7 @@ use Rattle.book.specs.declared.item.Placed.{Placed}
 use Rattle.balancing.specs.Load.{load}
 use Rattle.journal_reader.specs.Items.{items_in}
 use Rattle.live_journal.specs.Loading.{book_of, first_of, limit_fault, past_limit, text_fault}
+use Rattle.report_options.specs.Programs.{NamesNoJournal}
 use Rattle.report_cells.specs.declared.fault.ReportFault.{ReportFault}
 use Rattle.report_cells.specs.declared.fault.ReportFault.TheVariants as report_fault
 use Rattle.report_commands.specs.declared.asked.Asked.{Asked}
@@ -28,12 +30,13 @@ use Rattle.book_commands.specs.Texts.{made_loaded, made_read}
 use Rattle.book_commands.specs.Works.{judge, report_made, report_outcome}
 use Rattle.book_commands.specs.declared.work.Work.TheVariants as works
 use Rattle.refusals.specs.Errors.{fault_status, limit_line, plan_line, plan_status, report_status, rules_status, words_status}
-use Rattle.refusals.specs.Outcomes.{Judged, outcome_of, refused}
+use Rattle.refusals.specs.Outcomes.{Judged, Outcome, outcome_of, refused}
 use Rattle.desk.specs.declared.reply.Reply.{Reply}
 use Rattle.desk.specs.declared.reply.Reply.TheVariants as reply
 use Rattle.desk.specs.States.{State, report_reply}
 use Rattle.shared_desk.specs.Histories.{IsFreshRun, IsReplyOf, Loads, RunsFresh, RunsTo}
 use Rattle.command_words.specs.Commands.{usage_of}
+use Rattle.command_words.specs.declared.task.Origin.{Origin}
 use Rattle.command_words.specs.declared.task.Origin.TheVariants as origins
 use Rattle.command_words.specs.declared.task.Task.{Task}
 use Rattle.command_words.specs.declared.task.TextTask.{TextTask}
@@ -41,10 +44,11 @@ use Rattle.command_words.specs.declared.usage.UsageFault.{UsageFault}
 use Rattle.command_words.specs.declared.usage.UsageFault.TheVariants as usages
 use Rattle.command_line.specs.Answers.{IsTextStatus, Says, Wrote}
 use Rattle.command_line.specs.Runs.{RefusedText, RefusesWords, Runs, RunsText}
-use Rattle.command_line.specs.Scenes.{Scene, judged_in}
-use Rattle.command_line.specs.Sources.{judged, within_bytes}
+use Rattle.command_line.specs.Scenes.{Scene, judged_in, text_in}
+use Rattle.command_line.specs.Sources.{default_year, judged, text_under, within_bytes}
 use Rattle.refusals.specs.Errors.{memory_line}
-use Rattle.serve_line.specs.RunReplies.{BeginReport, IsDecided, IsRunOver, IsWrittenByRuns, RepliesAsRuns, SayTheSame, SaysPattern, WritesReply}
+use Rattle.serve_line.specs.RunReplies.{BeginReport, IsDecided, IsWrittenByRuns, RepliesAsRuns, RunsOver, SayTheSame, SaysPattern, WritesReply, with_file}
+use Rattle.serve_line.proofs.FileTasks.{begins_too, file_report, refused_file}
 use Rattle.serve_line.proofs.ReportTasks.{input_report, refused_report}
 
 err_ok : {A E X : Type 0} (err : E) (a : A) → Err err ≡ Ok a → X
@@ -154,9 +158,9 @@ module _ (revision : ℕ) (status : ℕ) (old new : Scene) where
   refused_so (Ok bytes) of_text unwritten wrote = absurd (not_zero status of_text wrote.0)
   refused_so (Err fault) of_text unwritten wrote = (inl of_text, unwritten, wrote.1)
 
-  module _ (asked : Asked) (day : ℕ) (report : Report) where
+  module _ (origin : Origin) (asked : Asked) (day : ℕ) (report : Report) where
     abbrev given : TextTask
-    given = record { origin = origins.Input; work = works.Report asked }
+    given = record { origin = origin; work = works.Report asked }
 
     abbrev IsTold : Type 0
     IsTold = judged_in given day old ≡ Some (Ok (report_outcome report))
@@ -213,36 +217,80 @@ module _ (s : State) (day : ℕ) (words : List (List ℕ)) (r : Reply) (loads : 
   small : past_limit s.text ≡ None
   small = no_limit (past_limit s.text) (book_of None s.text) loads
 
-  is_told : (asked : Asked) (report : Report) (old : Scene) → RunsTo day s.text asked report → old.left ≡ Some s.text
-      → judged_in (record { origin = origins.Input; work = works.Report asked }) day old ≡ Some (Ok (report_outcome report))
-  is_told asked report old runs input =
-      ap (λ (o : Option (List ℕ)). option_map (judged day (Some (year_of day)) (works.Report asked)) (option_map within_bytes o)) input
+  -- the text is that of the standard input, or of a file
+  record IsTextOf (origin : Origin) (old : Scene) : Type 0 where
+    year : default_year origin day ≡ Some (year_of day)
+    text : text_in origin old ≡ Some (within_bytes s.text)
+
+  of_input : (old : Scene) → old.left ≡ Some s.text → IsTextOf origins.Input old
+  of_input old input = record { year = refl; text = ap (λ (o : Option (List ℕ)). option_map within_bytes o) input }
+
+  of_file : (name : List ℕ) (old : Scene) → IsTrue old.files_told → old.file name ≡ Some s.text → IsTextOf (origins.File name) old
+  of_file name old told holds = record {
+    year = refl;
+    text = ap (λ (b : Bool). if b then Some (text_under name (old.file name)) else None) told
+        ∙ ap (λ (o : Option (List ℕ)). Some (text_under name o)) holds;
+  }
+
+  is_told : (origin : Origin) (asked : Asked) (report : Report) (old : Scene) → RunsTo day s.text asked report → IsTextOf origin old
+      → judged_in (record { origin = origin; work = works.Report asked }) day old ≡ Some (Ok (report_outcome report))
+  is_told origin asked report old runs of =
+      ap (λ (o : Option (Result (List ℕ) Outcome)). option_map (judged day (default_year origin day) (works.Report asked)) o) of.text
+      ∙ ap (λ (year : Option ℕ). Some (judged day year (works.Report asked) (within_bytes s.text))) of.year
       ∙ ap (λ (j : Judged). Some j) (is_judged asked day report (Some (year_of day)) s.text small (runs (Some (year_of day))))
+
+  module _ (status : ℕ) (old new : Scene) (ended : IsDecided status) where
+    abbrev IsSaid : Type 0
+    IsSaid = WritesReply r status old new ⊎ SaysPattern status old new
+
+    -- a report that reads
+    over_text : (origin : Origin) (asked : Asked) (report : Report) → RunsTo day s.text asked report → r ≡ report_reply s.revision report
+        → IsTextOf origin old → RunsText (record { origin = origin; work = works.Report asked }) day status old new → IsSaid
+    over_text origin asked report runs is of ran =
+        subst (λ (x : Reply). WritesReply x status old new ⊎ SaysPattern status old new) (sym is)
+        (decided s.revision status old new origin asked day report (is_told origin asked report old runs of) ran ended)
+
+    over_any : (asked : Asked) (report : Report) → asked_of day words ≡ Ok asked → RunsTo day s.text asked report → r ≡ report_reply s.revision report
+        → RunsOver words day s.text status old new → IsSaid
+    over_any asked report reads runs is (inl run) =
+        over_text origins.Input asked report runs is (of_input old run.input) (subst (λ (t : Result Task UsageFault). Runs words day status old new t) (input_report day words asked reads) run.runs)
+    over_any asked report reads runs is (inr named) =
+        let run = named.1 in
+        over_text (origins.File named.0) asked report runs is (of_file named.0 old run.told run.holds)
+        (subst (λ (t : Result Task UsageFault). Runs (with_file named.0 words) day status old new t) (file_report day named.0 words asked run.named reads) run.runs)
+
+    -- words that don't read
+    unread_as : (those : List (List ℕ)) (fault : WordsFault) → r ≡ reply.Words (plan_fault.Words fault) → BeginReport those
+        → RefusesWords (usage_of those (usages.Words fault)) status old new → IsSaid
+    unread_as those fault is begins ran =
+        subst (λ (x : Reply). WritesReply x status old new ⊎ SaysPattern status old new) (sym is)
+        (inl (unread_so status old new (usage_of those (usages.Words fault)) (plan_fault.Words fault) (line_is those fault begins) ended ran.unwritten ran.said))
+
+    unread_any : (fault : WordsFault) → asked_of day words ≡ Err fault → r ≡ reply.Words (plan_fault.Words fault) → BeginReport words
+        → AllByRecursion NamesNoJournal words → RunsOver words day s.text status old new → IsSaid
+    unread_any fault reads is begins none (inl run) =
+        unread_as words fault is begins (subst (λ (t : Result Task UsageFault). Runs words day status old new t) (refused_report day words fault reads begins none) run.runs)
+    unread_any fault reads is begins none (inr named) =
+        let run = named.1 in
+        unread_as (with_file named.0 words) fault is (begins_too named.0 words begins)
+        (subst (λ (t : Result Task UsageFault). Runs (with_file named.0 words) day status old new t) (refused_file day named.0 words fault reads begins none) run.runs)
+
+    unread_by : (fault : WordsFault) → asked_of day words ≡ Err fault → r ≡ reply.Words (plan_fault.Words fault) → SayTheSame day words
+        → RunsOver words day s.text status old new → IsSaid
+    unread_by fault reads is (inl ok) run = absurd (false≢true (subst (λ (a : Result Asked WordsFault). IsOk a) reads ok))
+    unread_by fault reads is (inr say) run = unread_any fault reads is say.0 say.1 run
 
   answered : (asked : Asked) (report : Report) → asked_of day words ≡ Ok asked → RunsTo day s.text asked report → r ≡ report_reply s.revision report
       → IsWrittenByRuns day words s.text r
-  answered asked report reads runs is = λ say status old new run ended.
-      let ran : RunsText (record { origin = origins.Input; work = works.Report asked }) day status old new =
-      subst (λ (t : Result Task UsageFault). Runs words day status old new t) (input_report day words asked reads) run.runs in
-      subst (λ (x : Reply). WritesReply x status old new ⊎ SaysPattern status old new) (sym is)
-      (decided s.revision status old new asked day report (is_told asked report old runs run.input) ran ended)
+  answered asked report reads runs is = λ say status old new run ended. over_any status old new ended asked report reads runs is run
 
   by_reply : (asked : Asked) (report : Report) → asked_of day words ≡ Ok asked → RunsTo day s.text asked report → IsReplyOf s day words report r → RepliesAsRuns s day words r
   by_reply asked report reads runs (inl memory) = inl memory
   by_reply asked report reads runs (inr (inl is)) = inr (inr (answered asked report reads runs is))
   by_reply asked report reads runs (inr (inr one)) = inr (inl one)
 
-  unread_by : (fault : WordsFault) → asked_of day words ≡ Err fault → r ≡ reply.Words (plan_fault.Words fault) → SayTheSame day words
-      → (status : ℕ) (old new : Scene) → IsRunOver words day s.text status old new → IsDecided status → WritesReply r status old new ⊎ SaysPattern status old new
-  unread_by fault reads is (inl ok) status old new run ended = absurd (false≢true (subst (λ (a : Result Asked WordsFault). IsOk a) reads ok))
-  unread_by fault reads is (inr say) status old new run ended =
-      let ran : RefusesWords (usage_of words (usages.Words fault)) status old new =
-      subst (λ (t : Result Task UsageFault). Runs words day status old new t) (refused_report day words fault reads say.0 say.1) run.runs in
-      subst (λ (x : Reply). WritesReply x status old new ⊎ SaysPattern status old new) (sym is)
-      (inl (unread_so status old new (usage_of words (usages.Words fault)) (plan_fault.Words fault) (line_is words fault say.0) ended ran.unwritten ran.said))
-
   unread : (fault : WordsFault) → asked_of day words ≡ Err fault → r ≡ reply.Words (plan_fault.Words fault) → IsWrittenByRuns day words s.text r
-  unread fault reads is = λ say status old new run ended. unread_by fault reads is say status old new run ended
+  unread fault reads is = λ say status old new run ended. unread_by status old new ended fault reads is say run
 
   by_asked : (a : Result Asked WordsFault) → asked_of day words ≡ a → RunsFresh s day words r a → RepliesAsRuns s day words r
   by_asked (Ok asked) reads fresh = by_reply asked fresh.0 reads fresh.1 fresh.2

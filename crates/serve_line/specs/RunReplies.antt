@@ -1,5 +1,5 @@
 -- The reply to a report beside runs of its words over the same text.
-use Rattle.std.specs.Prelude.{◌≡◌, ◌⊎◌, ℕ, true, is_some, List, [], ◌∷◌, Some, IsOk}
+use Rattle.std.specs.Prelude.{◌≡◌, ◌≢◌, ◌⊎◌, ℕ, true, is_some, IsTrue, List, [], ◌∷◌, Some, IsOk, codes}
 use Rattle.std.specs.List.{AllByRecursion}
 use Rattle.report_options.specs.Commands.{command_named}
 use Rattle.report_options.specs.Programs.{NamesNoJournal}
@@ -19,6 +19,22 @@ use Rattle.command_line.specs.Scenes.{Scene}
 pub record IsRunOver (words : List (List ℕ)) (day : ℕ) (text : List ℕ) (status : ℕ) (old new : Scene) : Type 0 where
   pub input : old.left ≡ Some text
   pub runs : Runs words day status old new (task_of day words)
+
+-- the words of a report, with `-f` and a name behind the first, which names the report
+abbrev pub with_file : List ℕ → List (List ℕ) → List (List ℕ)
+with_file name [] = []
+with_file name (report ∷ words) = report ∷ codes "-f" ∷ name ∷ words
+
+-- A run of such words, with a text in the file of that name. (`-` is the name of the standard input.)
+pub record IsRunOfFile (name : List ℕ) (words : List (List ℕ)) (day : ℕ) (text : List ℕ) (status : ℕ) (old new : Scene) : Type 0 where
+  pub named : name ≢ codes "-"
+  pub told : IsTrue old.files_told
+  pub holds : old.file name ≡ Some text
+  pub runs : Runs (with_file name words) day status old new (task_of day (with_file name words))
+
+-- A run of the words over a text: of the standard input, or of a file behind `-f`.
+abbrev pub RunsOver : List (List ℕ) → ℕ → List ℕ → ℕ → Scene → Scene → Type 0
+RunsOver words day text status old new = IsRunOver words day text status old new ⊎ ((name : List ℕ) × IsRunOfFile name words day text status old new)
 
 -- it ended as its words and its text say: no call failed, and memory didn't run out
 abbrev pub IsDecided : ℕ → Type 0
@@ -47,7 +63,7 @@ SayTheSame day words = IsOk (asked_of day words) ⊎ (BeginReport words × AllBy
 -- each run of such words over a text writes what the reply says
 abbrev pub IsWrittenByRuns : ℕ → List (List ℕ) → List ℕ → Reply → Type 0
 IsWrittenByRuns day words text r =
-    SayTheSame day words → (status : ℕ) (old new : Scene) → IsRunOver words day text status old new → IsDecided status
+    SayTheSame day words → (status : ℕ) (old new : Scene) → RunsOver words day text status old new → IsDecided status
     → WritesReply r status old new ⊎ SaysPattern status old new
 
 -- A report is answered as a run of its words over the text writes it; or memory ran out, or a pattern was refused.
