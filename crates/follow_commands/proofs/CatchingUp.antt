@@ -21,7 +21,7 @@ use Rattle.follower.proofs.Following.{counted, record_is, snapshot_is, some_one}
 use Rattle.follower.proofs.Texts.{after_snapshot}
 use Rattle.follow_commands.specs.Genuine.{AreOfOne, bytes_of_all}
 use Rattle.follow_commands.specs.Walks.{AreAnswered, AreRead, Follows, IsAnswered, StopsAt, bytes_of}
-use Rattle.follow_commands.specs.Whole.{AreRecords, CatchesUp, IsBehind, IsFirst, IsNextRecord}
+use Rattle.follow_commands.specs.Whole.{AreRecords, CatchesUp, Each, IsBehind, IsFirst, IsNextRecord}
 use Rattle.follow_commands.specs.declared.following.Stop.{Stop}
 use Rattle.follow_commands.specs.declared.tally.Tally.{Tally}
 use Rattle.follow_commands.proofs.Joining.{Filled, same_frame, same_rest}
@@ -109,6 +109,15 @@ first_genuine start changes first is small = record {
 abbrev pub the_end : {T : Type 0} → T → Result T Stop
 the_end done = Ok done
 
+-- nothing is known of the records but what they are
+abbrev pub Any : Image → Frame → Type 0
+Any shown next = Unit {0}
+
+pub nothing_known : (from : Image) (changes : List Change) (frames : List Frame) → Each Any from changes frames
+nothing_known from [] frames = tt
+nothing_known from (change ∷ changes) [] = tt
+nothing_known from (change ∷ changes) (next ∷ frames) = (tt, λ after made. nothing_known after changes frames)
+
 -- ---- one frame after the other
 
 -- what becomes of a frame that is answered
@@ -124,30 +133,34 @@ steps_of {D} {g} old new next (Ok (Old had got)) becomes = (omega (arith, become
 steps_of {D} {g} old new next (Ok (Gap had got)) becomes = (omega (arith, becomes.0.0, becomes.0.1, becomes.1), becomes.2, ap (λ (f : Follower D g). f.image) becomes.3)
 steps_of old new next (Err fault) becomes = tt
 
--- an image is one of a history of which these frames are left: the records from an image before it on, or from it
-pub record Place (last shown : Image) (frames : List Frame) : Type 0 where
+-- an image is one of a history of which these frames are left: the records from an image before it on, or from it; and this is known of
+-- each of them and the image before it
+pub record Place (P : Image → Frame → Type 0) (last shown : Image) (frames : List Frame) : Type 0 where
   pub from : Image
   pub changes : List Change
   pub n : ℕ
   pub are : AreRecords from changes frames last
   pub after : IsAfter from n changes shown
+  pub known : Each P from changes frames
 
 -- or all are left
-pub record AtFirst (last shown : Image) (first : Frame) (others : List Frame) : Type 0 where
+pub record AtFirst (P : Image → Frame → Type 0) (last shown : Image) (first : Frame) (others : List Frame) : Type 0 where
   pub start : Image
   pub changes : List Change
   pub is_first : IsFirst start first
   pub are : AreRecords start changes others last
   pub behind : IsBehind start changes shown
+  pub known_first : P start first
+  pub known : Each P start changes others
 
-abbrev pub Begins : Image → Image → List Frame → Type 0
-Begins last shown [] = ⊥
-Begins last shown (first ∷ others) = AtFirst last shown first others
+abbrev pub Begins : (Image → Frame → Type 0) → Image → Image → List Frame → Type 0
+Begins P last shown [] = ⊥
+Begins P last shown (first ∷ others) = AtFirst P last shown first others
 
-abbrev pub State : Image → Image → List Frame → Type 0
-State last shown frames = Begins last shown frames ⊎ Place last shown frames
+abbrev pub State : (Image → Frame → Type 0) → Image → Image → List Frame → Type 0
+State P last shown frames = Begins P last shown frames ⊎ Place P last shown frames
 
-module _ (last shown after : Image) (next : Frame) (frames : List Frame) (small : last.revision ≤ 2 ^ 62) where
+module _ (P : Image → Frame → Type 0) (last shown after : Image) (next : Frame) (frames : List Frame) (small : last.revision ≤ 2 ^ 62) where
   -- the record behind the image is taken
   next_made : (from first : Image) (change : Change) (answer : Result Accepted FollowFault) → IsAnswered answer → Steps shown next answer after → IsNextRecord from change next
       → edited from change ≡ Some first → shown ≡ from → first.revision ≤ 2 ^ 62 → after ≡ first
@@ -171,9 +184,9 @@ module _ (last shown after : Image) (next : Frame) (frames : List Frame) (small 
   stays_old (Err fault) answered steps old = absurd answered
 
   record_step : (n : ℕ) (from : Image) (changes : List Change) (answer : Result Accepted FollowFault) → IsAnswered answer → Steps shown next answer after
-      → AreRecords from changes (next ∷ frames) last → IsAfter from n changes shown → Place last after frames
-  record_step n from [] answer answered steps are here = absurd are
-  record_step zero from (change ∷ changes) answer answered steps are here =
+      → AreRecords from changes (next ∷ frames) last → IsAfter from n changes shown → Each P from changes (next ∷ frames) → Place P last after frames
+  record_step n from [] answer answered steps are here known = absurd are
+  record_step zero from (change ∷ changes) answer answered steps are here known =
       let first = are.1.0 in
       let within : first.revision ≤ 2 ^ 62 = omega (arith, records_count changes frames first last are.1.2, small) in
       record {
@@ -182,8 +195,9 @@ module _ (last shown after : Image) (next : Frame) (frames : List Frame) (small 
         n = zero;
         are = are.1.2;
         after = next_made from first change answer answered steps are.0 are.1.1 here within;
+        known = known.1 first are.1.1;
       }
-  record_step (suc n) from (change ∷ changes) answer answered steps are here =
+  record_step (suc n) from (change ∷ changes) answer answered steps are here known =
       let first = are.1.0 in
       let rises = edited_revision from here.0 change here.1 in
       let ahead = counted n here.0 changes shown here.2 in
@@ -195,6 +209,7 @@ module _ (last shown after : Image) (next : Frame) (frames : List Frame) (small 
         n = n;
         are = are.1.2;
         after = subst (λ (i : Image). IsAfter i n changes after) same (subst (λ (i : Image). IsAfter here.0 n changes i) (sym stays) here.2);
+        known = known.1 first are.1.1;
       }
 
   -- the C is taken by an image before it
@@ -206,19 +221,20 @@ module _ (last shown after : Image) (next : Frame) (frames : List Frame) (small 
   first_made start (Ok (Gap had got)) answered steps is within less = absurd (steps.1 is.snapshot.kind)
   first_made start (Err fault) answered steps is within less = absurd answered
 
-  first_step : (answer : Result Accepted FollowFault) → IsAnswered answer → Steps shown next answer after → AtFirst last shown next frames → Place last after frames
+  first_step : (answer : Result Accepted FollowFault) → IsAnswered answer → Steps shown next answer after → AtFirst P last shown next frames → Place P last after frames
   first_step answer answered steps at = by_place at.behind
     where
       within : at.start.revision ≤ 2 ^ 62
       within = omega (arith, records_count at.changes frames at.start last at.are, small)
 
-      by_place : IsBehind at.start at.changes shown → Place last after frames
+      by_place : IsBehind at.start at.changes shown → Place P last after frames
       by_place (inl less) = record {
         from = at.start;
         changes = at.changes;
         n = zero;
         are = at.are;
         after = first_made at.start answer answered steps at.is_first within less;
+        known = at.known;
       }
       by_place (inr here) =
           let stays : after ≡ shown = stays_old answer answered steps (omega (arith, at.is_first.revision, counted here.0 at.start at.changes shown here.1)) in
@@ -228,16 +244,17 @@ module _ (last shown after : Image) (next : Frame) (frames : List Frame) (small 
             n = here.0;
             are = at.are;
             after = subst (λ (i : Image). IsAfter at.start here.0 at.changes i) (sym stays) here.1;
+            known = at.known;
           }
 
-  one_step : (answer : Result Accepted FollowFault) → IsAnswered answer → Steps shown next answer after → State last shown (next ∷ frames) → Place last after frames
+  one_step : (answer : Result Accepted FollowFault) → IsAnswered answer → Steps shown next answer after → State P last shown (next ∷ frames) → Place P last after frames
   one_step answer answered steps (inl begins) = first_step answer answered steps begins
-  one_step answer answered steps (inr place) = record_step place.n place.from place.changes answer answered steps place.are place.after
+  one_step answer answered steps (inr place) = record_step place.n place.from place.changes answer answered steps place.are place.after place.known
 
 -- the next frame is as it is read
-record Fits (next : Frame) : Type 0 where
-  revision : next.revision < 2 ^ 64
-  payload : length next.payload < 2 ^ 64
+pub record Fits (next : Frame) : Type 0 where
+  pub revision : next.revision < 2 ^ 64
+  pub payload : length next.payload < 2 ^ 64
 
 record_fits : (last from : Image) (changes : List Change) (next : Frame) (frames : List Frame) → last.revision ≤ 2 ^ 62 → AreRecords from changes (next ∷ frames) last → Fits next
 record_fits last from [] next frames small are = absurd are
@@ -246,12 +263,12 @@ record_fits last from (change ∷ changes) next frames small are =
     let rest = records_count changes frames are.1.0 last are.1.2 in
     record { revision = omega (arith, are.0.revision, rises, rest, small); payload = are.0.fits }
 
-state_fits : (last shown : Image) (next : Frame) (frames : List Frame) → last.revision ≤ 2 ^ 62 → State last shown (next ∷ frames) → Fits next
-state_fits last shown next frames small (inl at) = record {
+pub state_fits : (P : Image → Frame → Type 0) (last shown : Image) (next : Frame) (frames : List Frame) → last.revision ≤ 2 ^ 62 → State P last shown (next ∷ frames) → Fits next
+state_fits P last shown next frames small (inl at) = record {
   revision = omega (arith, at.is_first.revision, records_count at.changes frames at.start last at.are, small);
   payload = at.is_first.fits;
 }
-state_fits last shown next frames small (inr place) = record_fits last place.from place.changes next frames small place.are
+state_fits P last shown next frames small (inr place) = record_fits last place.from place.changes next frames small place.are
 
 -- where no frame is left the image is the last
 all_after : (last from shown : Image) (changes : List Change) (n : ℕ) → AreRecords from changes [] last → IsAfter from n changes shown → shown ≡ last
@@ -259,33 +276,33 @@ all_after last from shown [] zero are here = here ∙ sym are
 all_after last from shown [] (suc n) are here = absurd here
 all_after last from shown (change ∷ changes) n are here = absurd are
 
-no_frames : (last shown : Image) → State last shown [] → shown ≡ last
-no_frames last shown (inl begins) = absurd begins
-no_frames last shown (inr place) = all_after last place.from shown place.changes place.n place.are place.after
+no_frames : (P : Image → Frame → Type 0) (last shown : Image) → State P last shown [] → shown ≡ last
+no_frames P last shown (inl begins) = absurd begins
+no_frames P last shown (inr place) = all_after last place.from shown place.changes place.n place.are place.after
 
-ended : (last now : Image) (more : List Frame) (rest : List ℕ) → rest ≡ bytes_of_all more → rest ≡ [] → State last now more → now ≡ last
-ended last now [] rest is none state = no_frames last now state
-ended last now (next ∷ more) rest is none state = absurd (subst Filled (sym is ∙ none) tt)
+ended : (P : Image → Frame → Type 0) (last now : Image) (more : List Frame) (rest : List ℕ) → rest ≡ bytes_of_all more → rest ≡ [] → State P last now more → now ≡ last
+ended P last now [] rest is none state = no_frames P last now state
+ended P last now (next ∷ more) rest is none state = absurd (subst Filled (sym is ∙ none) tt)
 
-module _ {D : Type 0} {g : Disks D} (last : Image) (small : last.revision ≤ 2 ^ 62) where
+module _ (P : Image → Frame → Type 0) {D : Type 0} {g : Disks D} (last : Image) (small : last.revision ≤ 2 ^ 62) where
   one_read : (mid now : Follower D g) (next : Frame) (answer : Result Accepted FollowFault) (rest : List ℕ) → BecomesOf mid next answer now → IsAnswered answer
-      → next.revision < 2 ^ 64 → length next.payload < 2 ^ 64 → (left : List Frame) → frame next.revision next.kind next.payload ++ rest ≡ bytes_of_all left → State last mid.image left
-      → (more : List Frame) × (rest ≡ bytes_of_all more) × State last now.image more
+      → next.revision < 2 ^ 64 → length next.payload < 2 ^ 64 → (left : List Frame) → frame next.revision next.kind next.payload ++ rest ≡ bytes_of_all left → State P last mid.image left
+      → (more : List Frame) × (rest ≡ bytes_of_all more) × State P last now.image more
   one_read mid now next answer rest becomes answered fits short [] is state = absurd (subst Filled is tt)
   one_read mid now next answer rest becomes answered fits short (other ∷ more) is state =
-      let of_other = state_fits last mid.image other more small state in
+      let of_other = state_fits P last mid.image other more small state in
       let same : other ≡ next = same_frame next other rest (bytes_of_all more) is fits of_other.revision short of_other.payload in
-      let here = subst (λ (f : Frame). State last mid.image (f ∷ more)) same state in (
+      let here = subst (λ (f : Frame). State P last mid.image (f ∷ more)) same state in (
         more,
         same_rest next other rest (bytes_of_all more) is fits of_other.revision short of_other.payload,
-        inr (one_step last mid.image now.image next more small answer answered (steps_of mid now next answer becomes) here),
+        inr (one_step P last mid.image now.image next more small answer answered (steps_of mid now next answer becomes) here),
       )
 
-  all_read : (old now : Follower D g) (steps : List (Frame × Result Accepted FollowFault)) → Runs old steps now → AreAnswered steps → AreRead steps
-      → (frames : List Frame) → State last old.image frames → (rest : List ℕ) → bytes_of_all frames ≡ bytes_of steps ++ rest
-      → (more : List Frame) × (rest ≡ bytes_of_all more) × State last now.image more
+  pub all_read : (old now : Follower D g) (steps : List (Frame × Result Accepted FollowFault)) → Runs old steps now → AreAnswered steps → AreRead steps
+      → (frames : List Frame) → State P last old.image frames → (rest : List ℕ) → bytes_of_all frames ≡ bytes_of steps ++ rest
+      → (more : List Frame) × (rest ≡ bytes_of_all more) × State P last now.image more
   all_read old now [] runs answered read frames state rest is =
-      (frames, sym is, subst (λ (f : Follower D g). State last f.image frames) (sym runs) state)
+      (frames, sym is, subst (λ (f : Follower D g). State P last f.image frames) (sym runs) state)
   all_read old now (step ∷ before) runs answered read frames state rest is =
       let next = step.0 in
       let mid = runs.0 in
@@ -295,18 +312,26 @@ module _ {D : Type 0} {g : Disks D} (last : Image) (small : last.revision ≤ 2 
 
   -- a source of these frames that was followed to its end leads to the last image
   pub caught_up : {J T : Type 0} (s : Sources J) (source source_then : J) (old new : Follower D g) (tally tally_then : Tally) (done : T)
-      → Follows s g source source_then old new tally tally_then (the_end done) → (frames : List Frame) → s.left source ≡ Some (bytes_of_all frames) → State last old.image frames
+      → Follows s g source source_then old new tally tally_then (the_end done) → (frames : List Frame) → s.left source ≡ Some (bytes_of_all frames) → State P last old.image frames
       → new.image ≡ last
   caught_up {J} {T} s source source_then old new tally tally_then done follows frames left state =
       let at : (rest : List ℕ) × (bytes_of_all frames ≡ bytes_of follows.steps ++ rest) × AreRead follows.steps × StopsAt (the_end done) rest (s.left source_then) =
       subst (λ (o : Option (List ℕ)). IfSome o (λ bytes. (rest : List ℕ) × (bytes ≡ bytes_of follows.steps ++ rest) × AreRead follows.steps × StopsAt (the_end done) rest (s.left source_then))) left follows.told in
       let all = all_read old new follows.steps follows.runs follows.ends at.2 frames state at.0 at.1 in
-      ended last new.image all.0 at.0 all.1 at.3.0 all.2
+      ended P last new.image all.0 at.0 all.1 at.3.0 all.2
 
 -- whatever came of it
 pub catches_up : {J D T : Type 0} (s : Sources J) (g : Disks D) (source source_then : J) (old new : Follower D g) (tally tally_then : Tally) (result : Result T Stop)
     → Follows s g source source_then old new tally tally_then result → CatchesUp (s.left source) old.image new.image result
 catches_up s g source source_then old new tally tally_then (Ok done) follows last all behind =
-    caught_up last all.within s source source_then old new tally tally_then done follows (all.first ∷ all.others) all.told
-    (inl (record { start = all.start; changes = all.changes; is_first = all.is_first; are = all.are_records; behind = behind }))
+    caught_up Any last all.within s source source_then old new tally tally_then done follows (all.first ∷ all.others) all.told
+    (inl (record {
+      start = all.start;
+      changes = all.changes;
+      is_first = all.is_first;
+      are = all.are_records;
+      behind = behind;
+      known_first = tt;
+      known = nothing_known all.start all.changes all.others;
+    }))
 catches_up s g source source_then old new tally tally_then (Err stop) follows last all behind = tt

@@ -28,6 +28,12 @@ AreRecords shown (change ∷ changes) [] last = ⊥
 AreRecords shown (change ∷ changes) (next ∷ frames) last =
     IsNextRecord shown change next × ((after : Image) × (edited shown change ≡ Some after) × AreRecords after changes frames last)
 
+-- a fact of each record and the image before it
+abbrev pub Each : (Image → Frame → Type 0) → Image → List Change → List Frame → Type 0
+Each P from [] frames = Unit {0}
+Each P from (change ∷ changes) [] = Unit {0}
+Each P from (change ∷ changes) (next ∷ frames) = P from next × ((after : Image) → edited from change ≡ Some after → Each P after changes frames)
+
 -- A source has all frames of a history up to an image, each once and in their order: the C of its first image, and then the record of
 -- each change.
 pub record HasAll (left : Option (List ℕ)) (last : Image) : Type 0 where

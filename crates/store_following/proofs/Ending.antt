@@ -34,7 +34,7 @@ use Rattle.follow_commands.specs.Whole.{HasAll, IsBehind}
 use Rattle.follow_commands.specs.declared.following.Stop.{Stop}
 use Rattle.follow_commands.specs.declared.following.Stop.TheVariants.{Unread, Refused}
 use Rattle.follow_commands.specs.declared.tally.Tally.{Tally}
-use Rattle.follow_commands.proofs.CatchingUp.{State, caught_up, records_count}
+use Rattle.follow_commands.proofs.CatchingUp.{Any, State, caught_up, nothing_known, records_count}
 use Rattle.follow_commands.proofs.Joining.{first_of, same_frame, same_rest}
 use Rattle.store_text.specs.Reading.{ReadAs}
 use Rattle.store_text.specs.declared.refusal.StoreRefusal.{StoreRefusal}
@@ -110,7 +110,7 @@ collapsed : {P : Type 0} → P ⊎ P → P
 collapsed (inl p) = p
 collapsed (inr p) = p
 
-one_image : (a b : Image) (f s : List ℕ) → image f s ≡ Ok a → image f s ≡ Ok b → a ≡ b
+pub one_image : (a b : Image) (f s : List ℕ) → image f s ≡ Ok a → image f s ≡ Ok b → a ≡ b
 one_image a b f s first second = ap of (sym first ∙ second)
   where
     of : Result Image NoImage → Image
@@ -118,7 +118,7 @@ one_image a b f s first second = ap of (sym first ∙ second)
     of (Err e) = a
 
 -- nothing has no image
-no_image : (shown : Image) (f s : List ℕ) → f ≡ [] → s ≡ [] → image f s ≡ Ok shown → ⊥
+pub no_image : (shown : Image) (f s : List ℕ) → f ≡ [] → s ≡ [] → image f s ≡ Ok shown → ⊥
 no_image shown f s first second is =
     let nothing : image_of None [] ≡ Ok shown =
     sym ((λ i. image (first i) (second i)) ∙ (λ i. image_of (chosen (live_empty i) (live_empty i)) [])) ∙ is in
@@ -203,7 +203,7 @@ module _ {J D : Type 0} (i : Sources J) (g : Disks D) where
         let on = led.genuine start changes n has after in
         record { count = on.0; later = on.1; revision = on.2; after = on.4 }
 
-    led_whole : (last : Image) → last.revision ≤ 2 ^ 62 → (frames : List Frame) → i.left source ≡ Some (bytes_of_all frames) → State last from.image frames
+    led_whole : (last : Image) → last.revision ≤ 2 ^ 62 → (frames : List Frame) → i.left source ≡ Some (bytes_of_all frames) → State Any last from.image frames
         → OnOk result (led.end.image ≡ last)
     led_whole last small frames left state = by_done led.done led.follows led.told
       where
@@ -211,7 +211,7 @@ module _ {J D : Type 0} (i : Sources J) (g : Disks D) where
             → OnOk result (led.end.image ≡ last)
         by_done (Ok u) follows told =
             subst (λ (r : Result Followed FollowRefusal). OnOk r (led.end.image ≡ last)) (sym told)
-            (caught_up last small i source source_then from led.end tally led.tally u follows frames left state)
+            (caught_up Any last small i source source_then from led.end tally led.tally u follows frames left state)
         by_done (Err stop) follows told = subst (λ (r : Result Followed FollowRefusal). OnOk r (led.end.image ≡ last)) (sym told) tt
 
   module _ (source source_then : J) (first second : List ℕ) (old new : D × D) (limit : ℕ) (result : Result Followed FollowRefusal) (unlike : result ≢ refused disk_fault)
@@ -255,7 +255,14 @@ module _ {J D : Type 0} (i : Sources J) (g : Disks D) where
               some_one (snapshot all.first) made.made.image all.start (ap snapshot same ∙ made.image_is)
               (snapshot_is all.start all.first all.is_first.snapshot all.is_first.revision within) in
               led_whole mid source_then made.made first_frame new result made.leads last all.within all.others (t.1 ∙ ap (λ (l : List ℕ). Some l) rest)
-              (inr (record { from = all.start; changes = all.changes; n = 0; are = all.are_records; after = begun_at }));
+              (inr (record {
+                from = all.start;
+                changes = all.changes;
+                n = 0;
+                are = all.are_records;
+                after = begun_at;
+                known = nothing_known all.start all.changes all.others;
+              }));
         }
 
     opened_ends : IsOpened i g source source_then old new result → AtEnd i g source first second telling new result
@@ -281,7 +288,15 @@ module _ {J D : Type 0} (i : Sources J) (g : Disks D) where
               let behind = ⊎_elim (λ empty. absurd (no_image opened.opened.image first second empty.0 empty.1 here.0))
               (λ there. subst (λ (x : Image). IsBehind all.start all.changes x) (one_image there.0 opened.opened.image first second there.1 here.0) there.2) earlier in
               led_whole source source_then opened.opened no_frame new result opened.leads last all.within (all.first ∷ all.others) all.told
-              (inl (record { start = all.start; changes = all.changes; is_first = all.is_first; are = all.are_records; behind = behind }));
+              (inl (record {
+                start = all.start;
+                changes = all.changes;
+                is_first = all.is_first;
+                are = all.are_records;
+                behind = behind;
+                known_first = tt;
+                known = nothing_known all.start all.changes all.others;
+              }));
         }
 
     -- what a refusal before the first frame leaves

@@ -1,4 +1,5 @@
 pub mod Asking
+mod Completing
 pub mod Ending
 pub mod LedLaws
 pub mod StoreLaws

@@ -17,12 +17,14 @@ use Rattle.store_text.specs.Refusals.{IsOfTaking}
 use Rattle.store_text.specs.Shelved.{image_in, image_under, or_empty, second_name}
 use Rattle.store_text.specs.declared.refusal.StoreRefusal.{StoreRefusal}
 use Rattle.store_text.specs.declared.refusal.StoreRefusal.TheVariants as store_refusal
-use Rattle.store_text.proofs.LendingLaws.{apart, back_faults, back_first, back_others, back_second, back_sound, back_tells, both_tell, first_reads, later_faults, left_first, left_second, made_reads, one_failed, out_faults, out_file, out_sound, out_tells, rose_back, second_reads, told_on}
+use Rattle.store_text.proofs.LendingLaws.{apart, back_faults, back_first, back_others, back_second, back_sound, back_tells, both_tell, first_reads, later_faults, left_first, left_second, made_reads, never_absent, one_failed, out_faults, out_file, out_sound, out_tells, rose_back, second_reads, told_on}
 use Rattle.store_following.specs.Following.{FollowsStore, HasAfter, HasEarlier, HasLater, HasLed, IsKept, IsNew}
+use Rattle.store_following.specs.Ready.{IsFailed}
 use Rattle.store_following.specs.Replicas.{FollowsDisks}
 use Rattle.store_following.specs.declared.refusal.FollowRefusal.{FollowRefusal}
 use Rattle.store_following.specs.declared.refusal.FollowRefusal.TheVariants as refusal
 use Rattle.store_following.specs.declared.refusal.Followed.{Followed}
+use Rattle.store_following.proofs.Completing.{follows_complete}
 use Rattle.store_following.proofs.Ending.{AtEnd, Ended, IsEarlier, IsReached, follows_ends, follows_failed, follows_rose, follows_taken, not_both, refused, stands_reads, store_unread}
 use Rattle.store_following.proofs.LedLaws.{one_rests, refused_is}
 
@@ -47,6 +49,17 @@ memory_disk e = let other : store_refusal.Memory ≡ store_refusal.DiskFault = u
 -- a take wasn't refused for a disk's own fault
 no_disk : (r : StoreRefusal) → IsOfTaking r → r ≢ store_refusal.DiskFault
 no_disk r kind e = subst (λ (x : StoreRefusal). IsOfTaking x) e kind
+
+-- a disk that is made where it is absent is refused only for a failed call or want of memory
+take_failed : (r : StoreRefusal) → IsOfTaking r → (r ≡ store_refusal.Absent → ⊥) → IsFailed (refusal.Store r)
+take_failed store_refusal.ReadFault kind there = tt
+take_failed store_refusal.Memory kind there = tt
+take_failed store_refusal.Absent kind there = absurd (there refl)
+take_failed store_refusal.DiskFault kind there = tt
+take_failed (store_refusal.NotAStore at) kind there = absurd kind
+take_failed (store_refusal.Newer version) kind there = absurd kind
+take_failed (store_refusal.Exists len) kind there = absurd kind
+take_failed (store_refusal.Full size limit) kind there = absurd kind
 
 if_ok : {P : Followed → Type 0} (result : Result Followed FollowRefusal) → ((f : Followed) → result ≡ Ok f → P f) → IfOk result P
 if_ok (Ok f) from = from f refl
@@ -142,6 +155,7 @@ module _ {J S D : Type 0} (i : Sources J) (s : Shelves S D) (g : Disks D) (name 
     kept_new = λ told is_new start changes frames kept. inl is_new;
     kept = λ told start changes n frames has kept. same_after (s.file old) (s.file old) name start changes n refl refl has;
     whole = λ told last all earlier. tt;
+    complete = λ told ready. tt;
     crash = λ told telling. tt;
     others = λ other first second. refl;
     input_fault = λ e. absurd (store_unread store_refusal.Memory frame_fault.ReadFault e);
@@ -166,6 +180,7 @@ module _ {J S D : Type 0} (i : Sources J) (s : Shelves S D) (g : Disks D) (name 
       kept = λ told start changes n frames has kept.
           same_after (s.file old) (s.file new) name start changes n (unlike.keeps.files name tt) (unlike.keeps.files beside tt) has;
       whole = λ told last all earlier. tt;
+      complete = λ told ready. take_failed r unlike.kind (λ e. never_absent (s.file old name) (unlike.absent told e));
       crash = λ told telling. tt;
       others = λ other first second. unlike.keeps.files other tt;
       input_fault = λ e. absurd (store_unread r frame_fault.ReadFault e);
@@ -198,6 +213,8 @@ module _ {J S D : Type 0} (i : Sources J) (s : Shelves S D) (g : Disks D) (name 
           kept = λ told start changes n frames has kept.
               still_after (s.file old) (s.file new) name start changes n (first_file told) (ap or_empty second_file) has;
           whole = λ told last all earlier. tt;
+          complete = λ told ready.
+              take_failed r unlike.kind (λ e. never_absent (s.file mid beside) (unlike.absent (told_on (s.tells old) (s.tells mid) first_taken.tells told) e));
           crash = λ told telling. tt;
           others = λ other not_first not_second. back.keeps.files other not_first ∙ same_file other;
           input_fault = λ e. absurd (store_unread r frame_fault.ReadFault e);
@@ -333,6 +350,10 @@ module _ {J S D : Type 0} (i : Sources J) (s : Shelves S D) (g : Disks D) (name 
           kept = λ told start changes n frames has. if_err result
               (λ r is kept. stays_after told start changes n frames has (λ e. kept_unlike r kept (sym is ∙ e)));
           whole = λ told last all earlier. on_ok result (λ f is. whole_under told last all (earlier_files all.start all.changes earlier) f is);
+          complete = λ told ready.
+              follows_complete i g result source source_then first_file second_file lent back limit follows
+              (made_reads (s.file old name) (g.seen lent.0) (first_reads s g true name beside old out lent takes told))
+              (second_reads s g true name beside old out lent takes told) ready;
           crash = λ told telling. if_ok result
               (λ f is first second of_first of_second.
               let end = ok_end told f is in

@@ -14,6 +14,7 @@ use Rattle.follow_commands.specs.Whole.{HasAll, IsBehind}
 use Rattle.store_text.specs.Lending.{AreUntaken, Lends}
 use Rattle.store_text.specs.Shelved.{image_under, or_empty, second_name}
 use Rattle.store_text.specs.declared.refusal.StoreRefusal.TheVariants as store_refusal
+use Rattle.store_following.specs.Ready.{IsFailed, IsReady}
 use Rattle.store_following.specs.Replicas.{FollowsDisks}
 use Rattle.store_following.specs.declared.refusal.FollowRefusal.{FollowRefusal}
 use Rattle.store_following.specs.declared.refusal.FollowRefusal.TheVariants as refusal
@@ -81,6 +82,8 @@ pub record FollowsStore {J S D : Type 0} (i : Sources J) (s : Shelves S D) (g : 
   -- or one from before it
   pub whole : IsTrue ((s.tells old).files) → (last : Image) (all : HasAll (i.left source) last)
       → IsNew (s.file old) name ⊎ HasEarlier all.start all.changes (s.file old) name → OnOk result (image_under (s.file new) name ≡ Some (Ok last))
+  -- where each frame has room too, nothing is refused but for a failed call or want of memory
+  pub complete : IsTrue ((s.tells old).files) → IsReady (i.left source) (s.file old) name limit → IfErr result IsFailed
   -- and so each crash leaves it
   pub crash : IsTrue ((s.tells old).files) → IsTrue ((s.tells old).crashes) → IfOk result (λ _. (first second : List ℕ)
       → s.may_leave new name first → s.may_leave new (second_name name) second → Some (image first second) ≡ image_under (s.file new) name)
