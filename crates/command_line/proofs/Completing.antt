@@ -112,7 +112,7 @@ stored_memory day status old error faults (stored.Preview what) h = λ none patt
 stored_memory day status old error faults (stored.Replace what) h = λ none patterns plain told text is well. memory_done status old error faults h none
 stored_memory day status old error faults (stored.Explain what) h = λ none patterns told csv rules is is_rules txns made. memory_done status old error faults h none
 stored_memory day status old error faults (stored.Feed name) h = λ none told shown is. memory_done status old error faults h none
-stored_memory day status old error faults (stored.Follow what) h = tt
+stored_memory day status old error faults (stored.Follow what) h = λ none told ready. memory_done status old error faults h none
 
 memory_complete : (day status : ℕ) (old : Scene) (error : Option (List ℕ)) (faults : ℕ) (what : Result Task UsageFault) → SaysMemory status old error faults
     → Completes day status old (with_error old error faults) what

@@ -26,6 +26,7 @@ use Rattle.text_store.specs.Files.{opened_limit, opened_size}
 use Rattle.text_store.specs.Image.{NoImage, image}
 use Rattle.desk.specs.Imports.{as_csv, entries_of}
 use Rattle.desk.specs.declared.csv_fault.CsvFault.{CsvFault}
+use Rattle.follower.specs.declared.fault.FrameFault.TheVariants as frame_fault
 use Rattle.desk.specs.States.{State, answer_to}
 use Rattle.desk.specs.declared.reply.Reply.{Reply}
 use Rattle.desk.specs.declared.reply.Reply.TheVariants as reply
@@ -40,6 +41,12 @@ use Rattle.store_text.specs.Lending.{NoneFailed}
 use Rattle.store_text.specs.Shelved.{image_in, image_under, or_empty, second_name}
 use Rattle.store_text.specs.declared.refusal.StoreRefusal.{StoreRefusal}
 use Rattle.store_text.specs.declared.refusal.StoreRefusal.TheVariants as store_refusal
+use Rattle.store_following.specs.Following.{FollowsStore}
+use Rattle.store_following.specs.Lines.{refusal_status}
+use Rattle.store_following.specs.Ready.{IsFailed, IsReady}
+use Rattle.store_following.specs.declared.refusal.FollowRefusal.{FollowRefusal}
+use Rattle.store_following.specs.declared.refusal.FollowRefusal.TheVariants as follow
+use Rattle.store_following.specs.declared.refusal.Followed.{Followed}
 use Rattle.store_making.specs.Making.{MakesStore}
 use Rattle.store_making.specs.Refusals.{files_refusal}
 use Rattle.store_making.specs.declared.refusal.JournalRefusal.{JournalRefusal}
@@ -51,6 +58,7 @@ use Rattle.store_commands.specs.Replies.{line_of as reply_line, status_of as rep
 use Rattle.store_commands.specs.declared.preview.Preview.{Preview}
 use Rattle.store_commands.specs.declared.preview.Preview.TheVariants as preview
 use Rattle.command_words.specs.declared.task.Explaining.{Explaining}
+use Rattle.command_words.specs.declared.task.Following.{Following}
 use Rattle.command_words.specs.declared.task.Importing.{Importing}
 use Rattle.command_words.specs.declared.task.Making.{Making}
 use Rattle.command_words.specs.declared.task.Replacing.{Replacing}
@@ -62,7 +70,7 @@ use Rattle.command_line.specs.BankFiles.{ExplainsBankFile, ExplainsBytes, ToldEx
 use Rattle.command_line.specs.Answers.{FindsText, IsOfFile, IsOfSource, IsStore, status_of}
 use Rattle.command_line.specs.Complete.{AnswersWell, AreWithin, CompletesStored, IsDone, NoneRose}
 use Rattle.command_line.specs.Files.{LoadsFile, ReadsShelf}
-use Rattle.command_line.specs.Frames.{FeedsFrames, ToldFrames}
+use Rattle.command_line.specs.Frames.{FeedsFrames, FollowsFrames, ToldFollowing, ToldFrames}
 use Rattle.command_line.specs.Previewing.{LoadsAny, NotesThen, OrMemory, PreviewsFiles, PreviewsImport, PreviewsNoted, PreviewsStore, ToldAsked, most_stored, or_none}
 use Rattle.command_line.specs.Runs.{ReadsText}
 use Rattle.command_line.specs.Scenes.{OutputsStay, Scene, SourceRose, scene, soundness, text_in}
@@ -183,6 +191,36 @@ module _ {S D : Type 0} (s : Shelves S D) (g : Disks D) (old new : S) where
       absurd (not_refused (image_under (s.file old) name) shown (store_refusal.Exists len) is (feeds.frames told))
   fed_by name shown (Err (store_refusal.Full size limit)) (Err x) feeds said told is none =
       absurd (not_refused (image_under (s.file old) name) shown (store_refusal.Full size limit) is (feeds.frames told))
+
+-- a source wasn't followed, for want of memory
+module _ {J S D : Type 0} (j : Inputs J) (s : Shelves S D) (g : Disks D) (what : Following) (source source_then : J) (old new : S) where
+  abbrev Does : Result Followed FollowRefusal → Type 0
+  Does made = FollowsStore j s g what.replica what.limit source source_then old new made
+
+  unfollowed : (e : FollowRefusal) → Does (Err e) → IsFailed e → NoneFailed s old new → (Rose (j.faults source) (j.faults source_then) → ⊥) → refusal_status e ≡ 6
+  unfollowed (follow.Store store_refusal.ReadFault) follows failed none reads = absurd (none.0 (follows.read_fault refl).0)
+  unfollowed (follow.Store store_refusal.DiskFault) follows failed none reads = absurd (none.1 (follows.disk_fault refl))
+  unfollowed (follow.Store store_refusal.Memory) follows failed none reads = refl
+  unfollowed (follow.Store store_refusal.Absent) follows failed none reads = absurd failed
+  unfollowed (follow.Store (store_refusal.NotAStore at)) follows failed none reads = absurd failed
+  unfollowed (follow.Store (store_refusal.Newer version)) follows failed none reads = absurd failed
+  unfollowed (follow.Store (store_refusal.Exists len)) follows failed none reads = absurd failed
+  unfollowed (follow.Store (store_refusal.Full size limit)) follows failed none reads = absurd failed
+  unfollowed (follow.Unread frame_fault.ReadFault) follows failed none reads = absurd (reads (follows.input_fault refl))
+  unfollowed (follow.Unread frame_fault.Memory) follows failed none reads = refl
+  unfollowed (follow.Unread (frame_fault.Cut had)) follows failed none reads = absurd failed
+  unfollowed (follow.Unread (frame_fault.BadFrame kind)) follows failed none reads = absurd failed
+  unfollowed (follow.Unread (frame_fault.TooLong said limit)) follows failed none reads = absurd failed
+  unfollowed follow.NoSnapshot follows failed none reads = absurd failed
+  unfollowed follow.Payload follows failed none reads = absurd failed
+
+  followed_by : (made : Result Followed FollowRefusal) (r : Result (List ℕ) Refusal) → Does made → ToldFollowing what.replica made r → IsTrue ((s.tells old).files)
+      → IsReady (j.left source) (s.file old) what.replica what.limit → NoneFailed s old new → (Rose (j.faults source) (j.faults source_then) → ⊥) → GoodAnswer r
+  followed_by (Ok followed) (Ok output) follows said told ready none reads = tt
+  followed_by (Ok followed) (Err x) follows said told ready none reads = ap status_of said
+  followed_by (Err e) (Ok output) follows said told ready none reads = tt
+  followed_by (Err e) (Err x) follows said told ready none reads =
+      ⊎_elim (λ memory. ap status_of memory) (λ line. ap status_of line ∙ unfollowed e follows (follows.complete told ready) none reads) said
 
 -- ---- a shelf that tells what it told
 
@@ -560,6 +598,17 @@ module _ {J O E S D M : Type 0} (j : Inputs J) (o : Outputs O) (e : Outputs E) (
     },
   )
 
+  follow_well : (what : Following) (old last : Outside J O E S M) (r : Result (List ℕ) Refusal) → FollowsFrames j s g what old last r → IsTrue ((s.tells old.shelf).files)
+      → IsReady (j.left old.streams.input) (s.file old.shelf) what.replica what.limit → NoneFailed s old.shelf last.shelf
+      → (Rose (j.faults old.streams.input) (j.faults last.streams.input) → ⊥) → IsWell old last r
+  follow_well what old last r follows told ready none reads = (
+    followed_by j s g what old.streams.input last.streams.input old.shelf last.shelf follows.made r follows.follows follows.told told ready none reads,
+    record {
+      output = ap (λ (x : Outside J O E S M). o.faults x.streams.output) follows.rest;
+      error = le_is (e.faults old.err) (e.faults last.err) (ap (λ (x : Outside J O E S M). e.faults x.err) follows.rest);
+    },
+  )
+
 -- ---- a run
 
 module _ {J O E S D M : Type 0} (j : Inputs J) (o : Outputs O) (e : Outputs E) (s : Shelves S D) (g : Disks D) (m : Makers M) (day : Day) (status : ℕ) (old new : Outside J O E S M) where
@@ -625,4 +674,8 @@ module _ {J O E S D M : Type 0} (j : Inputs J) (o : Outputs O) (e : Outputs E) (
       done (stored.Feed name) runs none
       (⊎_elim (λ feeds. feed_well j o e s g m day name old runs.last runs.answer shown feeds told is (none_last (stored.Feed name) runs none))
       (λ h. unread_well (stored.Feed name) runs none h) runs.answers)
-  complete_stored (stored.Follow what) runs = tt
+  complete_stored (stored.Follow what) runs = λ none told ready.
+      done (stored.Follow what) runs none
+      (⊎_elim (λ follows. follow_well j o e s g m day what old runs.last runs.answer follows told ready
+      (none_last (stored.Follow what) runs none) (input_last (stored.Follow what) runs none))
+      (λ h. unread_well (stored.Follow what) runs none h) runs.answers)

@@ -12,6 +12,7 @@ use Rattle.desk.specs.declared.request.Request.TheVariants as request
 use Rattle.sample_text.specs.Sample.{sample_text}
 use Rattle.store_text.specs.Shelved.{image_under, or_empty, second_name}
 use Rattle.store_making.specs.Refusals.{files_refusal}
+use Rattle.store_following.specs.Ready.{IsReady}
 use Rattle.store_commands.specs.Asking.{state_under}
 use Rattle.store_commands.specs.Replacing.{replacement}
 use Rattle.store_commands.specs.Replies.{status_of as reply_status}
@@ -20,6 +21,7 @@ use Rattle.refusals.specs.declared.refusal.PatternOf.{PatternOf}
 use Rattle.command_words.specs.declared.task.Origin.{Origin}
 use Rattle.command_words.specs.declared.task.Origin.TheVariants as origins
 use Rattle.command_words.specs.declared.task.Explaining.{Explaining}
+use Rattle.command_words.specs.declared.task.Following.{Following}
 use Rattle.command_words.specs.declared.task.Importing.{Importing}
 use Rattle.command_words.specs.declared.task.Making.{Making}
 use Rattle.command_words.specs.declared.task.Replacing.{Replacing}
@@ -124,6 +126,11 @@ abbrev pub CompletesFeed : List ℕ → ℕ → Scene → Scene → Type 0
 CompletesFeed name status old new =
     NoneRose old new → IsTrue old.files_told → (shown : Image) → image_under old.file name ≡ Some (Ok shown) → IsDone status
 
+-- a replica follows all frames of a history, in their order, for each of which it has room
+abbrev pub CompletesFollow : Following → ℕ → Scene → Scene → Type 0
+CompletesFollow what status old new =
+    NoneRose old new → IsTrue old.files_told → IsReady old.left old.file what.replica what.limit → IsDone status
+
 abbrev pub CompletesStored : StoreTask → ℕ → ℕ → Scene → Scene → Type 0
 CompletesStored (stored.Init what) day status old new = CompletesInit what status old new
 CompletesStored (stored.Add name) day status old new = CompletesAdd name day status old new
@@ -132,7 +139,7 @@ CompletesStored (stored.Preview what) day status old new = CompletesPreview what
 CompletesStored (stored.Replace what) day status old new = CompletesReplace what day status old new
 CompletesStored (stored.Explain what) day status old new = CompletesExplain what status old new
 CompletesStored (stored.Feed name) day status old new = CompletesFeed name status old new
-CompletesStored (stored.Follow what) day status old new = Unit {0}
+CompletesStored (stored.Follow what) day status old new = CompletesFollow what status old new
 
 abbrev pub CompletesTask : ℕ → ℕ → Scene → Scene → Task → Type 0
 CompletesTask day status old new (task.Over given) = CompletesText given day status old new
