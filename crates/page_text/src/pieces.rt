@@ -1,4 +1,5 @@
-//! The bytes of the page and its policy. `tools/page` writes this file of `page/`.
+//! The bytes of the page, and the digests of its script and style. `tools/page` writes this file of `page/`.
+ghost use Rattle.page_text.specs.Policies.{IsDigest};
 
 use hl_base::Memory;
 
@@ -205,7 +206,16 @@ pub(crate) fn put_page(all: &mut Vec<u8>) -> Result<(), Memory> {
     Ok(())
 }
 
-/// What a browser may load for it.
-pub(crate) fn page_policy() -> &'static str {
-    "default-src 'none'; connect-src 'self'; script-src 'sha256-uZ8v52pD4w0WYiA6cBn8RT1IH3adVLSmTLAsT4ASICw='; style-src 'sha256-1dwR+IjoaYxmj3E+LINlPxs9DJUsJVLL7EtU6WnJ7TY='; frame-ancestors 'none'"
+/// The SHA-256 digest of the script, in base64.
+pub(crate) fn script_digest() -> &'static str
+    ensures { IsDigest result.now }
+{
+    "uZ8v52pD4w0WYiA6cBn8RT1IH3adVLSmTLAsT4ASICw="
+}
+
+/// The SHA-256 digest of the style, in base64.
+pub(crate) fn style_digest() -> &'static str
+    ensures { IsDigest result.now }
+{
+    "1dwR+IjoaYxmj3E+LINlPxs9DJUsJVLL7EtU6WnJ7TY="
 }
