@@ -6,8 +6,8 @@ const $ = (id) => document.getElementById(id);
 
 // An element: h("p.soft#id", { attributes and listeners }, ...inside).
 function h(what, about, ...inside) {
-	const [tag, ...marks] = what.split(/(?=[.#])/), isSvg = /^(svg|path|line|rect|text)$/.test(tag);
-	const made = isSvg ? document.createElementNS("http://www.w3.org/2000/svg", tag) : document.createElement(tag);
+	const [tag, ...marks] = what.split(/(?=[.#])/);
+	const made = /^(svg|path|line|rect|text)$/.test(tag) ? document.createElementNS("http://www.w3.org/2000/svg", tag) : document.createElement(tag);
 	for (const mark of marks) mark[0] === "#" ? (made.id = mark.slice(1)) : made.classList.add(mark.slice(1));
 	if (about?.constructor === Object) set(made, about);
 	else inside.unshift(about);
@@ -16,15 +16,17 @@ function h(what, about, ...inside) {
 }
 function set(made, about) {
 	for (const [key, value] of Object.entries(about)) {
+		if (value === false || value === undefined) continue;
 		if (key.startsWith("on")) on(made, key.slice(2), value);
 		else if (key === "value") made.value = value;
-		else if (value !== false && value !== undefined) made.setAttribute(key, value === true ? "" : value);
+		else made.setAttribute(key, value === true ? "" : value);
 	}
 }
-const button = (what, text, onclick, about) => h("button" + what, { type: onclick ? "button" : "submit", ...about, ...(onclick && { onclick }) }, text);
-const labelled = (label, input, kind) => h("div" + (kind || ""), h("label", { for: (input.firstElementChild || input).id || input.id }, label), input);
+const button = (what, text, onclick, about) => h("button" + what, { type: onclick ? "button" : "submit", onclick, ...about }, text);
+const labelled = (label, input, kind = "") => h("div" + kind, h("label", { for: (input.firstElementChild || input).id || input.id }, label), input);
 const on = (made, kind, act) => made.addEventListener(kind, act);
 const put = (made, ...inside) => made.replaceChildren(...inside.flat(9).filter((one) => one));
+const headed = (names, ...sums) => h("thead", h("tr", names.map((name) => h("th", name)), sums.map((name) => h("th.sum", name))));
 const live = () => h("div", { "aria-live": "polite" });
 
 // Long work gives the browser its turn every few milliseconds.
@@ -48,6 +50,7 @@ async function each(list, act, step = 100) {
 // A refused request: its error line and its status, 0 where no reply came.
 const refusal = (status, line) => Object.assign(new Error(line), { status });
 const server = { revision: null, isLost: false };
+const isCurrent = ({ revision }) => revision !== undefined && revision === server.revision;
 let queue = Promise.resolve();
 
 // One request at a time, so that no reply is older than the one before it.
@@ -56,6 +59,11 @@ function ask(path, words = [], form) {
 	queue = reply.catch(() => {});
 	return reply;
 }
+
+// Posts a form. `place` says in words where a line of the text is that an error line names.
+const post = (path, form, place) => ask(path, [], form).catch((fault) => {
+	throw Object.assign(fault, { place });
+});
 
 async function send(path, words, form) {
 	const query = words.map((word) => "q=" + encodeURIComponent(word)).join("&"), slow = setTimeout(tellState, 1500, "Waiting for the server");
@@ -88,15 +96,20 @@ function refresh() {
 	shown.changed?.();
 }
 
-// Asks for the revision every five seconds while the page is seen.
-let asked = 0, timer = 0;
+// Asks for the revision while the page is seen, five seconds after the last reply.
+let asked = 0, timer = 0, isAsking = false;
 function plan() {
 	clearTimeout(timer);
-	if (!document.hidden) timer = setTimeout(poll, Math.max(0, asked + 5000 - Date.now()));
+	if (!document.hidden && !isAsking) timer = setTimeout(poll, Math.max(0, asked + 5000 - Date.now()));
 }
 async function poll() {
-	asked = Date.now();
-	await ask("/accounts", ["date:0001-01-01"]).catch(() => {});
+	isAsking = true;
+	await queue;
+	if (!document.hidden) {
+		await ask("/accounts", ["date:0001-01-01"]).catch(() => {});
+		asked = Date.now();
+	}
+	isAsking = false;
 	plan();
 }
 on(document, "visibilitychange", plan);
@@ -130,19 +143,19 @@ const SENTENCES = [
 	[/^pattern: (.*)/, "“$1” isn't a pattern that can be read. Write \\ before a sign that is meant as itself."],
 	[/^range: (.*)/, "The sums of “$1” are too large to be shown."],
 	[/^limit: (\d+) of (\d+)/, "That is too much: $1, where at most $2 is allowed."],
-	[/^rule (pattern )?line (\d+)/, "Line $2 of the rules can't be read."],
+	[/^rule (pattern )?line (\d+)/, "The rule in line $2 can't be read."],
 	[/^entry line (\d+).*/, "Line $1 doesn't begin an entry. An entry begins with its day, and its postings are indented."],
 	[/^forbidden: need (\w+), have (\w+)/, "This server doesn't allow that: it was started with --allow $2, and this needs --allow $1."],
 	[/^full.*/, "The store has reached its limit. Nothing was saved."],
 	[/^disk fault/, "The server couldn't write to its disk. Nothing was saved."],
 	[/^memory/, "The server ran out of memory. Nothing was saved."],
-	[/^body/, "That is too long for one request. Nothing was saved."],
+	[/^(body|head)/, "That is too long for one request. Nothing was saved."],
+	[/^origin/, "The server takes this for a request from another site. A proxy before it has to pass on the Host field."],
 	[/.*/, "The page and the server disagree. Load the page again."],
 ];
 
-// The sentence for an error line. `place` names a line of the journal in words, where the caller knows what is there.
-function sentence(line, place) {
-	const text = line.replace(/^error: /, "");
+function sentence({ message, place }) {
+	const text = message.replace(/^error: /, "");
 	const [, what, number, kind, cause, other] = /^(line|record) (\d+): (unbalanced|assertion: wanted)? ?(.*?)(?:, found (.*))?$/.exec(text) || [];
 	const where = what === "record" ? `Nothing was imported: record ${number} of the bank's file` : place?.(+number) || `Line ${number} of the journal`;
 	if (kind === "unbalanced") return `${where} begins an entry that doesn't balance: its amounts sum to ${cause}, and not to zero.`;
@@ -151,10 +164,12 @@ function sentence(line, place) {
 }
 
 const notice = (kind, ...inside) => h("div.notice" + kind, inside);
-function refused(fault, place) {
+function refused(fault) {
 	if (fault.status === undefined) throw fault;
-	return notice(".bad", h("p", sentence(fault.message, place)), fault.status > 0 && h("code", fault.message));
+	return notice(".bad", h("p", sentence(fault)), fault.status > 0 && h("code", fault.message));
 }
+const done = (what, { revision }) => notice(".good", `${what} The journal is at revision ${revision}.`);
+const isSame = ({ text }) => text.startsWith("unchanged");
 const say = (...parts) => put($("said"), parts);
 
 const SYMBOL = '(?:"[^"\\n]*"|[^\\x00-\\x23\\x26-\\x40\\x5b-\\x5e\\x60\\x7b-\\x7f]+)';
@@ -274,34 +289,31 @@ const BLOCK = /^comment[ \t\r]*\n?$/, BLOCK_END = /^end comment[ \t\r]*\n?$/, GA
 async function cutItems(text) {
 	const items = [];
 	let at = 0, line = 1, row = "";
-	const look = () => {
-		const end = text.indexOf("\n", at);
-		row = at < text.length ? text.slice(at, end < 0 ? text.length : end + 1) : null;
-	};
+	const look = () => (row = text.slice(at, text.indexOf("\n", at) + 1 || text.length));
 	const take = () => {
 		at += row.length;
 		line += 1;
 		look();
 	};
 	look();
-	while (row !== null) {
+	while (row) {
 		if (items.length % 100 === 0) await breathe();
-		const item = { from: at, line, kind: BLOCK.test(row) ? "block" : GAP.test(row) ? "gap" : INNER.test(row) ? "stray" : /^\d/.test(row) ? "entry" : "head", head: row };
+		const from = at, item = { line, kind: BLOCK.test(row) ? "block" : GAP.test(row) ? "gap" : INNER.test(row) ? "stray" : /^\d/.test(row) ? "entry" : "head", head: row };
 		take();
 		if (item.kind === "block") {
-			while (row !== null && !BLOCK_END.test(row)) take();
-			if (row !== null) take();
+			while (row && !BLOCK_END.test(row)) take();
+			if (row) take();
 		} else {
 			const more = item.kind === "gap" ? GAP : INNER;
-			while (row !== null && more.test(row)) take();
+			while (row && more.test(row)) take();
 		}
-		item.to = at;
+		item.text = text.slice(from, at);
 		items.push(item);
 	}
 	return items;
 }
 
-// An entry as `print` writes it: its day, its texts, and its postings with their amounts.
+// An entry as `print` writes it.
 function readEntry(block) {
 	const [first, ...lines] = block.split("\n");
 	const [, day, sign, code, title = "", comment = ""] = /^(\S+)(?: ([!*]))?(?: \(([^)]*)\))?(?: ([^;]*?))?(?:  ; (.*))?$/.exec(first);
@@ -318,7 +330,7 @@ const bare = (account) => account.replace(/^[([](.*)[)\]]$/, "$1");
 // The journal at one revision: its text with the items, and the entries by day with what `print -x` writes.
 let held = {}, holding = null;
 function journal() {
-	if (held.revision === server.revision && server.revision !== null) return held;
+	if (isCurrent(held)) return held;
 	holding ||= hold().finally(() => (holding = null));
 	return holding;
 }
@@ -336,24 +348,22 @@ async function hold() {
 	await each(entries, (entry, index) => Object.assign(entry, { block: blocks[index] }, readEntry(blocks[index])));
 	return (held = { revision: whole.revision, text: whole.text, items, entries });
 }
-const itemText = (from, index) => from.text.slice(from.items[index].from, from.items[index].to);
-const linesOf = (text) => (text ? text.split("\n").length - (text.endsWith("\n") ? 1 : 0) : 0);
+const linesOf = (text) => (text.match(/\n|[^\n]$/g) || []).length;
 
 // Where an item of an old text is in a new one, or -1: in its place from the front or from the end, else the entry with the
 // most lines of it.
-function follow(old, index, now) {
-	const same = (a, b) => itemText(old, a) === itemText(now, b);
-	const was = old.items.length, is = now.items.length;
+function follow({ items: old }, index, { items: now }) {
+	const same = (a, b) => old[a].text === now[b].text, was = old.length, is = now.length;
 	let front = 0, back = 0;
 	while (front < Math.min(was, is) && same(front, front)) front++;
 	if (index < front) return index;
 	while (back < Math.min(was, is) - front && same(was - 1 - back, is - 1 - back)) back++;
 	if (index >= was - back) return index + is - was;
-	if (was === is && now.items[index].kind === "entry") return index;
-	const lines = new Set(itemText(old, index).split("\n").filter((line) => line.trim()));
+	if (was === is && now[index].kind === "entry") return index;
+	const lines = new Set(old[index].text.split("\n").filter((line) => line.trim()));
 	let best = -1, most = 0;
 	for (let at = front; at < is - back; at++) {
-		const count = now.items[at].kind === "entry" ? itemText(now, at).split("\n").filter((line) => lines.has(line)).length : 0;
+		const count = now[at].kind === "entry" ? now[at].text.split("\n").filter((line) => lines.has(line)).length : 0;
 		if (count > most) [best, most] = [at, count];
 	}
 	return best;
@@ -366,10 +376,10 @@ const places = (from, first, size, more) => (line) => {
 	return item?.kind === "entry" && `Line ${line} of the journal, in the entry “${item.head.trim()}”,`;
 };
 function placesAdded({ text, items }) {
-	const isOpen = items.at(-1)?.kind === "block" && !BLOCK_END.test(text.slice(text.lastIndexOf("\n", text.length - 2) + 1));
+	const isOpen = items.at(-1)?.kind === "block" && !/\nend comment[ \t\r]*\n?$/.test(text);
 	return places({ items }, linesOf(text) + isOpen + (text !== "") + 1, Infinity, 0);
 }
-const placesChanged = (from, index, text) => places(from, from.items[index].line, linesOf(text), linesOf(text) - linesOf(itemText(from, index)));
+const placesChanged = (from, index, text) => places(from, from.items[index].line, linesOf(text), linesOf(text) - linesOf(from.items[index].text));
 
 const wordsOf = (text) => ((text || "").match(/(?:"[^"]*"|'[^']*'|[^\s"'])+/g) || []).map((word) => word.replace(/"([^"]*)"|'([^']*)'/g, "$1$2"));
 const two = (number, wide = 2) => String(number).padStart(wide, "0");
@@ -382,14 +392,14 @@ function addMonths(month, count) {
 // The first and the last month with postings, from a report's title; and the years between.
 let spanHeld = {};
 async function span() {
-	if (spanHeld.revision === server.revision && server.revision !== null) return spanHeld;
+	if (isCurrent(spanHeld)) return spanHeld;
 	const reply = await ask("/balance", ["-M", "--depth=1"]).catch(() => ask("/balance", ["-Y", "--depth=1"]));
 	const [, first, last] = /(\d{4}-\d\d)-\d\d\.\.(\d{4}-\d\d)-\d\d/.exec(reply.text);
 	const years = [];
 	for (let year = +last.slice(0, 4); year >= +first.slice(0, 4); year--) years.push(two(year, 4));
 	return (spanHeld = { revision: reply.revision, first, last, years });
 }
-function wordsOfDays(value, { last }) {
+function wordsOfDays(value, last) {
 	if (/^\d{4}$/.test(value)) return ["-p", value];
 	if (/^to/.test(value)) return ["-e", two(+value.slice(2) + 1, 4) + "-01-01"];
 	return value === "12" ? ["-b", addMonths(last, -11) + "-01", "-e", addMonths(last, 1) + "-01"] : [];
@@ -402,6 +412,8 @@ function address(name, words) {
 	const query = String(new URLSearchParams(Object.entries(words).filter(([, value]) => value)));
 	return "#/" + name + (query && "?" + query);
 }
+const toAccount = (account, days) => ({ id: "a:" + account, href: address("register", { account, days: /^\d{4}$/.test(days) && days }) });
+
 // Goes to a view; with something said it stays to be read there.
 function go(to, ...said) {
 	say(...said);
@@ -418,9 +430,9 @@ async function show(again) {
 	isLoading = true;
 	main.setAttribute("aria-busy", "true");
 	try {
-		await VIEWS[name](new URLSearchParams(query), view);
+		await VIEWS[name](new URLSearchParams(query), view, name);
 	} catch (fault) {
-		view.parts = [view.bar, refused(fault), button("#retry", "Try again", () => show())];
+		view.parts = [refused(fault), button("#retry", "Try again", () => show())];
 		view.revision = server.revision;
 	}
 	if (mine !== turn) return;
@@ -431,7 +443,7 @@ async function show(again) {
 	const current = "#/" + ({ register: "balance", edit: "journal" }[name] || name);
 	for (const link of document.querySelectorAll("nav a, #adding")) set(link, { "aria-current": link.getAttribute("href") === current ? "page" : "false" });
 	const heading = h("h1", { tabindex: -1 }, view.title);
-	put(main, h("div.head", heading, h("div.soft", view.aside)), view.parts);
+	put(main, h("div.head", heading, h("div.soft", view.aside)), view.bar, view.parts);
 	main.removeAttribute("aria-busy");
 	if (focused && $(focused)) $(focused).focus({ preventScroll: true });
 	else if (!again && !isFirst) {
@@ -442,7 +454,7 @@ async function show(again) {
 }
 
 function select(id, value, options) {
-	const made = h("select", { id, name: id }, options.map(([value, text]) => h("option", { value }, text)));
+	const made = h("select", { id, name: id }, options.map(([value, text = value]) => h("option", { value }, text)));
 	made.value = value;
 	if (made.selectedIndex < 0) made.selectedIndex = 0;
 	return made;
@@ -452,20 +464,19 @@ function select(id, value, options) {
 function tools(name, words, ...inside) {
 	const to = (event) => {
 		event.preventDefault();
-		go(address(name, Object.fromEntries(new FormData(form))));
+		go(address(name, Object.fromEntries(new FormData(event.currentTarget))));
 	};
-	const search = h("input#search", { type: "search", name: "q", value: words.get("q") || "", placeholder: "food  desc:market  amt:>100  not:rent" });
-	const form = h("form.tools", { role: "search", autocomplete: "off", onsubmit: to, onchange: (event) => event.target !== search && to(event) },
-		inside, labelled("Search words", search, ".wide"), h("button", "Show"));
-	return form;
+	return h("form.tools", { role: "search", autocomplete: "off", onsubmit: to, onchange: (event) => event.target.id !== "search" && to(event) }, inside,
+		labelled("Search words", h("input#search", { type: "search", name: "q", value: words.get("q"), placeholder: "food  desc:market  amt:>100  not:rent" }), ".wide"), h("button", "Show"));
 }
 
-function growing(place, rows, make, count) {
+// Rows from the last one on, more of them when the end is near.
+function growing(place, all, make, count) {
+	const rows = [...all].reverse();
 	let at = 0;
 	const watch = new IntersectionObserver((seen) => seen[0].isIntersecting && grow(), { rootMargin: "600px" });
 	const grow = () => {
-		place.append(...rows.slice(at, at + count).map(make));
-		at += count;
+		place.append(...rows.slice(at, (at += count)).map(make));
 		more.hidden = at >= rows.length;
 		more.textContent = `Show more (${rows.length - at} left)`;
 		watch.unobserve(more);
@@ -478,39 +489,38 @@ function growing(place, rows, make, count) {
 const folded = new Set();
 
 async function balanceView(words, view) {
-	const days = words.get("days") || "", { years } = await span(), isChange = /^\d/.test(days);
+	const days = words.get("days"), { years } = await span(), isChange = /^\d/.test(days);
 	view.title = isChange ? "Changes in " + days : "Balances";
 	view.bar = tools("balance", words,
 		labelled("Days", select("days", days, [["", "All days"], ...years.map((year) => ["to" + year, "Up to the end of " + year]), ...years.map((year) => [year, "Changes in " + year])])));
-	const reply = await ask("/balance", ["--tree", ...wordsOfDays(days, {}), ...wordsOf(words.get("q"))]);
+	const reply = await ask("/balance", ["--tree", ...wordsOfDays(days), ...wordsOf(words.get("q"))]);
 	const { rows, total } = readTree(reply.text);
-	const hasBelow = (index) => rows[index + 1]?.level > rows[index].level;
-	const turnRow = (name, isFolded) => {
-		folded[isFolded ? "add" : "delete"](name);
+	const fold = (isFolded, some) => {
+		for (const { name } of some) folded[isFolded ? "add" : "delete"](name);
 		draw();
 	};
 	const lines = rows.map((row, index) => {
-		const fold = hasBelow(index) && button(".fold", "", () => turnRow(row.name, !folded.has(row.name)), { id: "f:" + row.name, "aria-label": "Accounts below " + row.name });
-		const line = h("tr" + (row.level ? "" : ".first-level"), h("th", h("div.line", fold || h("span.fold"),
-			h("a", { href: address("register", { account: row.name, days: isChange && days }), id: "a:" + row.name }, row.part))), h("td.sum", money(row.sums)));
+		const mark = rows[index + 1]?.level > row.level && button(".fold", "", () => fold(!folded.has(row.name), [row]), { id: "f:" + row.name, "aria-label": "Accounts below " + row.name });
+		const line = h("tr" + (row.level ? "" : ".first-level"), h("th", h("div.line", mark || h("span.fold"),
+			h("a", toAccount(row.name, days), row.part))), h("td.sum", money(row.sums)));
 		line.style.setProperty("--level", row.level);
-		return { line, fold, row };
+		return { line, mark, row };
 	});
 	const draw = () => {
 		let from = Infinity;
-		for (const { line, fold, row } of lines) {
+		for (const { line, mark, row } of lines) {
 			if (row.level <= from) from = Infinity;
 			line.hidden = row.level > from;
-			if (fold) set(fold, { "aria-expanded": String(!folded.has(row.name)) });
-			if (fold && folded.has(row.name)) from = Math.min(from, row.level);
+			if (mark) set(mark, { "aria-expanded": String(!folded.has(row.name)) });
+			if (mark && folded.has(row.name)) from = Math.min(from, row.level);
 		}
 	};
-	const all = (id, text, isFolded) => button(".plain#" + id, text, () => lines.forEach(({ fold, row }) => fold && turnRow(row.name, isFolded)));
+	const all = (id, text, isFolded) => button(".plain#" + id, text, () => fold(isFolded, rows));
 	draw();
 	view.revision = reply.revision;
-	view.parts = [view.bar, rows.length ? [h("div.folds", all("open", "Open all", false), all("close", "Close all", true)),
-		h("table.tree", h("thead", h("tr", h("th", "Account"), h("th.sum", isChange ? "Change" : "Balance"))), h("tbody", lines.map(({ line }) => line)),
-			h("tfoot", h("tr", h("th", "Total"), h("td.sum", money(total)))))] : h("p.soft", "No account has a balance here. ", h("a", { href: "#/add" }, "Add an entry"), " or ", h("a", { href: "#/import" }, "import a bank's file"), ".")];
+	view.parts = rows.length ? [h("div.row", all("open", "Open all", false), all("close", "Close all", true)),
+		h("table.tree", headed(["Account"], isChange ? "Change" : "Balance"), h("tbody", lines.map(({ line }) => line)),
+			h("tfoot", h("tr", h("th", "Total"), h("td.sum", money(total)))))] : h("p.soft", "No account has a balance here. ", h("a", { href: "#/add" }, "Add an entry"), " or ", h("a", { href: "#/import" }, "import a bank's file"), ".");
 }
 
 function chart(numbers, label, draw, caption) {
@@ -521,7 +531,7 @@ function chart(numbers, label, draw, caption) {
 		if (!now || now === width) return;
 		width = now;
 		const y = (value) => (8 + (height - 30) * (high === low ? 1 : (high - value) / (high - low))).toFixed(1);
-		put(place, h("svg", { viewBox: `0 0 ${width} ${height}`, height, role: "img", "aria-label": label }, h("line", { x1: 0, x2: width, y1: y(0), y2: y(0) }), draw(width, height - 4, y)));
+		put(place, h("svg", { viewBox: `0 0 ${width} ${height}`, height, role: "img", "aria-label": label }, h("line", { x2: width, y1: y(0), y2: y(0) }), draw(width, height - 4, y)));
 	}).observe(place);
 	return h("figure", place, h("figcaption", caption));
 }
@@ -534,7 +544,7 @@ function balanceChart(rows, symbol, account) {
 	const text = tell("Highest", Math.max(...values)) + tell(", lowest", Math.min(...values));
 	return chart(values, `Running balance of ${account}. ${text}`, (width, bottom, y) => {
 		const path = values.map((value, index) => `${index ? "H" : "M"}${(((times[index] - first) / all) * width).toFixed(1)}${index ? "V" : " "}${y(value)}`).join("") + "H" + width;
-		return [h("path.under", { d: `${path}V${y(0)}H0Z` }), h("path.curve", { d: path }), h("text", { x: 0, y: bottom }, ends[0].day), h("text", { x: width, y: bottom, "text-anchor": "end" }, ends.at(-1).day)];
+		return [h("path.under", { d: `${path}V${y(0)}H0Z` }), h("path.curve", { d: path }), h("text", { y: bottom }, ends[0].day), h("text", { x: width, y: bottom, "text-anchor": "end" }, ends.at(-1).day)];
 	}, text);
 }
 
@@ -552,25 +562,25 @@ function barChart({ sections, net }, heads, symbol) {
 }
 
 async function registerView(words, view) {
-	const account = words.get("account") || "", days = words.get("days") || "", { years } = await span();
+	const account = words.get("account") || "", days = words.get("days"), { years } = await span();
 	view.title = account;
-	view.bar = tools("register", words, h("input", { type: "hidden", name: "account", value: account }), labelled("Days", select("days", days, [["", "All days"], ...years.map((year) => [year, year])])));
-	const reply = await ask("/register", ["-H", ...wordsOfDays(days, {}), `acct:^${literal(account)}(:|$)`, ...wordsOf(words.get("q"))]);
+	view.bar = tools("register", words, h("input", { type: "hidden", name: "account", value: account }), labelled("Days", select("days", days, [["", "All days"], ...years.map((year) => [year])])));
+	const reply = await ask("/register", ["-H", ...wordsOfDays(days), `acct:^${literal(account)}(:|$)`, ...wordsOf(words.get("q"))]);
 	const rows = await readRegister(reply.text), body = h("tbody"), symbols = await symbolsOf(rows.map((row) => row.totals)), plain = plainly(symbols);
 	await nameRows(rows, account.toLowerCase(), await journal());
 	view.revision = reply.revision;
-	view.parts = [view.bar, h("p.soft", "No posting fits.")];
+	view.parts = h("p.soft", "No posting fits.");
 	if (!rows.length) return;
 	view.aside = ["Balance ", h("span.total", money(rows.at(-1).totals))];
-	const more = growing(body, rows.slice().reverse(), (row) => h("tr", h("td", row.day),
+	const more = growing(body, rows, (row) => h("tr", h("td", row.day),
 		h("td", row.entry ? h("a", { href: editAddress(row.entry) }, row.title || "(no description)") : row.title, row.account !== account && h("div.comment", parted(row.account))),
 		h("td.sum", plain(row.amount)), h("td.sum", plain(row.totals))), 100);
-	view.parts = [view.bar, symbols.slice(0, 3).map((symbol) => balanceChart(rows, symbol, account)),
-		h("table.register", h("thead", h("tr", h("th", "Day"), h("th", "Description"), h("th.sum", "Amount"), h("th.sum", "Balance"))), body), more];
+	view.parts = [symbols.slice(0, 3).map((symbol) => balanceChart(rows, symbol, account)),
+		h("table.register", headed(["Day", "Description"], "Amount", "Balance"), body), more];
 }
 
-// A register cuts descriptions and accounts. The full ones are those of an entry of that day with a posting that agrees with
-// what is shown, and has that amount; where there is none, what is shown stays.
+// A register cuts descriptions and accounts. An entry of that day with a posting that agrees with what is shown, and has that
+// amount, has the full ones.
 async function nameRows(rows, account, { entries }) {
 	const legs = new Map();
 	await each(entries, (entry) => {
@@ -592,13 +602,13 @@ async function nameRows(rows, account, { entries }) {
 }
 
 async function statementView(words, view, name) {
-	const isIncome = name === "income", known = await span(), { first, last, years } = known;
+	const isIncome = name === "income", { first, last, years } = await span();
 	view.title = isIncome ? "Income statement" : "Balance sheet";
-	const days = select("days", words.get("days") || "", [addMonths(first, 11) < last ? ["12", "Last 12 months"] : [], ["all", "All days"], ...years.map((year) => [year, year])].filter((one) => one[0]));
+	const days = select("days", words.get("days"), [addMonths(first, 11) < last ? ["12", "Last 12 months"] : [], ["all", "All days"], ...years.map((year) => [year])].filter((one) => one[0]));
 	const by = select("by", words.get("by"), [["-M", "Months"], ["-Q", "Quarters"], ["-Y", "Years"]]);
 	view.bar = tools(name, words, labelled("Days", days), labelled("Columns", by));
 	const reply = await ask(isIncome ? "/incomestatement" : "/balancesheet",
-		[by.value, ...(isIncome ? ["-T", "-A"] : []), ...wordsOfDays(days.value, known), ...wordsOf(words.get("q"))]);
+		[by.value, ...(isIncome ? ["-T", "-A"] : []), ...wordsOfDays(days.value, last), ...wordsOf(words.get("q"))]);
 	const statement = readStatement(reply.text), { heads, sections, net, dates } = statement;
 	const symbols = await symbolsOf([...sections.flatMap((section) => section.totals), ...net]), plain = plainly(symbols);
 	const widths = heads.map((head) => head.length);
@@ -611,14 +621,14 @@ async function statementView(words, view, name) {
 	const body = [];
 	for (const section of sections) {
 		const rows = [];
-		await each(section.rows, ({ name, cells: own }) => rows.push(h("tr", h("th", h("a", { href: address("register", { account: name, days: /^\d{4}$/.test(days.value) && days.value }), id: "a:" + name }, parted(name))), cells(own))), 10);
+		await each(section.rows, ({ name, cells: own }) => rows.push(h("tr", h("th", h("a", toAccount(name, days.value), parted(name))), cells(own))), 10);
 		body.push(h("tbody", h("tr.section", h("th", section.name), cells()), rows, totals("Total " + section.name.toLowerCase(), section.totals)));
 	}
-	const table = h("table.months" + (shown.name === name ? "" : ".new"), h("thead", h("tr", h("th", "Account"), heads.map((head) => h("th.sum", head)))), body, h("tfoot", totals("Net", net)));
+	const table = h("table.months" + (shown.name === name ? "" : ".new"), headed(["Account"], ...heads), body, h("tfoot", totals("Net", net)));
 	const scroll = h("div.scroll", { tabindex: 0, role: "region", "aria-label": view.title }, table);
 	view.revision = reply.revision;
 	view.aside = dates && `${dates[1]} to ${dates[2]}`;
-	view.parts = [view.bar, symbols.slice(0, 3).map((symbol) => barChart(statement, isIncome ? heads.slice(0, -2) : heads, symbol)), scroll];
+	view.parts = [symbols.slice(0, 3).map((symbol) => barChart(statement, isIncome ? heads.slice(0, -2) : heads, symbol)), scroll];
 	// Beside the accounts stand whole columns, the last ones first.
 	const root = getComputedStyle(document.documentElement), sizes = widths.map((width) => width / 2 + 0.6);
 	const fit = () => {
@@ -661,17 +671,17 @@ async function journalView(words, view) {
 			if (at < from.entries.length) entries.push(from.entries[at++]);
 		});
 	}
-	const list = h("div"), more = growing(list, entries.slice().reverse(), entryRow, 60);
+	const list = h("div"), more = growing(list, entries, entryRow, 60);
 	view.revision = from.revision;
 	view.aside = sought.length ? `${entries.length} of ${from.entries.length} entries` : "Entries: " + entries.length;
-	view.parts = [view.bar, list, !entries.length && h("p.soft", "No entry fits."), more];
+	view.parts = [list, !entries.length && h("p.soft", "No entry fits."), more];
 }
 
 // A text field with a list of what fits below it: the arrows choose, Enter or Tab takes, Escape closes.
 function completing(input, find, taken) {
-	const list = h("ul", { role: "listbox", id: input.id + "-list", hidden: true, "aria-label": "Suggestions" });
+	const list = h("ul", { role: "listbox", id: input.id + "-list", "aria-label": "Suggestions" });
 	let found = [], at = -1;
-	set(input, { role: "combobox", "aria-controls": list.id, "aria-autocomplete": "list", "aria-expanded": "false" });
+	set(input, { role: "combobox", "aria-controls": list.id, "aria-autocomplete": "list" });
 	const mark = (to) => {
 		at = to;
 		[...list.children].forEach((line, index) => set(line, { "aria-selected": String(index === at) }));
@@ -699,11 +709,13 @@ function completing(input, find, taken) {
 		if (step) {
 			if (list.hidden) open();
 			if (!list.hidden) mark(((at + 2 + step + found.length) % (found.length + 1)) - 1);
-		} else if (list.hidden || !(key === "Escape" || (at >= 0 && /^(Enter|Tab)$/.test(key)))) return;
+		} else if (list.hidden) return;
 		else if (key === "Escape") close();
-		else take(at);
+		else if (at >= 0 && /^(Enter|Tab)$/.test(key)) take(at);
+		else return;
 		if (key !== "Tab") event.preventDefault();
 	} });
+	close();
 	return h("div.drop", input, list);
 }
 
@@ -752,16 +764,15 @@ function makeAdder() {
 		text.rows = Math.max(6, linesOf(text.value) + 1);
 		put(result);
 		clearTimeout(timer);
-		const isWhole = isText || (title.value.trim() && rows[1][0].value.trim() && rows.some(([, amount]) => amount.value.trim()));
-		if (isWhole) timer = setTimeout(check, 700);
+		if (isText || (title.value.trim() && rows[1][0].value.trim() && rows.some(([, amount]) => amount.value.trim()))) timer = setTimeout(check, 700);
 	};
 	const check = () => {
 		const entry = text.value, tell = (part) => entry === text.value && put(result, part);
-		ask("/check", [], { entry }).then(() => tell(h("p.soft", "The server accepts this entry.")), (fault) => tell(refused(fault, placesAdded(adder.from))));
+		post("/check", { entry }, placesAdded(adder.from)).then(() => tell(h("p.soft", "The server accepts this entry.")), (fault) => tell(refused(fault)));
 	};
 	const addRow = (name, hint) => {
-		const at = rows.length, account = h("input", { id: "account" + at, value: name, "aria-label": "Account " + (at + 1) });
-		on(account, "input", () => account.value.trim() && account === rows.at(-1)[0] && addRow("", ""));
+		const at = rows.length, grow = () => account.value.trim() && account === rows.at(-1)[0] && addRow("", "");
+		const account = h("input", { id: "account" + at, value: name, "aria-label": "Account " + (at + 1), oninput: grow });
 		const amount = h("input.sum", { id: "amount" + at, placeholder: hint, "aria-label": `Amount ${at + 1}${hint && ", last time " + hint}` });
 		rows.push([account, amount]);
 		legs.append(completing(account, findAccounts), amount);
@@ -798,11 +809,9 @@ function makeAdder() {
 	const back = button(".plain#back", "Back to the form", () => turnTo(false));
 	const send = async () => {
 		if (!isText && !full().length) return put(result, notice(".bad", "Fill in an account and an amount first."));
-		const entry = text.value, from = await journal(), reply = await ask("/add", [], { entry }).catch((fault) => {
-			throw Object.assign(fault, { place: placesAdded(from) });
-		});
+		const entry = text.value, reply = await post("/add", { entry }, placesAdded(await journal()));
 		clear();
-		go("#/add", notice(".good", `Added “${entry.split("\n")[0]}”. The journal is at revision ${reply.revision}.`));
+		go("#/add", done(`Added “${entry.split("\n")[0]}”.`, reply));
 		title.focus();
 	};
 	const form = h("form.form", { autocomplete: "off", onsubmit: sending(submit, result, send) }, fields, labelled("As it will be written; you can change it here", text), result,
@@ -821,7 +830,7 @@ function sending(button, result, act, failed) {
 			await act();
 		} catch (fault) {
 			say();
-			if (!(await failed?.(fault))) put(result, refused(fault, fault.place));
+			if (!(await failed?.(fault))) put(result, refused(fault));
 		}
 		button.disabled = false;
 	};
@@ -837,27 +846,25 @@ async function editView(words, view) {
 }
 
 function makeEditor(key, base, index) {
-	const lf = (text) => text.replaceAll("\r\n", "\n"), seen = lf(itemText(base, index));
+	const lf = (text) => text.replaceAll("\r\n", "\n"), seen = lf(base.items[index].text);
 	const text = h("textarea.text#text", { value: seen, rows: Math.max(7, linesOf(seen) + 2) }), label = h("label", { for: "text" }, "Entry");
 	const told = h("div"), theirs = h("div"), sides = h("div#sides", theirs, h("div", label, text)), result = live();
 	const save = button(".strong#save", "Save"), really = button(".danger#really", "Delete it for good", (event) => deletes(event), { hidden: true }), remove = button(".danger#delete", "Delete", () => {
 		[remove.hidden, really.hidden] = [true, false];
 		really.focus();
 	});
-	const done = (...said) => {
+	const leave = (...said) => {
 		editors.delete(key);
 		go("#/journal", ...said);
 	};
 	const send = async (content) => {
-		const form = index < 0 ? { entry: content } : { base: base.revision, item: String(index + 1), text: content };
-		const reply = await ask(index < 0 ? "/add" : "/edit", [], form).catch((fault) => {
-			throw Object.assign(fault, { place: index < 0 ? placesAdded(base) : placesChanged(base, index, content) });
-		});
-		done(notice(".good", /^unchanged/.test(reply.text) ? "Nothing was changed." : `${content ? "Saved" : "Deleted"} the entry. The journal is at revision ${reply.revision}.`));
+		const reply = await (index < 0 ? post("/add", { entry: content }, placesAdded(base))
+			: post("/edit", { base: base.revision, item: String(index + 1), text: content }, placesChanged(base, index, content)));
+		leave(isSame(reply) ? notice(".good", "Nothing was changed.") : done(content ? "Saved the entry." : "Deleted the entry.", reply));
 	};
 	const conflict = async (fault) => {
 		if (fault.status !== 409) return false;
-		const now = await journal(), at = follow(base, index, now), other = at < 0 ? "" : lf(itemText(now, at));
+		const now = await journal(), at = follow(base, index, now), other = at < 0 ? "" : lf(now.items[at].text);
 		[base, index] = [now, at];
 		const heading = h("p", { tabindex: -1 }, at < 0 ? "This entry was deleted while you had it open." : other === seen
 			? "The journal was changed while you had this entry open. The entry itself is as you saw it." : "This entry was changed while you had it open.");
@@ -873,23 +880,19 @@ function makeEditor(key, base, index) {
 		heading.focus();
 		return true;
 	};
-	const deletes = sending(really, result, () => send(""), conflict), saves = sending(save, result, () => send(text.value), conflict);
-	const form = h("form", { onsubmit: (event) => (text.value.trim() ? saves(event) : (event.preventDefault(), put(result, notice(".bad", "The entry is empty. To remove it, press Delete.")))) },
-		told, sides, result, h("div.row", save, button("#leave", "Leave it as it is", () => done()), remove, really));
+	const deletes = sending(really, result, () => send(""), conflict), saves = sending(save, result, () => text.value.trim() ? send(text.value) : put(result, notice(".bad", "The entry is empty. To remove it, press Delete.")), conflict);
+	const form = h("form", { onsubmit: saves }, told, sides, result, h("div.row", save, button("#leave", "Leave it as it is", () => leave()), remove, really));
 	const changed = () => server.revision !== base.revision && put(result, notice("", "The journal has changed since you opened this entry. When you save, you will see both versions."));
 	return { parts: form, focus: text, changed };
 }
 
 let importer = null;
-async function importView(words, view) {
-	importer ||= makeImporter();
-	Object.assign(view, { title: "Import a bank's file", parts: importer });
-}
+const importView = (words, view) => Object.assign(view, { title: "Import a bank's file", parts: (importer ||= makeImporter()) });
 
 function makeImporter() {
 	let bytes = null, csv = "";
 	const file = h("input#file", { type: "file" }), rulesFile = h("input#rules-file", { type: "file" }), name = h("input#name");
-	const encoding = select("encoding", "utf-8", ["utf-8", "windows-1252", "iso-8859-2", "shift_jis", "utf-16le"].map((one) => [one, one]));
+	const encoding = select("encoding", "utf-8", ["utf-8", "windows-1252", "iso-8859-2", "shift_jis", "utf-16le"].map((one) => [one]));
 	const rules = h("textarea.text#rules", { rows: 9, placeholder: "fields date, description, amount\ncurrency EUR\naccount1 assets:bank" });
 	const look = h("pre.text", { tabindex: 0, "aria-label": "The first lines of the file", hidden: true }), result = live();
 	const send = button(".strong#send", "Import"), tell = (...parts) => put(result, ...parts);
@@ -919,11 +922,12 @@ function makeImporter() {
 	const asks = async (path) => {
 		const missing = !file.value ? "Choose the bank's file first." : !name.value.trim() ? "Give the file a name." : !rules.value.trim() && "Give the rules.";
 		if (missing) return tell(notice(".bad", missing));
-		const before = (await journal()).items.length, reply = await ask(path, [], { name: name.value.trim(), rules: rules.value, csv });
-		if (/^unchanged/.test(reply.text)) return tell(notice("", "Nothing in this file is new."));
+		const before = (await journal()).items.length;
+		const reply = await post(path, { name: name.value.trim(), rules: rules.value, csv }, (line) => `With the new entries, line ${line} of the journal`);
+		if (isSame(reply)) return tell(notice("", "Nothing in this file is new."));
 		if (path === "/preview") return tell(notice("", h("p", "This would be added:"), h("pre", reply.text.trimEnd())));
 		const added = (await journal()).entries.filter((entry) => entry.number > before);
-		tell(notice(".good", `New entries: ${added.length}. The journal is at revision ${reply.revision}.`), ...added.slice(0, 200).map(entryRow));
+		tell(done(`New entries: ${added.length}.`, reply), ...added.slice(0, 200).map(entryRow));
 	};
 	const preview = button("#try", "Preview", (event) => previews(event)), previews = sending(preview, result, () => asks("/preview"));
 	return h("div", h("p.soft", "Rules say how a record becomes an entry. The next file of the same name adds only what is new."),
@@ -931,8 +935,7 @@ function makeImporter() {
 			labelled("Rules, one a line", rules), h("div.tools", labelled("Or take the rules from a file", rulesFile, ".wide")), h("div.row", send, preview)), result);
 }
 
-const VIEWS = { balance: balanceView, register: registerView, journal: journalView, add: addView, edit: editView, import: importView };
-for (const name of ["income", "sheet"]) VIEWS[name] = (words, view) => statementView(words, view, name);
+const VIEWS = { balance: balanceView, register: registerView, income: statementView, sheet: statementView, journal: journalView, add: addView, edit: editView, import: importView };
 
 on($("skip"), "click", (event) => {
 	event.preventDefault();
