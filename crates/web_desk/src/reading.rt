@@ -19,8 +19,8 @@ pub fn one_course()
         → Served page bytes end entries text → FollowsCourse page bytes end entries text }
 {}
 
-/// A cross-origin request asks for no edit: what a page of another site sends reads the journal, or is refused. It does
-/// nothing; its contract is the law.
+/// A cross-origin request asks for a report or the text of the journal, or the journal isn't asked, and the reply is the page
+/// or a refusal. So a page of another site makes no edit, and no dry run of one. It does nothing; its contract is the law.
 pub fn other_sites_only_read()
     ensures { (page : Page) (m : Message) → is_cross_origin (fields_of m.head) ≡ true
         → OnlyReads (asks page m) }
