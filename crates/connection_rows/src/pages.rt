@@ -101,6 +101,8 @@ fn shows_a_page(rt: HostRuntime) -> Result<(), Fail> {
         ),
         (b"GET /?a=1 HTTP/1.1\r\n\r\n".as_slice(), BAD_FORM),
         (b"POST / HTTP/1.1\r\n\r\n".as_slice(), OTHER_METHOD),
+        (b"HEAD / HTTP/1.1\r\n\r\n".as_slice(), OTHER_METHOD),
+        (b"PUT / HTTP/1.1\r\n\r\n".as_slice(), OTHER_METHOD),
         (b"GET /total HTTP/1.1\r\n\r\n".as_slice(), NO_PATH),
     ] {
         assert!(rt; answers(rt.alloc(), &page, coming, sent)?);
@@ -116,7 +118,11 @@ fn shows_none(rt: HostRuntime) -> Result<(), Fail> {
         SHOW,
         b"GET /?a=1 HTTP/1.1\r\n\r\n".as_slice(),
         b"POST / HTTP/1.1\r\n\r\n".as_slice(),
+        b"HEAD / HTTP/1.1\r\n\r\n".as_slice(),
+        b"PUT / HTTP/1.1\r\n\r\n".as_slice(),
         b"GET /check HTTP/1.1\r\n\r\n".as_slice(),
+        b"POST /check HTTP/1.1\r\nSec-Fetch-Site: cross-site\r\n\r\n".as_slice(),
+        b"POST /preview HTTP/1.1\r\nOrigin: null\r\n\r\n".as_slice(),
         CHECK,
         PREVIEW,
     ] {
@@ -177,6 +183,22 @@ fn refuses_as_edits_are(rt: HostRuntime) -> Result<(), Fail> {
         ),
         (
             b"POST /preview HTTP/1.1\r\nSec-Fetch-Site: cross-site\r\n\r\n".as_slice(),
+            ELSEWHERE,
+        ),
+        (
+            b"POST /check HTTP/1.1\r\nHost: a\r\nOrigin: http://b\r\n\r\n".as_slice(),
+            ELSEWHERE,
+        ),
+        (
+            b"POST /preview HTTP/1.1\r\nHost: a\r\nOrigin: http://a:80\r\n\r\n".as_slice(),
+            ELSEWHERE,
+        ),
+        (
+            b"POST /check HTTP/1.1\r\nHost: a\r\nOrigin: http://a\r\n\r\n".as_slice(),
+            BAD_FORM,
+        ),
+        (
+            b"POST /check HTTP/1.1\r\nOrigin: http://a\r\n\r\n".as_slice(),
             ELSEWHERE,
         ),
     ] {
