@@ -105,7 +105,7 @@ pub record NoneFailed (old new : Sinks) : Type 0 where
 
 module _ {D : Type 0} {g : Disks D} where
   -- A report is answered byte for byte as a fresh run of its words over the text there, which makes a journal: by the definition of what a
-  -- report is, and as each run of the program with these words writes it.
+  -- report is, and as each run of the program with these words writes it, of its standard input or of a file behind `-f`.
   abbrev pub AnswersReport : Desk D g → List (Entered Entry) → Entry → Type 0
   AnswersReport opening earlier entry = (words : List (List ℕ)) → entry.request ≡ request.Report words
       → (before : Desk D g) × IsLegal opening earlier before × Loads (state_of before) × IsFreshRun (state_of before) entry.day.0 words entry.reply
