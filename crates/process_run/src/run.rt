@@ -1,6 +1,7 @@
 //! A run whose words, zone, day, input, files, sockets and outputs are those of the process.
 
 ghost use Rattle.std.specs.Prelude.{◌≡◌, IfOk, drop, map};
+ghost use Rattle.std.specs.List.{list_any};
 ghost use Rattle.std.specs.Process.{exit_status};
 ghost use Rattle.std.specs.String.{string_bytes};
 ghost use Rattle.std.specs.Vec.Iter.{into_iter_items};
@@ -9,6 +10,7 @@ ghost use Rattle.refusals.specs.Errors.{memory_line, usage_line};
 ghost use Rattle.shared_desk.specs.Stays.{kit_told};
 ghost use Rattle.command_line.specs.Answers.{Says};
 ghost use Rattle.serve_line.specs.Runs.{IsServeStatus};
+ghost use Rattle.process_run.specs.Pages.{is_page_word, IsPageIf, IsPageFor};
 ghost use Rattle.process_run.specs.Running.{RunsAs};
 
 use crate::clock::today;
@@ -142,19 +144,35 @@ fn but_the_first(alloc: Global, args: Args) -> Result<Vec<Text>, Memory>
 }
 
 /// The page that may be shown: the program's, where a word asks for it.
-fn page_for(alloc: Global, words: &[Text]) -> Result<Page, Memory> {
-    if asks_page(words) {
+fn page_for(alloc: Global, words: &[Text]) -> Result<Page, Memory>
+    ensures { IfOk result (IsPageFor words.now) }
+{
+    page_if(alloc, asks_page(words))
+}
+
+/// The program's page, if it is asked for.
+fn page_if(alloc: Global, asked: bool) -> Result<Page, Memory>
+    ensures { IfOk result (IsPageIf asked) }
+{
+    if asked {
         built_page(alloc)
     } else {
         Ok(Page::Absent)
     }
 }
 
+/// Whether one of the words asks for the page.
+fn asks_page(words: &[Text]) -> bool
+    ensures { result ≡ list_any is_page_word words.now }
+{
+    words.iter().any(|word| is_page_word(word))
+}
+
 /// Whether a word asks for the page.
-fn asks_page(words: &[Text]) -> bool {
-    words
-        .iter()
-        .any(|word| word.as_bytes() == b"--page".as_slice())
+fn is_page_word(word: &Text) -> bool
+    ensures { result ≡ is_page_word word.now }
+{
+    word.as_bytes() == b"--page".as_slice()
 }
 
 /// Whether the words limit the connections that each worker serves.
