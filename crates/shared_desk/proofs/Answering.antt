@@ -28,10 +28,11 @@ use Rattle.desk.specs.declared.request.Request.TheVariants as request
 use Rattle.desk.specs.Desks.{IsServed, faults_of, state_of}
 use Rattle.desk.specs.Entries.{Entry}
 use Rattle.desk.specs.Imports.{entries_of, new_deed, pattern_lines}
+use Rattle.desk.specs.Previews.{added_to, revision_line}
 use Rattle.desk.specs.Reports.{words_over}
-use Rattle.desk.specs.States.{Answer, Replies, State, answer_to, change_of, deed_answer, deed_in, deed_of_file, edit_answer, file_answer, forbidden, full_cases, import_answer, journal_of, last_revision, long_name, many_states, no_room, or_done, or_replies, plain, record_size, refusals, refused_line, report_answer, report_reply, states_with, stays, unaccepted, unchanged, unless_forbidden}
+use Rattle.desk.specs.States.{Answer, Replies, State, added_by, answer_to, change_of, check_answer, deed_answer, deed_in, deed_of_file, dry_run, edit_answer, edited_state, file_answer, forbidden, full_cases, import_answer, journal_of, last_revision, long_name, many_states, no_room, or_done, or_replies, plain, preview_answer, record_size, refusals, refused_line, report_answer, report_reply, states_with, stays, unaccepted, unchanged, unless_forbidden}
 use Rattle.desk.specs.Steps.{Gives, is_done, is_fault}
-use Rattle.shared_desk.specs.Histories.{AreJudged, FileJudged, ImportJudged, IsAnswered, IsFresh, IsGood, IsJudged, IsLegal, Judged, NewJudged}
+use Rattle.shared_desk.specs.Histories.{AreJudged, DryJudged, FileJudged, ImportJudged, IsAnswered, IsDryJudged, IsFresh, IsGood, IsJudged, IsLegal, Judged, NewJudged, PreviewJudged}
 
 -- a history of two parts and an entry between them leads through two states
 module _ {S E : Type 0} (leads : S → E → S → Type 0) where
@@ -181,7 +182,7 @@ plain_judged s need d r before after new gives =
     edit_judged s need d [] r before after new (subst G (no_others s d (first_of (refusals s need d))) gives)
 
 new_judged : (s : State) (o : Option Deed) (others : List Reply) (r : Reply) (before after : ℕ) (new : State)
-    → Gives (or_replies others (deed_answer s o)) o s before r new after → NewJudged s o others r new
+    → Gives (or_replies others (deed_answer s o)) o s before r new after → NewJudged (λ d. IsJudged s allow.Add d others r new) s o others r new
 new_judged s None others r before after new (inl is) = inl (is.0, is.1)
 new_judged s None others r before after new (inr (inl memory)) = inr (inl memory.0)
 new_judged s None others r before after new (inr (inr (inl fault))) = absurd (false≢true fault.1)
@@ -189,7 +190,8 @@ new_judged s None others r before after new (inr (inr (inr other))) = inr (inr o
 new_judged s (Some d) others r before after new gives = edit_judged s allow.Add d others r before after new gives
 
 file_judged : (s : State) (name : List ℕ) (others : List Reply) (file : Result (List Txn) CsvFault) (r : Reply) (before after : ℕ) (new : State)
-    → Gives (or_replies others (file_answer s name file)) (deed_of_file s name file) s before r new after → FileJudged s name others r new file
+    → Gives (or_replies others (file_answer s name file)) (deed_of_file s name file) s before r new after
+    → FileJudged (λ d. IsJudged s allow.Add d others r new) s name others r new file
 file_judged s name others (Ok txns) r before after new gives =
     new_judged s (new_deed s.text s.latest name txns) others r before after new gives
 file_judged s name others (Err fault) r before after new (inl is) = inl is.0
@@ -208,6 +210,82 @@ import_judged s name rules csv r before after new gives =
     Gives (unless_forbidden s (if b then None else Some (reply.Forbidden allow.Add s.allowed)) made) (deed_of_file s name file) s before r new after in
     file_judged s name others file r before after new (subst G allowed gives)
 
+-- the dry run of a good edit, by its refusal; what it shows is told by the state that the edit would make
+shown_by : (s : State) (d : Deed) (tell : State → List ℕ) (others : List Reply) (same : Bool) (book : Result Book Fault) (r : Reply) (before after : ℕ) (new : State)
+    → (same ≡ true → applied s.text d.edit ≡ s.text)
+    → Gives (dry_run s (tell (or_done s d (outcome s.revision same book)).state) (or_replies others (or_done s d (outcome s.revision same book)))) None s before r new after
+    → DryJudged s d (tell (edited_state s d)) others r new book
+unfolding outcome
+shown_by s d tell others true (Ok book) r before after new is (inl given) = inl (inr (given.0, is refl), given.1)
+shown_by s d tell others true (Ok book) r before after new is (inr (inl memory)) = inr (inl memory.0)
+shown_by s d tell others true (Ok book) r before after new is (inr (inr (inl disk))) = absurd (false≢true disk.1)
+shown_by s d tell others true (Ok book) r before after new is (inr (inr (inr other))) = inr (inr other.0)
+shown_by s d tell others false (Ok book) r before after new is (inl given) = inl (inl given.0, given.1)
+shown_by s d tell others false (Ok book) r before after new is (inr (inl memory)) = inr (inl memory.0)
+shown_by s d tell others false (Ok book) r before after new is (inr (inr (inl disk))) = absurd (false≢true disk.1)
+shown_by s d tell others false (Ok book) r before after new is (inr (inr (inr other))) = inr (inr other.0)
+shown_by s d tell others true (Err fault) r before after new is (inl given) = inl given.0
+shown_by s d tell others true (Err fault) r before after new is (inr (inl memory)) = inr (inl memory.0)
+shown_by s d tell others true (Err fault) r before after new is (inr (inr (inl disk))) = absurd (false≢true disk.1)
+shown_by s d tell others true (Err fault) r before after new is (inr (inr (inr other))) = inr (inr other.0)
+shown_by s d tell others false (Err fault) r before after new is (inl given) = inl given.0
+shown_by s d tell others false (Err fault) r before after new is (inr (inl memory)) = inr (inl memory.0)
+shown_by s d tell others false (Err fault) r before after new is (inr (inr (inl disk))) = absurd (false≢true disk.1)
+shown_by s d tell others false (Err fault) r before after new is (inr (inr (inr other))) = inr (inr other.0)
+
+dry_judged : (s : State) (need : Allow) (d : Deed) (tell : State → List ℕ) (others : List Reply) (r : Reply) (before after : ℕ) (new : State)
+    → Gives (dry_run s (tell (edit_answer s need d).state) (or_replies others (edit_answer s need d))) None s before r new after
+    → IsDryJudged s need d (tell (edited_state s d)) others r new
+dry_judged s need d tell others r before after new gives =
+    λ good.
+    let text = applied s.text d.edit in
+    let same = bytes_eq text s.text in
+    let G : Option Reply → Type 0 = λ o. Gives (dry_run s (tell (or_done s d o).state) (or_replies others (or_done s d o))) None s before r new after in
+    shown_by s d tell others same (book_of None text) r before after new ((bytes_eq-Decides text s.text).0)
+    (subst G (first_is s need d good) gives)
+
+check_judged : (s : State) (d : Deed) (r : Reply) (before after : ℕ) (new : State)
+    → Gives (check_answer s d) None s before r new after → IsDryJudged s allow.Add d (revision_line (s.revision + 1)) [] r new
+check_judged s d r before after new gives =
+    let line = revision_line (s.revision + 1) in
+    let tell : State → List ℕ = λ new. line in
+    let G : Answer → Type 0 = λ answer. Gives (dry_run s line answer) None s before r new after in
+    dry_judged s allow.Add d tell [] r before after new (subst G (no_others s d (first_of (refusals s allow.Add d))) gives)
+
+-- what an import would add, told by the state that it would make
+tell_added : State → State → List ℕ
+tell_added s new = added_to s.text new.text
+
+new_shown : (s : State) (o : Option Deed) (others : List Reply) (r : Reply) (before after : ℕ) (new : State)
+    → Gives (dry_run s (added_by s (or_replies others (deed_answer s o))) (or_replies others (deed_answer s o))) None s before r new after
+    → NewJudged (λ d. IsDryJudged s allow.Add d (added_to s.text (applied s.text d.edit)) others r new) s o others r new
+unfolding tell_added
+new_shown s None others r before after new (inl is) = inl (is.0, is.1)
+new_shown s None others r before after new (inr (inl memory)) = inr (inl memory.0)
+new_shown s None others r before after new (inr (inr (inl disk))) = absurd (false≢true disk.1)
+new_shown s None others r before after new (inr (inr (inr other))) = inr (inr other.0)
+new_shown s (Some d) others r before after new gives = dry_judged s allow.Add d (tell_added s) others r before after new gives
+
+file_shown : (s : State) (name : List ℕ) (others : List Reply) (file : Result (List Txn) CsvFault) (r : Reply) (before after : ℕ) (new : State)
+    → Gives (dry_run s (added_by s (or_replies others (file_answer s name file))) (or_replies others (file_answer s name file))) None s before r new after
+    → FileJudged (λ d. IsDryJudged s allow.Add d (added_to s.text (applied s.text d.edit)) others r new) s name others r new file
+file_shown s name others (Ok txns) r before after new gives = new_shown s (new_deed s.text s.latest name txns) others r before after new gives
+file_shown s name others (Err fault) r before after new (inl is) = inl is.0
+file_shown s name others (Err fault) r before after new (inr (inl memory)) = inr (inl memory.0)
+file_shown s name others (Err fault) r before after new (inr (inr (inl disk))) = absurd (false≢true disk.1)
+file_shown s name others (Err fault) r before after new (inr (inr (inr other))) = inr (inr other.0)
+
+preview_judged : (s : State) (name rules csv : List ℕ) (r : Reply) (before after : ℕ) (new : State)
+    → Gives (preview_answer s name rules csv) None s before r new after → PreviewJudged s name rules csv r new
+preview_judged s name rules csv r before after new gives =
+    λ allowed.
+    let file = entries_of rules csv in
+    let others : List Reply = map refused_line (pattern_lines rules) in
+    let made : Answer = or_replies others (file_answer s name file) in
+    let answer : Bool → Answer = λ b. unless_forbidden s (if b then None else Some (reply.Forbidden allow.Add s.allowed)) made in
+    let G : Bool → Type 0 = λ b. Gives (dry_run s (added_by s (answer b)) (answer b)) None s before r new after in
+    file_shown s name others file r before after new (subst G allowed gives)
+
 pub judged : (s : State) (day : ℕ) (q : Request) (r : Reply) (before after : ℕ) (new : State)
     → Gives (answer_to s day q) (deed_in s q) s before r new after → AreJudged s q r new
 unfolding answer_to
@@ -218,8 +296,8 @@ judged s day (request.Change base item entry) r before after new gives =
     plain_judged s allow.Edit (plain (edits.Change base item entry)) r before after new gives
 judged s day (request.Replace base text) r before after new gives = plain_judged s allow.Edit (plain (edits.Replace base text)) r before after new gives
 judged s day (request.Import name rules csv) r before after new gives = import_judged s name rules csv r before after new gives
-judged s day (request.Check entry) r before after new gives = tt
-judged s day (request.Preview name rules csv) r before after new gives = tt
+judged s day (request.Check entry) r before after new gives = check_judged s (plain (edits.Add entry)) r before after new gives
+judged s day (request.Preview name rules csv) r before after new gives = preview_judged s name rules csv r before after new gives
 
 module _ {D : Type 0} {g : Ghosts D} where
   pub answered : (opening last : Desk D g) (earlier later : List (Entered Entry)) (x : Entered Entry)

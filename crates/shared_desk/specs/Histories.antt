@@ -38,6 +38,7 @@ use Rattle.desk.specs.declared.request.Request.TheVariants as request
 use Rattle.desk.specs.Desks.{IsServed, state_of}
 use Rattle.desk.specs.Entries.{Entry}
 use Rattle.desk.specs.Imports.{entries_of, new_deed, pattern_lines}
+use Rattle.desk.specs.Previews.{added_to, revision_line}
 use Rattle.desk.specs.States.{Replies, State, answer_to, change_of, covers, edited_state, last_revision, long_name, many_states, no_room, plain, record_size, refused_line, refused_replies, report_reply, states_with}
 use Rattle.desk.specs.Steps.{is_done, is_fault, is_granted, next_of}
 
@@ -109,27 +110,54 @@ Judged s d others r after (Err fault) = (r ≡ reply.Load fault) ⊎ IsExcused o
 abbrev pub IsJudged : State → Allow → Deed → List Reply → Reply → State → Type 0
 IsJudged s need d others r after = IsGood s need d → Judged s d others r after (book_of None (applied s.text d.edit))
 
--- the new entries of an import are judged as the edit that they are, and where none is new the text stays as it is
-abbrev pub NewJudged : State → Option Deed → List Reply → Reply → State → Type 0
-NewJudged s None others r after = ((r ≡ reply.Same s.revision) × (after ≡ s)) ⊎ IsExcused others r
-NewJudged s (Some d) others r after = IsJudged s allow.Add d others r after
+-- The reply of a dry run is this text where the edit would stand, or the edit's text is the text as it was. The state stays.
+abbrev pub IsShown : State → Deed → List ℕ → Reply → State → Type 0
+IsShown s d told r after =
+    ((r ≡ reply.Text s.revision told) ⊎ ((r ≡ reply.Same s.revision) × (applied s.text d.edit ≡ s.text))) × (after ≡ s)
+
+-- What a dry run is replied, by what a fresh load of the edit's text comes to. No disk fails in it.
+abbrev pub DryJudged : State → Deed → List ℕ → List Reply → Reply → State → Result Book Fault → Type 0
+DryJudged s d told others r after (Ok book) = IsShown s d told r after ⊎ IsExcused others r
+DryJudged s d told others r after (Err fault) = (r ≡ reply.Load fault) ⊎ IsExcused others r
+
+-- the dry run of a good edit is judged by a fresh load of the text that the edit would make
+abbrev pub IsDryJudged : State → Allow → Deed → List ℕ → List Reply → Reply → State → Type 0
+IsDryJudged s need d told others r after = IsGood s need d → DryJudged s d told others r after (book_of None (applied s.text d.edit))
+
+-- the new entries of an import are judged so, as the edit that they are, and where none is new the text stays as it is
+abbrev pub NewJudged : (Deed → Type 0) → State → Option Deed → List Reply → Reply → State → Type 0
+NewJudged judged s None others r after = ((r ≡ reply.Same s.revision) × (after ≡ s)) ⊎ IsExcused others r
+NewJudged judged s (Some d) others r after = judged d
 
 -- by what becomes of its file: entries, or a cause for which it becomes none
-abbrev pub FileJudged : State → List ℕ → List Reply → Reply → State → Result (List Txn) CsvFault → Type 0
-FileJudged s name others r after (Ok txns) = NewJudged s (new_deed s.text s.latest name txns) others r after
-FileJudged s name others r after (Err fault) = (r ≡ reply.Csv fault) ⊎ IsExcused others r
+abbrev pub FileJudged : (Deed → Type 0) → State → List ℕ → List Reply → Reply → State → Result (List Txn) CsvFault → Type 0
+FileJudged judged s name others r after (Ok txns) = NewJudged judged s (new_deed s.text s.latest name txns) others r after
+FileJudged judged s name others r after (Err fault) = (r ≡ reply.Csv fault) ⊎ IsExcused others r
 
 -- an import that is allowed is so judged
 abbrev pub ImportJudged : State → List ℕ → List ℕ → List ℕ → Reply → State → Type 0
 ImportJudged s name rules csv r after =
-    covers s.allowed allow.Add ≡ true → FileJudged s name (map refused_line (pattern_lines rules)) r after (entries_of rules csv)
+    let others = map refused_line (pattern_lines rules) in
+    covers s.allowed allow.Add ≡ true
+    → FileJudged (λ d. IsJudged s allow.Add d others r after) s name others r after (entries_of rules csv)
 
--- the edits that requests ask for are so judged, each with what it needs
+-- and so is its preview, which shows what the import would add
+abbrev pub PreviewJudged : State → List ℕ → List ℕ → List ℕ → Reply → State → Type 0
+PreviewJudged s name rules csv r after =
+    let others = map refused_line (pattern_lines rules) in
+    covers s.allowed allow.Add ≡ true
+    → FileJudged (λ d. IsDryJudged s allow.Add d (added_to s.text (applied s.text d.edit)) others r after) s name others r after (entries_of rules csv)
+
+-- The edits that requests ask for, and the dry runs of additions and imports, are so judged, each with what it needs. The check
+-- of an addition shows the line of the next revision.
 abbrev pub AreJudged : State → Request → Reply → State → Type 0
 AreJudged s (request.Add entry) r after = IsJudged s allow.Add (plain (edits.Add entry)) [] r after
 AreJudged s (request.Change base item entry) r after = IsJudged s allow.Edit (plain (edits.Change base item entry)) [] r after
 AreJudged s (request.Replace base text) r after = IsJudged s allow.Edit (plain (edits.Replace base text)) [] r after
 AreJudged s (request.Import name rules csv) r after = ImportJudged s name rules csv r after
+AreJudged s (request.Check entry) r after =
+    IsDryJudged s allow.Add (plain (edits.Add entry)) (revision_line (s.revision + 1)) [] r after
+AreJudged s (request.Preview name rules csv) r after = PreviewJudged s name rules csv r after
 AreJudged s other r after = Unit {0}
 
 module _ {D : Type 0} {g : Ghosts D} where
