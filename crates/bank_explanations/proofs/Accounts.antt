@@ -16,6 +16,6 @@ none_left : (left n m : ℕ) → left ≡ m - n → n ≤ m → (left == 0) ≡ 
 none_left left n m is few = grind (arith, nat_tests)
 
 -- nothing follows it where it is the whole text
-pub all_of_it : (text more : List ℕ) → more ≡ drop (account_len text) text → (length more == 0) ≡ (account_len text == length text)
-all_of_it text more cut =
-    none_left (length more) (account_len text) (length text) (ap length cut ∙ length-drop (account_len text) text) (few_bytes text)
+pub all_of_it : (text more : List ℕ) (none : Bool) → more ≡ drop (account_len text) text → none ≡ (length more == 0) → none ≡ (account_len text == length text)
+all_of_it text more none cut is =
+    is ∙ none_left (length more) (account_len text) (length text) (omega (arith, ap length cut, length-drop (account_len text) text)) (few_bytes text)
