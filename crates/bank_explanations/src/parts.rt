@@ -10,14 +10,14 @@ use csv_entries::ConvertFault;
 use csv_entries::amounts::{amount_of, context_of, in_currency};
 use csv_entries::blocks::{Row, applying, read_fields};
 use csv_entries::fields::Fields;
-use csv_entries::judging::{joined, mark_of};
+use csv_entries::judging::joined;
 use csv_entries::records::{read_columns, read_rows};
 use csv_entries::skipping::text_after;
 use csv_rules::{EntryField, Rules};
 use entry_reader::{Context, ReadFault, read_account};
 use hl_base::{Memory, Text};
-use query_terms::Finder;
 use query_terms::cutting::bytes_of;
+use query_terms::{Finder, status_of};
 use std::alloc::Global;
 
 /// A field of a record, and what it is given.
@@ -172,7 +172,7 @@ fn is_valid(
     ensures { IfOk result (λ valid. valid ≡ spec.is_valid context.now fields.now field) }
 {
     match field {
-        EntryField::Status => Ok(mark_of(fields.status.as_bytes()).is_some()),
+        EntryField::Status => Ok(status_of(fields.status.as_bytes()).is_some()),
         EntryField::Amount => is_amount(alloc, context, &fields.amount),
         EntryField::AmountIn => is_amount(alloc, context, &fields.amount_in),
         EntryField::AmountOut => is_amount(alloc, context, &fields.amount_out),
