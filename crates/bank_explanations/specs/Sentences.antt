@@ -1,7 +1,7 @@
 -- What is wrong in a record or in a line of rules and how it is mended, by the cause and by what is there.
 use Rattle.std.specs.Prelude.{ℕ, ◌==◌, Bool, true, false, ◌&&◌, ◌||◌, not, List, [], ◌∷◌, length, codes, Option, Some, None, is_some, if◌then◌else◌}
 use Rattle.std.specs.List.{list_any}
-use Rattle.std.specs.Str.{is_utf8}
+use Rattle.std.specs.Str.{bytes_eq, is_utf8}
 use Rattle.hl_base.specs.Ascii.{dot, exclamation, minus, percent, slash}
 use Rattle.hl_base.specs.Items.{is_white}
 use Rattle.entry_reader.specs.Accounts.{is_account_text}
@@ -84,12 +84,17 @@ abbrev pub unwritten_sentence : Option (List DatePart) → List ℕ
 unwritten_sentence (Some format) = codes "The date is not written as date-format says: correct the rule, or leave the record out by skip."
 unwritten_sentence None = codes "The date is not written as 2024-02-28: say by date-format how the bank writes it, or leave the record out by skip."
 
+-- a date that is written so, and that the calendar doesn't have
+abbrev pub unknown_sentence : Option (List DatePart) → List ℕ
+unknown_sentence (Some format) = codes "The calendar does not have this day: correct the order of %m and %d in date-format, or assign another date in a block."
+unknown_sentence None = codes "The calendar does not have this day: say by date-format how the bank writes it, or assign another date in a block."
+
 -- a date that doesn't read
 abbrev pub date_sentence : Option (List DatePart) → List ℕ → List ℕ
 date_sentence format text =
     if lacks_part format then codes "The rule date-format lacks a year, a month or a day: write %Y or %y, %m or %b, and %d, and assign date with all three, as in date 2024-%1."
     else if length text == 0 then codes "The date is empty: assign a column to date, or leave the record out by skip."
-    else if is_date format text then codes "The calendar does not have this day: correct the order of %m and %d in date-format, or assign another date in a block."
+    else if is_date format text then unknown_sentence format
     else unwritten_sentence format
 
 abbrev pub no_date_sentence : Option (List DatePart) → Option Part → List ℕ
@@ -115,6 +120,7 @@ setting_sentence line =
     else if begins_with line (codes "date-format") then codes "After date-format there are white space and the form of a date, in which each % begins one of %Y, %y, %m, %-m, %b, %d, %-d and %%."
     else if begins_with line (codes "decimal-mark") then codes "After decimal-mark there are white space and . or a comma."
     else if begins_with line (codes "fields") then codes "After fields there are white space and the names of the columns, with commas between them."
+    else if bytes_eq line (codes "end") then codes "The word end is indented, below the patterns of a block."
     else codes "This is no rule: a rule begins with the name of a field, before a colon or white space, or with another word of rules."
 
 -- it has a mark of patterns at its front

@@ -1,7 +1,7 @@
 //! A sentence on each cause.
 ghost use Rattle.std.specs.Prelude.{◌≡◌, ◌==◌, ◌||◌, true, length, codes};
 ghost use Rattle.std.specs.List.{list_any};
-ghost use Rattle.std.specs.Str.{is_utf8};
+ghost use Rattle.std.specs.Str.{bytes_eq, is_utf8};
 ghost use Rattle.entry_reader.specs.Accounts.{account_len, is_account_text};
 ghost use Rattle.bank_explanations.specs.Places.{begins_with};
 ghost use Rattle.bank_explanations.specs.Sentences as spec;
@@ -188,6 +188,18 @@ fn unwritten_sentence(format: &Option<List<DatePart>>) -> &'static str
     }
 }
 
+/// The sentence on a date that is written so, and that the calendar doesn't have.
+fn unknown_sentence(format: &Option<List<DatePart>>) -> &'static str
+    ensures { result.now ≡ spec.unknown_sentence format.now }
+{
+    match format {
+        Some(_) =>
+            "The calendar does not have this day: correct the order of %m and %d in date-format, or assign another date in a block.",
+        None =>
+            "The calendar does not have this day: say by date-format how the bank writes it, or assign another date in a block.",
+    }
+}
+
 /// The sentence on a date that doesn't read.
 fn date_sentence(format: &Option<List<DatePart>>, text: &[u8]) -> &'static str
     ensures { result.now ≡ spec.date_sentence format.now text.now }
@@ -197,7 +209,7 @@ fn date_sentence(format: &Option<List<DatePart>>, text: &[u8]) -> &'static str
     } else if text.is_empty() {
         "The date is empty: assign a column to date, or leave the record out by skip."
     } else if is_date(format, text) {
-        "The calendar does not have this day: correct the order of %m and %d in date-format, or assign another date in a block."
+        unknown_sentence(format)
     } else {
         unwritten_sentence(format)
     }
@@ -234,6 +246,13 @@ pub(crate) fn sentence_of(
     }
 }
 
+/// Whether a line is the word `end` alone.
+fn is_end(line: &[u8]) -> bool
+    ensures { result ≡ bytes_eq line.now (codes "end") }
+{
+    line == b"end".as_slice()
+}
+
 /// The sentence on a line that begins with a word for the file as a whole, or with no word of rules.
 fn setting_sentence(line: &[u8]) -> &'static str
     ensures { result.now ≡ spec.setting_sentence line.now }
@@ -248,6 +267,8 @@ fn setting_sentence(line: &[u8]) -> &'static str
         "After decimal-mark there are white space and . or a comma."
     } else if begins_with(line, b"fields") {
         "After fields there are white space and the names of the columns, with commas between them."
+    } else if is_end(line) {
+        "The word end is indented, below the patterns of a block."
     } else {
         "This is no rule: a rule begins with the name of a field, before a colon or white space, or with another word of rules."
     }
