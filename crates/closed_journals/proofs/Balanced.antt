@@ -100,3 +100,12 @@ carried asked first second close = λ a s named.
     ∙ sym (balance_with a s asked.txns (first ∷ [])) ∙ close.emptied a s named)
     (ap (λ (z : ℤ). before +ℤ z) (sym (held_append a s first.postings (second.postings ++ [])))
     ∙ sym (balance_with a s asked.txns (first ∷ second ∷ [])) ∙ close.restored a s)
+
+-- the same as it is read
+pub opening_carried : (asked : Asked) (shape : Shaped) (styles : Writing) (number : ℕ) (c d : List ℕ) (ms ns : List Moved)
+    → Close asked (entry_on styles asked.on c ms, entry_on styles (asked.on + 1) d ns) → Carries asked (entry_at shape number (asked.on + 1) d ns)
+opening_carried asked shape styles number c d ms ns close = λ a s named.
+    ap (held a s) (append-nil (entry_at shape number (asked.on + 1) d ns).postings)
+    ∙ same_held shape styles number (asked.on + 1) d ns a s
+    ∙ sym (ap (held a s) (append-nil (entry_on styles (asked.on + 1) d ns).postings))
+    ∙ carried asked (entry_on styles asked.on c ms) (entry_on styles (asked.on + 1) d ns) close a s named

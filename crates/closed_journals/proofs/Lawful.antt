@@ -35,7 +35,7 @@ use Rattle.book_commands.specs.declared.work.Entries.{Entries}
 use Rattle.book_commands.specs.declared.work.Entries.TheVariants as chosen
 use Rattle.book_commands.specs.declared.work.Work.TheVariants as works
 use Rattle.entry_reader.specs.Causes.{◌>>=◌}
-use Rattle.entry_reader.specs.Contexts.{Context, context_of, decided_mark}
+use Rattle.entry_reader.specs.Contexts.{Context, context_from, context_of, decided_mark, directives_in}
 use Rattle.journal_printer.specs.Entries.{entry_shape}
 use Rattle.journal_printer.specs.Layout.{txn_text}
 use Rattle.journal_printer.specs.declared.detail.Detail.TheVariants as detail
@@ -46,8 +46,8 @@ use Rattle.query_terms.specs.declared.kinds.Term.{Term}
 use Rattle.refusals.specs.Errors.{limit_line, term_line}
 use Rattle.refusals.specs.Outcomes.{Judged, Outcome, refused, written}
 use Rattle.written_logs.proofs.Lines.{joined}
-use Rattle.closed_journals.specs.Added.{Added, Closes, Fails, IsClosed, IsEnded, IsJoined, IsLong, IsOpened, IsRefused, Joined, Opened, entry_at}
-use Rattle.closed_journals.proofs.Balanced.{carried, emptied, restored}
+use Rattle.closed_journals.specs.Added.{Added, Behind, Closes, Emptied, Empties, Fails, IsClosed, IsEmptied, IsEnded, IsJoined, IsLike, IsLong, IsOpened, IsOpenedBehind, IsRefused, IsRefusedFor, Joined, Opened, Opens, entry_at}
+use Rattle.closed_journals.proofs.Balanced.{carried, emptied, opening_carried, restored}
 use Rattle.closed_journals.proofs.Blocks.{ends_with_line, open_block_is, some_bytes}
 use Rattle.closed_journals.proofs.Cuts.{Begins, EndsLine, gap, open_in}
 use Rattle.closed_journals.proofs.Digits.{IsDecided}
@@ -58,8 +58,8 @@ use Rattle.closed_journals.proofs.Declared.{AreToldItems, context_told, items_to
 use Rattle.closed_journals.proofs.Fronts.{EndOf, Ended, IsFront, does_end, does_lack, end_of, front_is, long as too_long, reads}
 use Rattle.closed_journals.proofs.Grown.{Lacks}
 use Rattle.closed_journals.proofs.Judging.{IsWritten, all_written, judged, judged_lines, none_late, opposites_are, whole_lines}
-use Rattle.closed_journals.proofs.Pieces.{items_at}
-use Rattle.closed_journals.proofs.Whole.{Ends, begins, both_end, lines_then, loads, long, out}
+use Rattle.closed_journals.proofs.Pieces.{items_at, none_left}
+use Rattle.closed_journals.proofs.Whole.{Ends, EndsAlone, alone_end, alone_loads, alone_long, alone_out, begins, both_end, lines_then, loads, long, out}
 
 decided_list : (context : Context) (ms : List Moved) → AreLinesOf context ms → AllByRecursion (λ m. IsDecided (decided_mark context m.symbol)) ms
 decided_list context [] are = tt
@@ -340,9 +340,9 @@ unfolding close_made
 made_terms asked day items book output h = by_terms asked day items book output (terms_of day asked.words) refl h
 
 -- what is written where the entries that are asked for are these
-both_out : (closed : Closed) (output : List ℕ) (asked : Entries) → asked ≡ chosen.Both
-    → output ≡ pair_text (context_at_end closed.items) asked (made closed) → output ≡ pair_text (context_at_end closed.items) chosen.Both (made closed)
-both_out closed output asked is h = h ∙ ap (λ (e : Entries). pair_text (context_at_end closed.items) e (made closed)) is
+out_of : (closed : Closed) (output : List ℕ) (asked these : Entries) → asked ≡ these
+    → output ≡ pair_text (context_at_end closed.items) asked (made closed) → output ≡ pair_text (context_at_end closed.items) these (made closed)
+out_of closed output asked these is h = h ∙ ap (λ (e : Entries). pair_text (context_at_end closed.items) e (made closed)) is
 
 pub is_closed : (day : ℕ) (year : Option ℕ) (asked : CloseAsked) (text output : List ℕ) → asked.entries ≡ chosen.Both → IsDay asked.on → asked.on < last_day → is_utf8 asked.into ≡ true → IsEnded text → judge day year (works.Close asked) text ≡ Ok (written output) → IsClosed day year asked text output
 is_closed day year asked text output both within early into ended h =
@@ -356,7 +356,7 @@ is_closed day year asked text output both within early into ended h =
       loaded = m.loaded;
       terms = t.terms;
       query = t.query;
-      added = is_added year text output closed m.book m.read m.loaded refl within early (t.is).passes into (both_out closed output asked.entries both (t.is).is) ended;
+      added = is_added year text output closed m.book m.read m.loaded refl within early (t.is).passes into (out_of closed output asked.entries chosen.Both both (t.is).is) ended;
     }
 
 pub is_joined_text : (day : ℕ) (year : Option ℕ) (asked : CloseAsked) (text output : List ℕ) → asked.entries ≡ chosen.Both → IsDay asked.on → asked.on < last_day → is_utf8 asked.into ≡ true → judge day year (works.Close asked) text ≡ Ok (written output) → IsJoined day year asked text output
@@ -371,10 +371,181 @@ is_joined_text day year asked text output both within early into h =
       loaded = m.loaded;
       terms = t.terms;
       query = t.query;
-      joined = is_joined year text output closed m.book m.read m.loaded refl within early (t.is).passes into (both_out closed output asked.entries both (t.is).is) (front_of year text m.items m.read);
+      joined = is_joined year text output closed m.book m.read m.loaded refl within early (t.is).passes into (out_of closed output asked.entries chosen.Both both (t.is).is) (front_of year text m.items m.read);
     }
 
--- ---- the opening entry alone
+-- ---- one of the entries alone
+
+longer : (xs ys : List ℕ) → ys ≡ xs ++ gap → 65536 < length xs → 65536 + 1 < length ys
+longer xs ys same h = omega (arith, ap length same, length-append xs gap, h)
+
+module _ (year : Option ℕ) (text : List ℕ) (closed : Closed) (book : Book) (read : items_in year text ≡ Ok closed.items) (loaded : load closed.items ≡ Ok book) (txns : closed.txns ≡ book.txns)
+    (within : IsDay closed.on) (early : closed.on < last_day) (passes : first_cause closed ≡ None) (into : is_utf8 closed.into ≡ true) where
+  abbrev its_styles : Writing
+  its_styles = style_of closed.items
+
+  abbrev its_end : Context
+  its_end = context_at_end closed.items
+
+  abbrev its_context : Context
+  its_context = context_of year (items_at closed.items)
+
+  abbrev both_text : List ℕ
+  both_text = pair_text its_end chosen.Both (made closed)
+
+  none_alone : (asked : Entries) (output : List ℕ) → output ≡ pair_text its_end asked (made closed) → closing_lines closed ≡ [] → (output ≡ []) × AreEmpty closed closed.txns
+  none_alone asked output out_is e = (
+    out_is ∙ ap (λ (l : List Moved). pair_text its_end asked (entries_with its_styles closed.on l)) e,
+    subst (λ (l : List Moved). Settles closed (entries_with its_styles closed.on l)) e (settled year text both_text closed book read loaded txns within early passes into refl),
+  )
+
+  module _ (m : Moved) (ms : List Moved) (e : closing_lines closed ≡ m ∷ ms) where
+    abbrev its_ones : List Moved
+    its_ones = m ∷ ms
+
+    abbrev its_twos : List Moved
+    its_twos = opposite m ∷ map opposite ms
+
+    abbrev its_closing : Txn
+    its_closing = entry_on its_styles closed.on (codes "closing") its_ones
+
+    abbrev its_opening : Txn
+    its_opening = entry_on its_styles (closed.on + 1) (codes "opening") its_twos
+
+    ones_are : AreLinesOf its_context its_ones
+    ones_are = one_are year text both_text closed book read loaded txns within early passes into refl m ms e
+
+    twos_are : AreLinesOf its_context its_twos
+    twos_are = two_are year text both_text closed book read loaded txns within early passes into refl m ms e
+
+    closes_it : Close closed (entry_on its_styles closed.on (codes "closing") (closing_lines closed), entry_on its_styles (closed.on + 1) (codes "opening") (opening_lines closed))
+    closes_it = close year text both_text closed book read loaded txns within early passes into refl m ms e
+
+    -- the closing entry behind the text
+    module _ (output : List ℕ) (out_is : output ≡ pair_text its_end chosen.Closing (made closed)) (ends : EndsLine text) (shut : open_in 0 (lines_of text) ≡ false) where
+      abbrev it : List ℕ
+      it = joined (entry_lines its_context its_styles closed.on (codes "closing") its_ones)
+
+      it_text : entry_text its_end its_closing ≡ it ++ gap
+      it_text = first_text year text both_text closed book read loaded txns within early passes into refl m ms e
+
+      out_it : text ++ output ≡ text ++ (it ++ gap)
+      out_it =
+          ap (λ (xs : List ℕ). text ++ xs)
+          (out_is ∙ ap (λ (l : List Moved). pair_text its_end chosen.Closing (entries_with its_styles closed.on l)) e ∙ it_text)
+
+      by_it : (n : ℕ) → EndsAlone year (text ++ (it ++ gap)) it (book.txns ++ entry_at (again its_context its_styles) n closed.on (codes "closing") its_ones ∷ [])
+          → Empties closed year (text ++ output) ⊎ IsRefusedFor closed its_closing year (text ++ output)
+      by_it n (alone_loads h) = let back = sym txns in let lines_back = sym e in inl (record {
+        shape = again its_context its_styles;
+        line = n;
+        loads =
+            ap (λ (t : List ℕ). items_in year t >>= load) out_it
+            ∙ h
+            ∙ (λ i. Ok (record { txns = back i ++ entry_at (again its_context its_styles) n closed.on (codes "closing") (lines_back i) ∷ [] }));
+        emptied = emptied closed (again its_context its_styles) its_styles n 0 (closing_lines closed) (opening_lines closed) (codes "closing") (codes "opening") closes_it;
+      })
+      by_it n (alone_out line h) = inr (record { fault = record { line = line; cause = cause.Range }; fails = ap (λ (t : List ℕ). items_in year t >>= load) out_it ∙ h; cause = inl refl })
+      by_it n (alone_long line size h) = inr (record { fault = record { line = line; cause = cause.TooLong }; fails = ap (λ (t : List ℕ). items_in year t >>= load) out_it ∙ h; cause = inr (refl, longer it (entry_text its_end its_closing) it_text size) })
+
+      some_closed : Emptied closed year text output (Some (its_closing, its_opening))
+      some_closed =
+          by_it _ (alone_end year text closed.items book its_styles closed.on (codes "closing") m ms its_context refl read loaded
+          (late year text both_text closed book read loaded txns within early passes into refl) within closing_title ends shut ones_are
+          (even year text both_text closed book read loaded txns within early passes into refl m ms e))
+
+    -- the opening entry behind another text
+    module _ (output : List ℕ) (out_is : output ≡ pair_text its_end chosen.Opening (made closed)) (head : List ℕ) (like : IsLike year closed.items (closed.on + 1) head) where
+      abbrev its : List ℕ
+      its = joined (entry_lines its_context its_styles (closed.on + 1) (codes "opening") its_twos)
+
+      its_text : entry_text its_end its_opening ≡ its ++ gap
+      its_text = second_text year text both_text closed book read loaded txns within early passes into refl m ms e
+
+      out_its : head ++ output ≡ head ++ (its ++ gap)
+      out_its =
+          ap (λ (xs : List ℕ). head ++ xs)
+          (out_is ∙ ap (λ (l : List Moved). pair_text its_end chosen.Opening (entries_with its_styles closed.on l)) e ∙ its_text)
+
+      by_its : (n : ℕ) → EndsAlone year (head ++ (its ++ gap)) its ((like.book).txns ++ entry_at (again its_context its_styles) n (closed.on + 1) (codes "opening") its_twos ∷ [])
+          → Opens closed year (like.book).txns (head ++ output) ⊎ IsRefusedFor closed its_opening year (head ++ output)
+      by_its n (alone_loads h) = let lines_back = sym e in inl (record {
+        shape = again its_context its_styles;
+        line = n;
+        loads =
+            ap (λ (t : List ℕ). items_in year t >>= load) out_its
+            ∙ h
+            ∙ (λ i. Ok (record { txns = (like.book).txns ++ entry_at (again its_context its_styles) n (closed.on + 1) (codes "opening") (map opposite (lines_back i)) ∷ [] }));
+        carried = opening_carried closed (again its_context its_styles) its_styles n (codes "closing") (codes "opening") (closing_lines closed) (opening_lines closed) closes_it;
+      })
+      by_its n (alone_out line h) = inr (record { fault = record { line = line; cause = cause.Range }; fails = ap (λ (t : List ℕ). items_in year t >>= load) out_its ∙ h; cause = inl refl })
+      by_its n (alone_long line size h) = inr (record { fault = record { line = line; cause = cause.TooLong }; fails = ap (λ (t : List ℕ). items_in year t >>= load) out_its ∙ h; cause = inr (refl, longer its (entry_text its_end its_opening) its_text size) })
+
+      some_opened : Behind closed year (like.book).txns head output (Some (its_closing, its_opening))
+      some_opened =
+          by_its _ (alone_end year head like.placed like.book its_styles (closed.on + 1) (codes "opening") (opposite m) (map opposite ms) its_context like.same like.read like.loaded
+          like.late (within_two year text both_text closed book read loaded txns within early passes into refl) opening_title
+          (ends_with_line head (like.ended).line) (sym (open_block_is head) ∙ (like.ended).block) twos_are
+          (even_two year text both_text closed book read loaded txns within early passes into refl m ms e))
+
+  emptied_by : (output : List ℕ) → output ≡ pair_text its_end chosen.Closing (made closed) → EndsLine text → open_in 0 (lines_of text) ≡ false
+      → (lines : List Moved) → closing_lines closed ≡ lines → Emptied closed year text output (entries_with its_styles closed.on lines)
+  emptied_by output out_is ends shut [] e = none_alone chosen.Closing output out_is e
+  emptied_by output out_is ends shut (m ∷ ms) e = some_closed m ms e output out_is ends shut
+
+  opened_by : (output : List ℕ) → output ≡ pair_text its_end chosen.Opening (made closed) → (head : List ℕ) → (like : IsLike year closed.items (closed.on + 1) head)
+      → (lines : List Moved) → closing_lines closed ≡ lines → Behind closed year (like.book).txns head output (entries_with its_styles closed.on lines)
+  opened_by output out_is head like [] e = none_alone chosen.Opening output out_is e
+  opened_by output out_is head like (m ∷ ms) e = some_opened m ms e output out_is head like
+
+pub is_emptied : (day : ℕ) (year : Option ℕ) (asked : CloseAsked) (text output : List ℕ) → asked.entries ≡ chosen.Closing → IsDay asked.on → asked.on < last_day → is_utf8 asked.into ≡ true → IsEnded text → judge day year (works.Close asked) text ≡ Ok (written output) → IsEmptied day year asked text output
+is_emptied day year asked text output alone within early into ended h =
+    let m = judged_is (close_made asked day) year text (written output) h in
+    let t = made_terms asked day m.items m.book output m.is in
+    let closed = closed_over asked m.items m.book t.terms in
+    record {
+      items = m.items;
+      read = m.read;
+      book = m.book;
+      loaded = m.loaded;
+      terms = t.terms;
+      query = t.query;
+      emptied =
+          emptied_by year text closed m.book m.read m.loaded refl within early (t.is).passes into output (out_of closed output asked.entries chosen.Closing alone (t.is).is)
+          (ends_with_line text ended.line) (sym (open_block_is text) ∙ ended.block) (closing_lines closed) refl;
+    }
+
+-- behind the empty text an entry reads as behind items without directives
+empty_like : (year : Option ℕ) (items : List Placed) (last : ℕ) → directives_in (items_at items) ≡ [] → IsLike year items last []
+empty_like year items last none = record {
+  placed = [];
+  read = none_left year [] [];
+  book = record { txns = [] };
+  loaded = refl;
+  late = refl;
+  same = ap (context_from year) (sym none);
+  ended = record { line = refl; block = refl };
+}
+
+pub is_opened_behind : (day : ℕ) (year : Option ℕ) (asked : CloseAsked) (text output : List ℕ) → asked.entries ≡ chosen.Opening → IsDay asked.on → asked.on < last_day → is_utf8 asked.into ≡ true → judge day year (works.Close asked) text ≡ Ok (written output) → IsOpenedBehind day year asked text output
+is_opened_behind day year asked text output alone within early into h =
+    let m = judged_is (close_made asked day) year text (written output) h in
+    let t = made_terms asked day m.items m.book output m.is in
+    let closed = closed_over asked m.items m.book t.terms in
+    record {
+      items = m.items;
+      read = m.read;
+      book = m.book;
+      loaded = m.loaded;
+      terms = t.terms;
+      query = t.query;
+      opens = λ head like.
+          opened_by year text closed m.book m.read m.loaded refl within early (t.is).passes into output (out_of closed output asked.entries chosen.Opening alone (t.is).is) head like
+          (closing_lines closed) refl;
+      alone = empty_like year m.items (asked.on + 1);
+    }
+
+-- ---- what the opening entry carries
 
 opened : (closed : Closed) (output : List ℕ) (asked : Entries) → asked ≡ chosen.Opening → (entries : Option (Txn × Txn))
     → output ≡ pair_text (context_at_end closed.items) asked entries → Settles closed entries → Opened closed output entries

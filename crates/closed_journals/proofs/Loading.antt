@@ -1,4 +1,4 @@
--- The text with both entries behind it loads, or one of them is out of range.
+-- The text with one entry or both behind it loads, or one of them is out of range.
 use Rattle.std.proofs.Common.{ℕ, zero, suc, ◌≡◌, ◌≤◌, true, false, cond, List, [], ◌∷◌, ◌++◌, map, Option, Some, None, Result, Ok, Err, refl, sym, ap, subst, ◌∙◌, arith}
 use Rattle.std.specs.Prelude.{nat_lt, unwrap_or, filter}
 use Rattle.std.specs.List.{flat_map, slice_get, AllByRecursion}
@@ -29,7 +29,7 @@ use Rattle.balancing.proofs.SolvingMade.{costed_alike}
 use Rattle.balancing.proofs.SolvingRising.{all_left, all_right}
 use Rattle.book_care.specs.Late.{At, first_late, first_placed, is_late, late_postings}
 use Rattle.closed_journals.proofs.Ordered.{IsOnTime}
-use Rattle.closed_journals.proofs.Walking.{Ends, sound, first_out, second_out, IsFollowed, IsPlain, assigned_are, ends}
+use Rattle.closed_journals.proofs.Walking.{Ends, EndsAlone, alone_out, alone_sound, sound, first_out, second_out, IsFollowed, IsFollowedBy, IsPlain, assigned_are, assigned_with_it, ends, ends_alone}
 
 -- ---- days of postings
 
@@ -124,6 +124,51 @@ pub record IsLoaded (ts : List Txn) (fault : Option Fault) (book : Book) : Type 
 pub loaded_is : (ts : List Txn) (fault : Option Fault) (book : Book) → loaded ts fault ≡ Ok book → IsLoaded ts fault book
 loaded_is ts None book h = record { none = refl; txns = ap (λ (b : Book). b.txns) (let same : book ≡ record { txns = map settled ts } = cc in same) }
 loaded_is ts (Some f) book h = absurd (let never : ⊥ = cc in never)
+
+-- What becomes of the text with one entry.
+pub data LoadsAlone (items : List Placed) (txns : List Txn) (one : Txn) : Type 0 where
+  it_loads : load items ≡ Ok (record { txns = txns ++ one ∷ [] }) → LoadsAlone items txns one
+  it_is_out : load items ≡ Err (record { line = one.line; cause = cause.Range }) → LoadsAlone items txns one
+
+module _ (on : ℕ) (items more : List Placed) (book : Book) (one : Txn) (is : load items ≡ Ok book) (late : first_late on book.txns ≡ None)
+    (behind : txns_of more ≡ txns_of items ++ one ∷ []) (day : one.day.0 ≡ on) (plain : IsPlain one) where
+  abbrev written_before : List Txn
+  written_before = txns_of items
+
+  abbrev before_it : List Txn
+  before_it = assigned written_before
+
+  made_before : IsLoaded before_it (first_fault before_it [] [] (groups_of before_it)) book
+  made_before = loaded_is before_it (first_fault before_it [] [] (groups_of before_it)) book (own_book _ _ book is)
+
+  timely_before : AllByRecursion (IsOnTime on) before_it
+  timely_before = timely_book on before_it (sym (ap (first_late on) made_before.txns) ∙ late)
+
+  followed_by : (vs : List Txn) → AllByRecursion (IsOnTime on) vs → IsFollowedBy on vs one
+  followed_by vs h = record { timely = h; day = day; plain = plain }
+
+  assigned_whole : assigned (written_before ++ one ∷ []) ≡ before_it ++ one ∷ []
+  assigned_whole = assigned_with_it on written_before one (followed_by written_before (given_all on written_before [] (groups_of written_before) timely_before))
+
+  settled_whole : map settled (before_it ++ one ∷ []) ≡ book.txns ++ one ∷ []
+  settled_whole =
+      map-append settled before_it (one ∷ [])
+      ∙ ap (λ (xs : List Txn). xs ++ settled one ∷ []) (sym made_before.txns)
+      ∙ ap (λ (x : Txn). book.txns ++ x ∷ []) plain.settled_is
+
+  -- what a fault with a sum would be told by
+  abbrev other_book : Result Book Fault
+  other_book = book_of (assigned_by (λ (d : Decimal). d) (txns_of more))
+
+  start_whole : load more ≡ or_told (book_of (before_it ++ one ∷ [])) other_book
+  start_whole = ap (λ (xs : List Txn). or_told (book_of (assigned xs)) other_book) behind ∙ ap (λ (xs : List Txn). or_told (book_of xs) other_book) assigned_whole
+
+  by_end : EndsAlone (before_it ++ one ∷ []) one → LoadsAlone more book.txns one
+  by_end (alone_sound e) = it_loads (start_whole ∙ ap (λ (o : Option Fault). or_told (loaded (before_it ++ one ∷ []) o) other_book) e ∙ ap (λ (xs : List Txn). Ok (record { txns = xs })) settled_whole)
+  by_end (alone_out e) = it_is_out (start_whole ∙ ap (λ (o : Option Fault). or_told (loaded (before_it ++ one ∷ []) o) other_book) e)
+
+  pub alone_load : LoadsAlone more book.txns one
+  alone_load = by_end (ends_alone on before_it one (followed_by before_it timely_before) made_before.none)
 
 -- What becomes of the text with both entries.
 pub data Loads (items : List Placed) (txns : List Txn) (one two : Txn) : Type 0 where

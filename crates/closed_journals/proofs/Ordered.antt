@@ -207,6 +207,76 @@ module _ (P Quiet : Group → Type 0) (one two : Group) (order : Before one two)
   }
   parted (x ∷ xs) more numbers e h = insert_one (each_once group_cmp xs) (each_once group_cmp (xs ++ more)) x numbers h.0 (parted xs more numbers e h.1)
 
+-- ---- one group among others
+
+-- Groups, and the same with one more among them: those before it, and those behind it.
+pub record Divided (P : Group → Type 0) (Quiet : Group → Type 0) (one : Group) (groups all : List Group) : Type 0 where
+  pub first : List Group
+  pub second : List Group
+  pub groups_are : groups ≡ first ++ second
+  pub all_are : all ≡ first ++ one ∷ second
+  pub kept : AllByRecursion P first
+  pub quiet_second : AllByRecursion Quiet second
+  pub before_one : AllByRecursion (λ g. Before g one) first
+  pub after_one : AllByRecursion (λ g. Before one g) second
+
+module _ (P Quiet : Group → Type 0) (one : Group) where
+  divide_low : (groups all : List Group) (x : Group) → P x → Before x one → Divided P Quiet one groups all → Divided P Quiet one (insert groups x) (insert all x)
+  divide_low groups all x p low d =
+      let behind : AllByRecursion (λ r. Before x r) d.second = all_by (λ g. Before one g) (λ r. Before x r) (λ g h. before_trans x one g low h) d.second d.after_one in
+      record {
+        first = insert d.first x;
+        second = d.second;
+        groups_are = ap (λ (l : List Group). insert l x) d.groups_are ∙ insert_front d.first d.second x behind;
+        all_are = ap (λ (l : List Group). insert l x) d.all_are ∙ insert_first d.first d.second one x low;
+        kept = insert_all P d.first x p d.kept;
+        quiet_second = d.quiet_second;
+        before_one = insert_all (λ g. Before g one) d.first x low d.before_one;
+        after_one = d.after_one;
+      }
+
+  divide_high : (groups all : List Group) (x : Group) → Quiet x → Before one x → Divided P Quiet one groups all → Divided P Quiet one (insert groups x) (insert all x)
+  divide_high groups all x q high d =
+      let front : AllByRecursion (λ a. Before a x) d.first = all_by (λ g. Before g one) (λ a. Before a x) (λ g h. before_trans g one x h high) d.first d.before_one in
+      record {
+        first = d.first;
+        second = insert d.second x;
+        groups_are = ap (λ (l : List Group). insert l x) d.groups_are ∙ insert_past d.first d.second x front;
+        all_are =
+            ap (λ (l : List Group). insert l x) d.all_are
+            ∙ insert_past d.first (one ∷ d.second) x front
+            ∙ ap (λ (l : List Group). d.first ++ l) (insert_past (one ∷ []) d.second x (high, tt));
+        kept = d.kept;
+        quiet_second = insert_all Quiet d.second x q d.quiet_second;
+        before_one = d.before_one;
+        after_one = insert_all (λ g. Before one g) d.second x high d.after_one;
+      }
+
+  divide_one : (groups all : List Group) (x : Group) → Stands P Quiet one x → Divided P Quiet one groups all → Divided P Quiet one (insert groups x) (insert all x)
+  divide_one groups all x stands d = by stands.kind
+    where
+      quiet_by : Quiet x → (Before x one) ⊎ (Before one x) → Divided P Quiet one (insert groups x) (insert all x)
+      quiet_by q (inl low) = divide_low groups all x stands.kept low d
+      quiet_by q (inr high) = divide_high groups all x q high d
+
+      by : (Before x one) ⊎ (Quiet x) → Divided P Quiet one (insert groups x) (insert all x)
+      by (inl low) = divide_low groups all x stands.kept low d
+      by (inr q) = quiet_by q (apart x one stands.number)
+
+  pub divided : (xs more : List Group) → each_once group_cmp more ≡ one ∷ [] → AllByRecursion (Stands P Quiet one) xs
+      → Divided P Quiet one (each_once group_cmp xs) (each_once group_cmp (xs ++ more))
+  divided [] more e h = record {
+    first = [];
+    second = [];
+    groups_are = refl;
+    all_are = e;
+    kept = tt;
+    quiet_second = tt;
+    before_one = tt;
+    after_one = tt;
+  }
+  divided (x ∷ xs) more e h = divide_one (each_once group_cmp xs) (each_once group_cmp (xs ++ more)) x h.0 (divided xs more e h.1)
+
 -- ---- the groups of transactions
 
 -- a transaction without postings

@@ -1,4 +1,4 @@
--- A text with both entries behind it reads as the text, and then as they are.
+-- A text with one entry or both behind it reads as the text, and then as they are.
 use Rattle.std.proofs.Common.{ℕ, zero, suc, ◌≡◌, ◌+◌, ◌<◌, ◌≤◌, inl, inr, ◌⊎◌, Bool, true, false, cond, ◌==◌, List, [], ◌∷◌, ◌++◌, length, take, drop, map, Option, Result, Ok, Err, refl, sym, ap, subst, ◌∙◌, arith, append_assoc, append-nil, length-append, length-drop}
 use Rattle.std.specs.Prelude.{nat_lt}
 use Rattle.std.specs.List.{concat, AllByRecursion}
@@ -222,6 +222,68 @@ pub none_left : (year : Option ℕ) (before : List Item) (all : List ℕ) → re
 unfolding reading_from
 none_left year before all = refl
 
+-- ---- one entry behind items
+
+-- What an entry is read as, with an empty line behind it: itself, or it is too long.
+pub data OutcomeAlone (r : Read) (placed : List Placed) (line : ℕ) (bytes : List ℕ) : Type 0 where
+  it_reads : r ≡ Ok placed → OutcomeAlone r placed line bytes
+  it_is_long : 65536 < length bytes → r ≡ Err (record { line = line; cause = cause.TooLong }) → OutcomeAlone r placed line bytes
+
+-- where it lies, and the line of the empty line behind it
+abbrev pub its_pieces : ℕ → ℕ → ℕ → List ℕ → List Piece
+its_pieces at line gap_line e = piece at (length e) line kinds.Entry ∷ piece (at + length e) 1 gap_line kinds.Gap ∷ []
+
+abbrev pub its_items : ℕ → ℕ → ℕ → List ℕ → Txn → List Placed
+its_items at line gap_line e one = placed_as (piece at (length e) line kinds.Entry) (item.Txn one) ∷ placed_as (piece (at + length e) 1 gap_line kinds.Gap) item.Gap ∷ []
+
+sizes : (n : ℕ) → (n ≤ 65536) ⊎ (65536 < n)
+sizes n = elim (cases_lt 65536 n) [ inl more ↦ inr more | inr most ↦ inl most ]
+
+module _ (year : Option ℕ) (before : List Item) (at line gap_line : ℕ) (front e : List ℕ) (one : Txn) (at_is : at ≡ length front) (says : Says (context_of year before) line e one) where
+  abbrev its_gap : List ℕ
+  its_gap = 10 ∷ []
+
+  abbrev with_it : List ℕ
+  with_it = front ++ (e ++ its_gap)
+
+  abbrev then_it : List Item
+  then_it = before ++ item.Txn one ∷ []
+
+  its_bytes : take (length e) (drop at with_it) ≡ e
+  its_bytes = bytes_at with_it front e its_gap at (length e) refl at_is refl
+
+  gap_is : with_it ≡ (front ++ e) ++ (its_gap ++ [])
+  gap_is = sym (append_assoc front e its_gap)
+
+  gap_at : at + length e ≡ length (front ++ e)
+  gap_at = omega (arith, at_is, length-append front e)
+
+  gap_bytes : take 1 (drop (at + length e) with_it) ≡ its_gap
+  gap_bytes = bytes_at with_it (front ++ e) its_gap [] (at + length e) 1 gap_is gap_at refl
+
+  abbrev its_piece : Piece
+  its_piece = piece at (length e) line kinds.Entry
+
+  abbrev behind_it : List Piece
+  behind_it = piece (at + length e) 1 gap_line kinds.Gap ∷ []
+
+  by_size : (length e ≤ 65536) ⊎ (65536 < length e) → OutcomeAlone (reading_from year before with_it (its_pieces at line gap_line e)) (its_items at line gap_line e one) line e
+  by_size (inl short) = it_reads
+      (one_read year before with_it its_piece behind_it (item.Txn one)
+      (ap (reading (context_of year before) line) its_bytes ∙ reading_entry (context_of year before) line e (item.Txn one) says.utf8 says.kind short says.says)
+      ∙ ap (λ (r : Read). r >>= λ more. Ok (placed_as its_piece (item.Txn one) ∷ more))
+      (one_read year then_it with_it (piece (at + length e) 1 gap_line kinds.Gap) [] item.Gap
+      (ap (reading (context_of year then_it) gap_line) gap_bytes ∙ reading_gap (context_of year then_it) gap_line)
+      ∙ ap (λ (r : Read). r >>= λ more. Ok (placed_as (piece (at + length e) 1 gap_line kinds.Gap) item.Gap ∷ more)) (none_left year (then_it ++ item.Gap ∷ []) with_it)))
+  by_size (inr long) = it_is_long long
+      (one_fails year before with_it its_piece behind_it (fault_at line cause.TooLong)
+      (ap (reading (context_of year before) line) its_bytes ∙ reading_long (context_of year before) line e says.utf8 says.kind long))
+
+  pub it_read : OutcomeAlone (reading_from year before with_it (its_pieces at line gap_line e)) (its_items at line gap_line e one) line e
+  it_read = by_size (sizes (length e))
+
+-- ---- two entries behind them
+
 module _ (year : Option ℕ) (before : List Item) (l : Lying) (front e f : List ℕ) (one two : Txn) (at_is : l.at ≡ length front)
     (says_one : Says (context_of year before) l.first_line e one) (says_two : Says (context_of year before) l.second_line f two) where
   abbrev gap : List ℕ
@@ -321,9 +383,6 @@ module _ (year : Option ℕ) (before : List Item) (l : Lying) (front e f : List 
   by_first (inr long) other = first_long long
       (one_fails year before all first after_first (fault_at l.first_line cause.TooLong)
       (ap (reading (context_of year before) l.first_line) bytes_one ∙ reading_long (context_of year before) l.first_line e says_one.utf8 says_one.kind long))
-
-  sizes : (n : ℕ) → (n ≤ 65536) ⊎ (65536 < n)
-  sizes n = elim (cases_lt 65536 n) [ inl more ↦ inr more | inr most ↦ inl most ]
 
   pub two_read : Outcome (reading_from year before all (pieces_of l e f)) (placed_of l e f one two) l.first_line l.second_line e f
   two_read = by_first (sizes (length e)) (sizes (length f))

@@ -1,4 +1,4 @@
--- A text with two plain entries behind it: its assignments, and the first fault of its groups.
+-- A text with one or two plain entries behind it: its assignments, and the first fault of its groups.
 use Rattle.std.proofs.Common.{ℕ, zero, suc, ◌≡◌, ◌+◌, ◌<◌, ◌≤◌, inl, inr, ◌⊎◌, Bool, true, false, cond, not, List, [], ◌∷◌, ◌++◌, length, Option, Some, None, refl, sym, ap, subst, ◌∙◌, arith, append-nil}
 use Rattle.std.specs.List.{slice_get, AllByRecursion}
 use Rattle.std.proofs.lemmas.Bool.{cases_lt}
@@ -19,7 +19,7 @@ use Rattle.balancing.specs.Parts.{postings_of_group, postings_on}
 use Rattle.balancing.proofs.Given.{given-keeps, given_at-same}
 use Rattle.balancing.proofs.SolvingBook.{group_ok, no_cause, none_of}
 use Rattle.balancing.proofs.SolvingRising.{all_append}
-use Rattle.closed_journals.proofs.Ordered.{BareIf, Before, IsGroup, IsOnTime, Parted, Stands, all_by, groups_append, groups_known, parted}
+use Rattle.closed_journals.proofs.Ordered.{BareIf, Before, Divided, IsGroup, IsOnTime, Parted, Stands, all_by, divided, groups_append, groups_known, parted}
 
 -- ---- places in two lists
 
@@ -222,7 +222,112 @@ module _ (all : List Txn) (before : List Value) (seen : List Posting) (g : Group
   pass_plain : slice_get all g.1 ≡ Some t → IsPlain t → Goes all before seen g bs t
   pass_plain there plain = by fits_there fits_itself refl refl (first there plain) plain
 
--- ---- all of it
+-- ---- one entry behind a text
+
+-- The first fault there is: none, or the entry is out of range.
+pub data EndsAlone (all : List Txn) (one : Txn) : Type 0 where
+  alone_sound : first_fault all [] [] (groups_of all) ≡ None → EndsAlone all one
+  alone_out : first_fault all [] [] (groups_of all) ≡ Some (record { line = one.line; cause = cause.Range }) → EndsAlone all one
+
+-- What is known of a text and an entry behind it.
+pub record IsFollowedBy (on : ℕ) (ts : List Txn) (one : Txn) : Type 0 where
+  pub timely : AllByRecursion (IsOnTime on) ts
+  pub day : one.day.0 ≡ on
+  pub plain : IsPlain one
+
+module _ (on : ℕ) (ts : List Txn) (one : Txn) (is : IsFollowedBy on ts one) where
+  abbrev with_it : List Txn
+  with_it = ts ++ one ∷ []
+
+  abbrev its_group : Group
+  its_group = (one.day.0, length ts)
+
+  its_time : (g : Group) → g.0 ≤ on → g.1 < length ts → Before g its_group
+  its_time g most within = by (cases_lt g.0 one.day.0)
+    where
+      by : (g.0 < one.day.0) ⊎ (one.day.0 ≤ g.0) → Before g its_group
+      by (inl less) = inl less
+      by (inr more) = inr (let same : g.0 ≡ one.day.0 = omega (arith, most, is.day) in same, within)
+
+  before_it : (g : Group) → IsGroup on 0 ts g → Stands (Within ts) (Quiet ts) its_group g
+  before_it g known = record { kept = within; number = within; kind = by known.kind }
+    where
+      number : g.1 ≡ known.place
+      number = omega (arith, known.is)
+
+      within : g.1 < length ts
+      within = omega (arith, known.is, known.within)
+
+      by : (g.0 ≤ on) ⊎ BareIf (slice_get ts known.place) → (Before g its_group) ⊎ (Quiet ts g)
+      by (inl most) = inl (its_time g most within)
+      by (inr bare) = inr (within, subst (λ (k : ℕ). BareIf (slice_get ts k)) (sym number) bare)
+
+  its_groups : List Group
+  its_groups = groups_by (length ts) one one.postings ++ []
+
+  its_groups_are : each_once group_cmp its_groups ≡ its_group ∷ []
+  unfolding its_groups
+  its_groups_are = is.plain.own (length ts)
+
+  groups_with_it : groups_from 0 with_it ≡ groups_from 0 ts ++ its_groups
+  unfolding its_groups
+  groups_with_it = groups_append 0 ts (one ∷ []) ∙ ap (λ (k : ℕ). groups_from 0 ts ++ groups_from k (one ∷ [])) (none (length ts))
+    where
+      none : (n : ℕ) → 0 + n ≡ n
+      none n = omega arith
+
+  pub all_divided : Divided (Within ts) (Quiet ts) its_group (groups_of ts) (groups_of with_it)
+  all_divided =
+      subst (λ (gs : List Group). Divided (Within ts) (Quiet ts) its_group (groups_of ts) (each_once group_cmp gs)) (sym groups_with_it)
+      (divided (Within ts) (Quiet ts) its_group (groups_from 0 ts) its_groups its_groups_are
+      (all_by (IsGroup on 0 ts) (Stands (Within ts) (Quiet ts) its_group) before_it (groups_from 0 ts) (groups_known on 0 ts is.timely)))
+
+  ready_with_it : (vs : List Txn) (gs : List Group) → length vs ≡ length ts → AllByRecursion (Ready vs) gs → AllByRecursion (Within ts) gs → AllByRecursion (Ready (vs ++ one ∷ [])) gs
+  ready_with_it vs [] e h w = tt
+  ready_with_it vs (g ∷ gs) e h w = (ap is_ready (get_front vs (one ∷ []) g.1 (omega (arith, e, w.0))) ∙ h.0, ready_with_it vs gs e h.1 w.1)
+
+  there_it : (vs : List Txn) → length vs ≡ length ts → slice_get (vs ++ one ∷ []) (length ts) ≡ Some one
+  there_it vs e = get_behind vs (one ∷ []) (length ts) 0 (omega (arith, e))
+
+  -- the assignments of the text are made as they are without the entry
+  pub assigned_with_it : assigned with_it ≡ assigned ts ++ one ∷ []
+  assigned_with_it =
+      let d = all_divided in
+      let vs = given_from ts [] d.first in
+      let seen = seen_after ts [] d.first in
+      let count : length vs ≡ length ts = from_length ts [] d.first in
+      let within : AllByRecursion (Within ts) d.second = all_by (Quiet ts) (Within ts) (λ g q. q.0) d.second d.quiet_second in
+      let second =
+      ready_after ts [] d.first d.second (all_by (Quiet ts) (Ready ts) (λ g q. bare_ready (slice_get ts g.1) q.1) d.second d.quiet_second) in
+      let alone : assigned ts ≡ vs =
+      ap (given_from ts []) d.groups_are ∙ given_parts ts [] d.first d.second ∙ given_none vs seen d.second second in
+      let later : AllByRecursion (Ready (vs ++ one ∷ [])) (its_group ∷ d.second) = (
+        ap is_ready (there_it vs count) ∙ ap not is.plain.ready,
+        ready_with_it vs d.second count second within,
+      ) in
+      ap (given_from with_it []) d.all_are
+      ∙ given_parts with_it [] d.first (its_group ∷ d.second)
+      ∙ ap (λ (l : List Txn). given_from l (seen_after with_it [] d.first) (its_group ∷ d.second)) (given_among ts (one ∷ []) [] d.first d.kept)
+      ∙ given_none (vs ++ one ∷ []) (seen_after with_it [] d.first) (its_group ∷ d.second) later
+      ∙ ap (λ (l : List Txn). l ++ one ∷ []) (sym alone)
+
+  bare_with_it : (gs : List Group) → AllByRecursion (Quiet ts) gs → AllByRecursion (λ g. BareIf (slice_get with_it g.1)) gs
+  bare_with_it gs h = all_by (Quiet ts) (λ g. BareIf (slice_get with_it g.1)) (λ g q. subst BareIf (sym (get_front ts (one ∷ []) g.1 q.0)) q.1) gs h
+
+  pub ends_alone : first_fault ts [] [] (groups_of ts) ≡ None → EndsAlone with_it one
+  ends_alone none =
+      let d = all_divided in
+      let front = pass ts (one ∷ []) [] [] d.first (its_group ∷ d.second) d.second d.kept refl (sym (ap (first_fault ts [] []) d.groups_are) ∙ none) in
+      let start : first_fault with_it [] [] (groups_of with_it) ≡ first_fault with_it front.before_them front.seen_then (its_group ∷ d.second) = ap (first_fault with_it [] []) d.all_are ∙ front.rest in
+      at_it d start (pass_plain with_it front.before_them front.seen_then its_group d.second one (there_it ts refl) is.plain)
+    where
+      at_it : (d : Divided (Within ts) (Quiet ts) its_group (groups_of ts) (groups_of with_it)) {before : List Value} {seen : List Posting}
+          → first_fault with_it [] [] (groups_of with_it) ≡ first_fault with_it before seen (its_group ∷ d.second) → Goes with_it before seen its_group d.second one → EndsAlone with_it one
+      at_it d e (stops f) = alone_out (e ∙ f)
+      at_it d e (goes_on next later fits f) =
+          alone_sound (e ∙ f ∙ ap (first_fault with_it next later) (sym (append-nil d.second)) ∙ pass_quiet with_it next later d.second [] (bare_with_it d.second d.quiet_second) fits)
+
+-- ---- two entries behind it
 
 -- The first fault there is: none, or one of the two is out of range.
 pub data Ends (all : List Txn) (one two : Txn) : Type 0 where

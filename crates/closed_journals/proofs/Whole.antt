@@ -1,4 +1,4 @@
--- A text with the entries of what is closed behind it.
+-- A text with one or both of the entries of what is closed behind it.
 use Rattle.std.proofs.Common.{ℕ, suc, pos, ◌≡◌, ◌+◌, ◌<◌, ◌≤◌, inl, inr, ◌⊎◌, true, false, List, [], ◌∷◌, ◌++◌, length, map, codes, Option, None, Result, Ok, Err, refl, sym, ap, subst, ◌∙◌, arith, append_assoc, length-append}
 use Rattle.std.specs.List.{concat, prefix_len}
 use Rattle.std.proofs.lemmas.Grind.{flat_map-append}
@@ -32,10 +32,10 @@ use Rattle.closed_journals.proofs.Cuts.{Begins, EndsLine, cut_entry, cut_front, 
 use Rattle.closed_journals.proofs.Entries.{AreLinesOf, IsTitle, again, entry_lines, entry_read, head_bytes, posting_lines, widths}
 use Rattle.closed_journals.proofs.Even.{AreFew, is_plain}
 use Rattle.closed_journals.proofs.Lined.{all_indented, entry_is_lines}
-use Rattle.closed_journals.proofs.Loading.{both_load, one_out, two_out, whole}
+use Rattle.closed_journals.proofs.Loading.{LoadsAlone, alone_load, both_load, it_is_out, it_loads, one_out, two_out, whole}
 use Rattle.closed_journals.proofs.Loading as loading
 use Rattle.closed_journals.proofs.Walking.{IsPlain}
-use Rattle.closed_journals.proofs.Pieces.{Lying, Outcome, Says, before_more, concat_lines, first_long, items_at, pieces_of, placed_of, read_front, reads, second_long, two_read, within_text}
+use Rattle.closed_journals.proofs.Pieces.{Lying, Outcome, OutcomeAlone, Says, before_more, concat_lines, first_long, it_is_long, it_read, it_reads, items_at, its_items, its_pieces, pieces_of, placed_of, read_front, reads, second_long, two_read, within_text}
 
 -- ---- one entry
 
@@ -89,6 +89,86 @@ few_of context (m ∷ ms) are = (more ((are.0).short).few, few_of context ms are
   where
     more : (m.value).places ≤ 18 → (m.value).places ≤ 36
     more h = omega (arith, h)
+
+-- ---- one of them behind a text
+
+-- What becomes of the whole text: it loads, or the entry is out of range, or too long.
+pub data EndsAlone (year : Option ℕ) (all e : List ℕ) (txns : List Txn) : Type 0 where
+  alone_loads : (items_in year all >>= load) ≡ Ok (record { txns = txns }) → EndsAlone year all e txns
+  alone_out : (line : ℕ) → (items_in year all >>= load) ≡ Err (record { line = line; cause = cause.Range }) → EndsAlone year all e txns
+  alone_long : (line : ℕ) → 65536 < length e → (items_in year all >>= load) ≡ Err (record { line = line; cause = cause.TooLong }) → EndsAlone year all e txns
+
+module _ (year : Option ℕ) (text : List ℕ) (items : List Placed) (book : Book) (styles : Writing) (day : ℕ) (d : List ℕ) (m : Moved) (ms : List Moved) (c : Context) (same : context_of year (items_at items) ≡ c)
+    (read : items_in year text ≡ Ok items) (loaded_is : load items ≡ Ok book) (late : first_late day book.txns ≡ None)
+    (within : IsDay day) (title : IsTitle d) (ends : EndsLine text) (shut : open_in 0 (lines_of text) ≡ false)
+    (are : AreLinesOf c (m ∷ ms)) (even : (symbol : List ℕ) → lines_in symbol (m ∷ ms) ≡ pos 0) where
+  abbrev it : List ℕ
+  it = joined (entry_lines c styles day d (m ∷ ms))
+
+  abbrev with_it : List ℕ
+  with_it = text ++ (it ++ gap)
+
+  abbrev its_head : List ℕ
+  its_head = ended (head_bytes day d)
+
+  abbrev its_lines : List (List ℕ)
+  its_lines = map ended (posting_lines c styles (m ∷ ms))
+
+  abbrev its_at : ℕ
+  its_at = 0 + length (concat (lines_of text))
+
+  abbrev its_line : ℕ
+  its_line = 1 + length (lines_of text)
+
+  abbrev its_gap : ℕ
+  its_gap = 1 + length (lines_of text) + 1 + length its_lines
+
+  abbrev its_txn : Txn
+  its_txn = entry_at (again c styles) its_line day d (m ∷ ms)
+
+  its_pieces_are : items_of with_it ≡ items_of text ++ its_pieces its_at its_line its_gap it
+  its_pieces_are =
+      ap (cut_from 0 0 1) (lines_front text (it ++ gap) ends ∙ ap (λ (ls : List (List ℕ)). lines_of text ++ ls) (lines_then c styles day d (m ∷ ms) within title are gap))
+      ∙ cut_front 0 0 1 (lines_of text) (its_head ∷ (its_lines ++ gap ∷ [])) (none_of_them (length (lines_of text))) shut
+      (begins c styles day d (m ∷ ms) within title are (its_lines ++ gap ∷ []))
+      ∙ ap (λ (ps : List Piece). items_of text ++ ps) (cut_is c styles day d (m ∷ ms) within title are its_at its_line [] refl)
+    where
+      none_of_them : (n : ℕ) → 0 ≤ n
+      none_of_them n = omega arith
+
+  its_place : its_at ≡ length text
+  its_place = start (concat (lines_of text)) (concat_lines text)
+    where
+      start : (xs : List ℕ) → xs ≡ text → 0 + length xs ≡ length text
+      start xs same = omega (arith, ap length same)
+
+  read_with_it : items_in year with_it ≡ before_more items (reading_from year (items_at items) with_it (its_pieces its_at its_line its_gap it))
+  read_with_it = ap (reading_from year [] with_it) its_pieces_are ∙ read_front year [] text (it ++ gap) (items_of text) (its_pieces its_at its_line its_gap it) items (within_text text) read
+
+  abbrev all_items : List Placed
+  all_items = items ++ its_items its_at its_line its_gap it its_txn
+
+  txns_with_it : txns_of all_items ≡ txns_of items ++ its_txn ∷ []
+  txns_with_it = flat_map-append (λ (placed : Placed). txn_in placed.item) items (its_items its_at its_line its_gap it its_txn)
+
+  its_plain : IsPlain its_txn
+  its_plain = is_plain (again c styles) its_line day d m ms (few_of c (m ∷ ms) are) even
+
+  load_with_it : items_in year with_it ≡ Ok all_items → LoadsAlone all_items book.txns its_txn → EndsAlone year with_it it (book.txns ++ its_txn ∷ [])
+  load_with_it r (it_loads h) = alone_loads (ap (λ (x : Result (List Placed) Fault). x >>= load) r ∙ h)
+  load_with_it r (it_is_out h) = alone_out its_line (ap (λ (x : Result (List Placed) Fault). x >>= load) r ∙ h)
+
+  outcome_with_it : OutcomeAlone (reading_from year (items_at items) with_it (its_pieces its_at its_line its_gap it)) (its_items its_at its_line its_gap it its_txn) its_line it
+      → EndsAlone year with_it it (book.txns ++ its_txn ∷ [])
+  outcome_with_it (it_reads r) =
+      load_with_it (read_with_it ∙ ap (before_more items) r)
+      (alone_load day items all_items book its_txn loaded_is late txns_with_it refl its_plain)
+  outcome_with_it (it_is_long h r) = alone_long its_line h (ap (λ (x : Result (List Placed) Fault). x >>= load) (read_with_it ∙ ap (before_more items) r))
+
+  pub alone_end : EndsAlone year with_it it (book.txns ++ its_txn ∷ [])
+  alone_end =
+      outcome_with_it (it_read year (items_at items) its_at its_line its_gap text it its_txn its_place
+      (subst (λ (context : Context). Says context its_line it its_txn) (sym same) (says c styles day d (m ∷ ms) within title are its_line)))
 
 -- ---- both of them behind a text
 

@@ -1,5 +1,5 @@
 -- Closing entries that are added to the text of which they are made.
-use Rattle.std.specs.Prelude.{◌≡◌, ◌<◌, ℕ, suc, ◌+◌, ◌⊎◌, true, false, List, [], ◌∷◌, ◌++◌, length, codes, Option, Some, None, Ok, Err}
+use Rattle.std.specs.Prelude.{◌≡◌, ◌<◌, ℕ, suc, ◌+◌, ◌⊎◌, true, false, List, [], ◌∷◌, ◌++◌, length, map, codes, Option, Some, None, Ok, Err}
 use Rattle.hl_base.specs.Ascii.{line_feed}
 use Rattle.hl_base.specs.Items.{items_of}
 use Rattle.hl_base.specs.declared.items.Piece.{Piece}
@@ -18,11 +18,13 @@ use Rattle.balancing.specs.Load.{load}
 use Rattle.book_care.specs.Asked.{Asked as Closed, is_named}
 use Rattle.book_care.specs.Balances.{AreEmpty, IsKept, balance}
 use Rattle.book_care.specs.Entries.{made}
+use Rattle.book_care.specs.Late.{first_late}
 use Rattle.book_care.specs.Lines.{Moved, closing_lines, opening_lines}
 use Rattle.book_care.specs.Reads.{context_at_end}
 use Rattle.book_commands.specs.Works.{closed_over, entry_text}
 use Rattle.book_commands.specs.declared.work.CloseAsked.{CloseAsked}
 use Rattle.entry_reader.specs.Causes.{◌>>=◌}
+use Rattle.entry_reader.specs.Contexts.{context_of, directives_in}
 use Rattle.journal_reader.specs.Items.{items_in}
 use Rattle.live_journal.specs.Edits.{added, has_open_block, last_piece, line_end}
 use Rattle.query_terms.specs.Reading.{terms_of}
@@ -143,6 +145,37 @@ pub record IsJoined (day : ℕ) (year : Option ℕ) (asked : CloseAsked) (text o
   pub query : terms_of day asked.words ≡ Ok terms
   pub joined : Joined (closed_over asked items book terms) year text output (made (closed_over asked items book terms))
 
+-- ---- the closing entry alone
+
+-- It loads to the book of the text, with the closing entry behind it; and then each named account is empty.
+pub record Empties (closed : Closed) (year : Option ℕ) (text : List ℕ) : Type 0 where
+  pub shape : Shaped
+  pub line : ℕ
+  pub loads : Loads year text (closed.txns ++ closing_at shape line closed ∷ [])
+  pub emptied : AreEmpty closed (closed.txns ++ closing_at shape line closed ∷ [])
+
+-- Its fault is that it is out of range, or that an entry is too long, where it is over 65,536 bytes.
+pub record IsRefusedFor (closed : Closed) (entry : Txn) (year : Option ℕ) (text : List ℕ) : Type 0 where
+  pub fault : Fault
+  pub fails : Fails year text fault
+  pub cause : (fault.cause ≡ cause.Range) ⊎ ((fault.cause ≡ cause.TooLong) × IsLong closed entry)
+
+-- What becomes of a text with the closing entry behind it: there is none, and the named accounts are empty; or it loads so, or is
+-- refused so.
+abbrev pub Emptied : Closed → Option ℕ → List ℕ → List ℕ → Option (Txn × Txn) → Type 0
+Emptied closed year text output None = (output ≡ []) × AreEmpty closed closed.txns
+Emptied closed year text output (Some entries) = Empties closed year (text ++ output) ⊎ IsRefusedFor closed entries.0 year (text ++ output)
+
+-- What a text was read and loaded to where its accounts are closed, and what becomes of it with the closing entry behind it.
+pub record IsEmptied (day : ℕ) (year : Option ℕ) (asked : CloseAsked) (text output : List ℕ) : Type 0 where
+  pub items : List Placed
+  pub read : items_in year text ≡ Ok items
+  pub book : Book
+  pub loaded : load items ≡ Ok book
+  pub terms : List Term
+  pub query : terms_of day asked.words ≡ Ok terms
+  pub emptied : Emptied (closed_over asked items book terms) year text output (made (closed_over asked items book terms))
+
 -- ---- the opening entry alone
 
 -- In a journal of this transaction alone each named account has the balance that it has in the text.
@@ -163,3 +196,40 @@ pub record IsOpened (day : ℕ) (year : Option ℕ) (asked : CloseAsked) (text o
   pub terms : List Term
   pub query : terms_of day asked.words ≡ Ok terms
   pub opened : Opened (closed_over asked items book terms) output (made (closed_over asked items book terms))
+
+-- A text behind which an entry reads as behind some items: its directives say the same of what follows. It loads, has no posting
+-- after a day, and ends as a text may at whose end entries are written.
+pub record IsLike (year : Option ℕ) (items : List Placed) (last : ℕ) (head : List ℕ) : Type 0 where
+  pub placed : List Placed
+  pub read : items_in year head ≡ Ok placed
+  pub book : Book
+  pub loaded : load placed ≡ Ok book
+  pub late : first_late last book.txns ≡ None
+  pub same : context_of year (map (λ p. p.item) placed) ≡ context_of year (map (λ p. p.item) items)
+  pub ended : IsEnded head
+
+-- It loads to these transactions with the opening entry behind them, which carries the balances.
+pub record Opens (closed : Closed) (year : Option ℕ) (txns : List Txn) (text : List ℕ) : Type 0 where
+  pub shape : Shaped
+  pub line : ℕ
+  pub loads : Loads year text (txns ++ opening_at shape line closed ∷ [])
+  pub carried : Carries closed (opening_at shape line closed)
+
+-- What becomes of a text of these transactions with the opening entry behind it: there is none, and the named accounts are empty;
+-- or it loads so, or is refused so.
+abbrev pub Behind : Closed → Option ℕ → List Txn → List ℕ → List ℕ → Option (Txn × Txn) → Type 0
+Behind closed year txns head output None = (output ≡ []) × AreEmpty closed closed.txns
+Behind closed year txns head output (Some entries) = Opens closed year txns (head ++ output) ⊎ IsRefusedFor closed entries.1 year (head ++ output)
+
+-- What a text was read and loaded to where its accounts are opened again, and what becomes of any text behind which the opening
+-- entry reads as behind this one.
+pub record IsOpenedBehind (day : ℕ) (year : Option ℕ) (asked : CloseAsked) (text output : List ℕ) : Type 0 where
+  pub items : List Placed
+  pub read : items_in year text ≡ Ok items
+  pub book : Book
+  pub loaded : load items ≡ Ok book
+  pub terms : List Term
+  pub query : terms_of day asked.words ≡ Ok terms
+  pub opens : (head : List ℕ) → (like : IsLike year items (asked.on + 1) head)
+      → Behind (closed_over asked items book terms) year (like.book).txns head output (made (closed_over asked items book terms))
+  pub alone : directives_in (map (λ p. p.item) items) ≡ [] → IsLike year items (asked.on + 1) []
