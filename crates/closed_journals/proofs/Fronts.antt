@@ -1,7 +1,7 @@
 -- A text with a line's end behind it, and then the end of a comment block, reads as the text.
-use Rattle.std.proofs.Common.{ℕ, zero, suc, ◌≡◌, ◌+◌, ◌-◌, ◌<◌, ◌≤◌, inl, inr, ◌⊎◌, Bool, true, false, cond, ◌==◌, ◌&&◌, ◌||◌, not, codes, List, [], ◌∷◌, ◌++◌, length, take, drop, map, Option, Some, None, Result, Ok, Err, refl, sym, ap, subst, ◌∙◌, arith, append_assoc, append-nil, length-append}
+use Rattle.std.proofs.Common.{ℕ, suc, ◌≡◌, ◌+◌, ◌-◌, ◌<◌, ◌≤◌, inl, inr, ◌⊎◌, Bool, true, false, cond, ◌==◌, ◌&&◌, ◌||◌, not, codes, List, [], ◌∷◌, ◌++◌, length, take, drop, map, Option, Some, Result, Ok, Err, refl, sym, ap, subst, ◌∙◌, arith, append_assoc, append-nil, length-append}
 use Rattle.std.specs.Prelude.{nat_lt, slice_index}
-use Rattle.std.specs.List.{concat, list_any, prefix_len, slice_get, take_while, AllByRecursion}
+use Rattle.std.specs.List.{concat, list_any, prefix_len, take_while, AllByRecursion}
 use Rattle.std.specs.Str.{is_utf8}
 use Rattle.std.proofs.Math.Seq.{take-append_seam, take-length}
 use Rattle.std.proofs.lemmas.Bool.{cases_lt, false≢true}
@@ -19,7 +19,6 @@ use Rattle.book.specs.declared.fault.Fault.{Fault}
 use Rattle.book.specs.declared.item.Item.{Item}
 use Rattle.book.specs.declared.item.Item.TheVariants as item
 use Rattle.book.specs.declared.item.Placed.{Placed}
-use Rattle.book.specs.declared.transaction.Txn.{Txn}
 use Rattle.entry_reader.specs.Causes.{fault_at, ◌>>=◌}
 use Rattle.entry_reader.specs.Contexts.{Context, context_of}
 use Rattle.entry_reader.specs.Entries.{entry_of}
@@ -27,7 +26,7 @@ use Rattle.entry_reader.specs.Lines.{content_of, contents_of}
 use Rattle.entry_reader.proofs.Texts.{empty_utf8}
 use Rattle.directive_reader.specs.Directives.{head_item}
 use Rattle.journal_reader.specs.Items.{broken_line, items_in, reading, reading_from, said_by}
-use Rattle.live_journal.specs.Edits.{block_end, blank_line, ends_line, has_open_block, is_block, last_piece, line_end}
+use Rattle.live_journal.specs.Edits.{block_end, ends_line, has_open_block, is_block, last_piece, line_end}
 use Rattle.written_logs.proofs.Bytes.{utf8_append, utf8_ascii}
 use Rattle.closed_journals.proofs.Blocks.{all_taken, ends_with_line, last_more, open_block_is, same_head, same_tail, some_bytes, split_of}
 use Rattle.closed_journals.proofs.Cuts.{Begins, EndsLine, close_front, cut_front, gap, gap_cut, lines_front, open_in, skip}

@@ -1,13 +1,12 @@
 -- A line's end behind a text that doesn't end with one.
-use Rattle.std.proofs.Common.{ℕ, zero, suc, ◌≡◌, ◌+◌, ◌<◌, ◌≤◌, Bool, true, false, cond, ◌==◌, ◌&&◌, ◌||◌, not, codes, List, [], ◌∷◌, ◌++◌, length, take, drop, map, Some, refl, sym, ap, subst, ◌∙◌, arith, append_assoc}
+use Rattle.std.proofs.Common.{ℕ, suc, ◌≡◌, ◌+◌, ◌<◌, Bool, true, false, cond, ◌==◌, ◌&&◌, ◌||◌, not, codes, List, [], ◌∷◌, ◌++◌, length, take, drop, map, Some, refl, sym, ap, ◌∙◌, arith}
 use Rattle.std.specs.Cmp.Lexicographic.{pointwise}
-use Rattle.std.specs.List.{concat, find, list_all, list_any, prefix_len, take_while}
+use Rattle.std.specs.List.{find, list_all, list_any, prefix_len, take_while}
 use Rattle.std.proofs.lemmas.Bool.{false≢true}
 use Rattle.std.proofs.lemmas.List.{take-append-le}
 use Rattle.std.proofs.lemmas.List.Sums.{prefix_len-le-length}
-use Rattle.hl_base.specs.Items.{begins_entry, closes_block, is_blank, is_indented, is_remark, is_white, kind_of, lines_more, lines_to_close, marks_remark, opens_block}
+use Rattle.hl_base.specs.Items.{begins_entry, closes_block, is_blank, is_indented, is_remark, is_white, kind_of, lines_to_close, marks_remark, opens_block}
 use Rattle.hl_base.specs.Lines.{lines_of, onto}
-use Rattle.hl_base.specs.declared.items.Kind.{Kind}
 use Rattle.hl_base.specs.declared.items.Kind.TheVariants as kinds
 use Rattle.hl_base.proofs.LineLemmas.{lines_split}
 use Rattle.entry_reader.specs.Lines.{before_white, content_of}
