@@ -17,5 +17,3 @@ mod runs;
 mod stores;
 #[cfg(test)]
 mod talks;
-#[cfg(test)]
-mod threads;

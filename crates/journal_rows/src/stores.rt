@@ -11,12 +11,12 @@ const HOME: &[u8] =
 fn reads_a_store(rt: HostRuntime) -> Result<(), Fail> {
     for (words, load_fails, disk_fails, status, output, error) in [
         (
-            ["accounts", "--store=home", "food"].as_slice(),
+            ["export", "none"].as_slice(),
             [].as_slice(),
             [].as_slice(),
-            0,
-            b"expenses:food\n".as_slice(),
+            8,
             b"".as_slice(),
+            b"error: absent: none\n".as_slice(),
         ),
         (
             ["export", "home"].as_slice(),
