@@ -1,44 +1,23 @@
-//! Rules and a text, worked out by hand from the rules of the format; other texts are in tests/journals.
+//! A text, worked out by hand from the rules of the format; other texts are in tests/journals.
 ghost use Rattle.std.specs.Prelude.{◌≡◌};
 
 use book::Item;
 use hl_base::Steps;
-use journal_reader::{Context, read_item, read_journal};
+use journal_reader::read_journal;
 use std::alloc::Global;
 use std::marker::Brand;
 use std::process::Abort;
 use std::sync::ledger::{Blank, Ledger};
 use std::test::Fail;
 
-/// How many postings a text of one rule has.
-#[tactic(auto, using(entry_reader::proofs::Lines::few_lines))]
-fn rule_postings<L: Ledger, R: Abort>(
-    rt: &R,
-    alloc: Global,
-    text: &[u8],
-    steps: &mut Steps<L>,
-) -> Result<usize, Fail> {
-    let context = Context::start(alloc, None)?;
-    assert!(rt; text.len() < 100);
-    match read_item(alloc, text, &context, 7, steps) {
-        Ok(item) => match &item {
-            Item::Auto(rule) => Ok(rule.postings.len()),
-            Item::Periodic(rule) => Ok(rule.postings.len()),
-            _ => Err(Fail::new("a rule")),
-        },
-        Err(_) => Err(Fail::new("it reads")),
-    }
-}
-
 /// A directive, two entries without a year, and a gap.
 const TWO: &[u8] = b"apply account own\n1/5 x\n    a  1 EUR\n2/29 y\n    a  1 EUR\n \n";
 
-/// A rule with one posting, and one with two; then the text's items with a year for its dates, and none without one.
+/// The text's items with a year for its dates, and none without one.
 fn each_text<L: Ledger, R: Abort>(
     rt: &R,
     alloc: Global,
     blank: Blank,
-    rules: (&[u8], &[u8]),
     text: &[u8],
 ) -> Result<(), Fail>
     requires name { blank.name ≡ L.name }
@@ -46,10 +25,6 @@ fn each_text<L: Ledger, R: Abort>(
     requires three { blank.parts ≡ 3 }
 {
     let mut steps = Steps::<L>::start(blank);
-    let count = rule_postings(rt, alloc, rules.0, &mut steps)?;
-    assert!(rt; count == 1);
-    let count = rule_postings(rt, alloc, rules.1, &mut steps)?;
-    assert!(rt; count == 2);
     assert!(rt; text.len() < 100);
     assert!(rt; read_journal(alloc, text, None, &mut steps).is_err());
     match read_journal(alloc, text, Some(2024), &mut steps) {
@@ -71,10 +46,7 @@ fn each_text<L: Ledger, R: Abort>(
     Ok(())
 }
 
-/// An automated rule, and a periodic one.
-const RULES: (&[u8], &[u8]) = (b"= expenses\n  (b)  *-1\n", b"~ monthly\n  a  $400\n  b\n");
-
 #[test]
 fn texts(rt: HostRuntime) -> Result<(), Fail> {
-    each_text::<Brand, HostRuntime>(&rt, rt.alloc(), Blank::new(3), RULES, TWO)
+    each_text::<Brand, HostRuntime>(&rt, rt.alloc(), Blank::new(3), TWO)
 }

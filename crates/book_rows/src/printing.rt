@@ -1,10 +1,9 @@
-//! Transactions worked out by hand.
-use crate::rules::{amount, posting};
+//! Transactions worked out by hand; what `print` and `close` write is in tests/commands.
+use crate::samples::{amount, posting};
 use book::{Book, Mark, Styles, Txn};
-use entry_reader::Context;
 use hl_base::{List, Text};
 use hl_time::Day;
-use journal_printer::{Detail, print_book, print_chosen, print_entry, print_txn};
+use journal_printer::{Detail, print_book};
 use std::alloc::Global;
 use std::test::Fail;
 
@@ -30,20 +29,6 @@ fn bread(alloc: Global, day: u32, quantity: u16) -> Result<Txn, Fail> {
 }
 
 #[test]
-fn prints_transactions(rt: HostRuntime) -> Result<(), Fail> {
-    let alloc = rt.alloc();
-    let styles = Styles::new(alloc);
-    let txn = bread(alloc, DAY, 10)?;
-    let want = "2024-01-05 bread\n    expenses:food   10 EUR\n    assets:cash    -10 EUR\n";
-    let text = print_txn(alloc, &txn, &styles, Detail::Written)?;
-    assert_eq!(rt; text.as_slice(), want.as_bytes());
-    let context = Context::start(alloc, None)?;
-    let text = print_entry(alloc, &txn, &context)?;
-    assert_eq!(rt; text.as_slice(), want.as_bytes());
-    Ok(())
-}
-
-#[test]
 fn prints_a_book_by_day(rt: HostRuntime) -> Result<(), Fail> {
     let alloc = rt.alloc();
     let styles = Styles::new(alloc);
@@ -56,10 +41,6 @@ fn prints_a_book_by_day(rt: HostRuntime) -> Result<(), Fail> {
     let text = print_book(alloc, &book, &styles, Detail::Explicit)?;
     let want =
         "2024-01-04 bread\n    expenses:food   7 EUR\n    assets:cash    -7 EUR\n\n2024-01-05 bread\n    expenses:food   10 EUR\n    assets:cash    -10 EUR\n\n";
-    assert_eq!(rt; text.as_slice(), want.as_bytes());
-    let chosen = [false, true];
-    let text = print_chosen(alloc, &book, &chosen, &styles, Detail::Written)?;
-    let want = "2024-01-04 bread\n    expenses:food   7 EUR\n    assets:cash    -7 EUR\n\n";
     assert_eq!(rt; text.as_slice(), want.as_bytes());
     Ok(())
 }

@@ -1,64 +1,42 @@
-//! Texts: declared accounts, and entries.
-use book::{Directive, Item, Items, Placed};
-use entry_reader::Context;
-use entry_reader::entry::read_entry;
-use hl_base::{Kind, List, Memory, Piece, Text};
-use query_terms::cutting::bytes_of;
+//! Amounts and postings.
+use book::{Amount, Posting, Side, Written};
+use hl_base::{Memory, Text};
+use hl_num::Dec;
 use std::alloc::Global;
-use std::test::Fail;
 
-/// A lunch that is paid in cash.
-pub(crate) const LUNCH: &str = "2024-01-05 lunch\n    expenses:food  $10.50\n    assets:cash\n";
-
-/// An item; where its piece lies is of no matter here.
-fn placed(item: Item) -> Placed {
-    Placed {
-        piece: Piece {
-            at: 0,
-            len: 0,
-            line: 1,
-            kind: Kind::Head,
-        },
-        item,
-    }
-}
-
-/// A directive that declares an account.
-fn declared(alloc: Global, name: &str) -> Result<Placed, Memory> {
-    let name = Text::copied(alloc, name)?;
-    Ok(placed(Item::Directive(Directive::Account(name, None))))
-}
-
-fn push_accounts(alloc: Global, items: &mut Vec<Placed>, names: &[&str]) -> Result<(), Memory> {
-    for name in names {
-        items.push(declared(alloc, name)?)?;
-    }
-    Ok(())
-}
-
-/// Adds entries, each with the line of its head.
-#[tactic(auto, using(entry_reader::proofs::Lines::few_lines))]
-fn push_entries(
+/// An amount of so many units of the last place.
+pub(crate) fn amount(
     alloc: Global,
-    items: &mut Vec<Placed>,
-    entries: &[(u32, &str)],
-) -> Result<(), Fail> {
-    let context = Context::start(alloc, None)?;
-    for (line, text) in entries {
-        let item = read_entry(alloc, bytes_of(text), &context, u64::from(*line))?;
-        items.push(placed(item))?;
+    mantissa: i128,
+    places: u8,
+    symbol: &str,
+) -> Result<Amount, Memory> {
+    let symbol = Text::copied(alloc, symbol)?;
+    match Dec::new(mantissa, places) {
+        Some(value) => Ok(Amount {
+            symbol,
+            value,
+            shape: Written {
+                left: false,
+                spaced: true,
+                mark: None,
+                group: None,
+                first: 3,
+                rest: 3,
+            },
+        }),
+        None => Err(Memory),
     }
-    Ok(())
 }
 
-/// A text with declared accounts before its entries.
-pub(crate) fn items_of(
+/// A posting that says no more than its amount, if it has one.
+pub(crate) fn posting(
     alloc: Global,
-    accounts: &[&str],
-    entries: &[(u32, &str)],
-) -> Result<Items, Fail> {
-    let mut items = Vec::new(alloc);
-    push_accounts(alloc, &mut items, accounts)?;
-    push_entries(alloc, &mut items, entries)?;
-    Ok(List::from_vec(items))
+    account: &str,
+    amount: Option<Amount>,
+) -> Result<Posting, Memory> {
+    let account = Text::copied(alloc, account)?;
+    let mut posting = Posting::plain(alloc, 2, Side::Real, account);
+    posting.amount = amount;
+    Ok(posting)
 }
