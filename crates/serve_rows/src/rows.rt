@@ -1,4 +1,5 @@
-//! Rows of `serve`: its words, one link, a bind and a door that fail.
+//! Rows of `serve`: its words, one link, a bind and a door that fail. Words that are refused are in tests/commands/serve.rows,
+//! and sessions with the page in docs/manual/http.md.
 use crate::case::{Case, Seen, answer, page_of, words_of};
 use crate::complete::status_of;
 use desk::Allow;
@@ -74,20 +75,6 @@ fn tells_a_door_that_fails(rt: HostRuntime) -> Result<(), Fail> {
 }
 
 #[test]
-fn refuses_words(rt: HostRuntime) -> Result<(), Fail> {
-    let seen = served(
-        &rt,
-        rt.alloc(),
-        &["serve", "home", "--workers", "17"],
-        &[],
-        &[],
-    )?;
-    assert_eq!(rt; seen.status, 2);
-    assert_eq!(rt; seen.error.as_slice(), b"error: usage\n".as_slice());
-    Ok(())
-}
-
-#[test]
 fn reads_words(rt: HostRuntime) -> Result<(), Fail> {
     let words = words_of(
         rt.alloc(),
@@ -109,46 +96,5 @@ fn reads_words(rt: HostRuntime) -> Result<(), Fail> {
         read_serve(rt.alloc(), &page, none.as_slice()).err(),
         Some(NoReading::Usage)
     );
-    Ok(())
-}
-
-/// `--page` has no value, is written once at most, and stands anywhere.
-#[test]
-fn reads_the_word_for_the_page(rt: HostRuntime) -> Result<(), Fail> {
-    let page = page_of(rt.alloc())?;
-    let words = words_of(rt.alloc(), &["serve", "--page", "home"])?;
-    let asked = read_serve(rt.alloc(), &page, words.as_slice())
-        .ok()
-        .ok_or("a reading")?;
-    assert!(rt; matches!(asked.page, Page::Shown { .. }));
-    for words in [
-        ["serve", "home", "--page=on"].as_slice(),
-        ["serve", "home", "--page", "--page"].as_slice(),
-    ] {
-        let words = words_of(rt.alloc(), words)?;
-        assert_eq!(rt;
-            read_serve(rt.alloc(), &page, words.as_slice()).err(),
-            Some(NoReading::Usage)
-        );
-    }
-    Ok(())
-}
-
-/// The journal isn't asked for the page.
-#[test]
-fn shows_the_page(rt: HostRuntime) -> Result<(), Fail> {
-    let case = Case {
-        words: &["serve", "home", "--page", "--workers=1", "--connections=1"],
-        bytes: b"GET / HTTP/1.1\r\nHost: a\r\nConnection: close\r\n\r\n",
-        house_fails: &[],
-        door_fails: &[],
-    };
-    let seen = answer(&rt, rt.alloc(), &case)?;
-    assert_eq!(rt; seen.status, 0);
-    assert_eq!(rt;
-        seen.output.as_slice(),
-        b"revision 0, requests 0, refused 0\n".as_slice()
-    );
-    assert_eq!(rt; seen.error.as_slice(), b"".as_slice());
     Ok(())
 }
