@@ -1,4 +1,4 @@
-//! What is answered at the paths of the page, where there is one and where there is none.
+//! What is answered at the paths of the page; where there is none is in tests/commands/talk.rows.
 use crate::ends::{at_once, is};
 use crate::messages::{GET, LISTED, joined};
 use crate::served::ended_with;
@@ -106,27 +106,6 @@ fn shows_a_page(rt: HostRuntime) -> Result<(), Fail> {
         (b"GET /total HTTP/1.1\r\n\r\n".as_slice(), NO_PATH),
     ] {
         assert!(rt; answers(rt.alloc(), &page, coming, sent)?);
-    }
-    Ok(())
-}
-
-/// The path leads nowhere where there is no page, whatever the method.
-#[test]
-fn shows_none(rt: HostRuntime) -> Result<(), Fail> {
-    let page = Page::Absent;
-    for coming in [
-        SHOW,
-        b"GET /?a=1 HTTP/1.1\r\n\r\n".as_slice(),
-        b"POST / HTTP/1.1\r\n\r\n".as_slice(),
-        b"HEAD / HTTP/1.1\r\n\r\n".as_slice(),
-        b"PUT / HTTP/1.1\r\n\r\n".as_slice(),
-        b"GET /check HTTP/1.1\r\n\r\n".as_slice(),
-        b"POST /check HTTP/1.1\r\nSec-Fetch-Site: cross-site\r\n\r\n".as_slice(),
-        b"POST /preview HTTP/1.1\r\nOrigin: null\r\n\r\n".as_slice(),
-        CHECK,
-        PREVIEW,
-    ] {
-        assert!(rt; answers(rt.alloc(), &page, coming, NO_PATH)?);
     }
     Ok(())
 }
