@@ -1,5 +1,0 @@
-//! Rows of what an open journal tells beside its text.
-#![tactic(auto)]
-
-#[cfg(test)]
-mod cells;
